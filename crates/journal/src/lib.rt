@@ -1,0 +1,1 @@
+// The journal: changes that can be taken back, by the definitions of specs/.

@@ -1,0 +1,91 @@
+-- Directories and their entries (01, "Directory entry, 128 bytes"). A directory is the list ds of its blocks in chain order; an entry is named by
+-- the offset e at which it begins.
+use Prim.Native.Nat.{ℕ, zero, suc, _+_, _-_, _*_, _/_, _%_}
+use mathlib.Core.List.{List, [], _∷_, _++_}
+use mathlib.Core.Bool.{Bool, not, _&&_}
+use lib.ListN.{length, getD, take}
+use lib.Dec.{eqb}
+use Rattle.layout.specs.Lists.{within, range, every, select, lowest, same, joined}
+use Rattle.layout.specs.Bytes.{be32, part, block, zeros}
+use Rattle.layout.specs.Limits.{maxName}
+use Rattle.layout.specs.Geometry.{blockCount, rootBlock}
+use Rattle.layout.specs.Table.{next, chain}
+
+-- "Slots are counted along the root chain, four in a block." Slot 0 is the self entry, slot 4d−1 the end.
+unfoldable pub slotAt : List ℕ → ℕ → ℕ
+slotAt ds k = 512 * getD ds (k / 4) 0 + 128 * (k % 4)
+
+-- slots 1 to 4d−2, each free or a file
+abbrev pub slots : List ℕ → List ℕ
+slots ds = range 1 (4 * length ds - 2)
+
+-- the fields of an entry
+abbrev pub typeOf : List ℕ → ℕ → ℕ
+typeOf s e = getD s e 0
+
+abbrev pub firstBlock : List ℕ → ℕ → ℕ
+firstBlock s e = be32 s (e + 4)
+
+abbrev pub sizeOf : List ℕ → ℕ → ℕ
+sizeOf s e = be32 s (e + 8)
+
+abbrev pub blocksOf : List ℕ → ℕ → ℕ
+blocksOf s e = be32 s (e + 12)
+
+-- "The self entry has block_self at 4, block_parent at 8, size_blocks at 12."
+abbrev pub selfOf : List ℕ → ℕ → ℕ
+selfOf s e = be32 s (e + 4)
+
+abbrev pub parentOf : List ℕ → ℕ → ℕ
+parentOf s e = be32 s (e + 8)
+
+-- "Types: 0x00 free slot, 0x01 self, 0x60 to 0x9F file, 0xFF end."
+abbrev pub isFree : ℕ → Bool
+isFree type = eqb type 0
+
+abbrev pub isFile : ℕ → Bool
+isFile type = within 0x60 0x9F type
+
+-- "a name is 1 to 79 non-zero bytes, zeros after it up to 80"
+abbrev pub nameByte : ℕ → Bool
+nameByte x = not (eqb x 0)
+
+unfoldable pub goodName : List ℕ → Bool
+goodName name = within 1 maxName (length name) && every nameByte name
+
+-- the bytes before the first zero, and a name with its zeros
+abbrev pub unpadded : List ℕ → List ℕ
+unpadded [] = []
+unpadded (zero ∷ xs) = []
+unpadded (suc x ∷ xs) = suc x ∷ unpadded xs
+
+abbrev pub padded : List ℕ → List ℕ
+padded name = name ++ zeros (80 - length name)
+
+-- the name of an entry, and whether its field holds a good one with just zeros after it
+unfoldable pub nameOf : List ℕ → ℕ → List ℕ
+nameOf s e = unpadded (part s (e + 48) 80)
+
+unfoldable pub nameOk : List ℕ → ℕ → Bool
+nameOk s e = goodName (nameOf s e) && same (part s (e + 48) 80) (padded (nameOf s e))
+
+-- the slots that hold files; the slot of the file of a name, or 0; the lowest free slot, or 0
+unfoldable pub files : List ℕ → List ℕ → List ℕ
+files s ds = select (λ k. isFile (typeOf s (slotAt ds k))) (slots ds)
+
+unfoldable pub fileSlot : List ℕ → List ℕ → List ℕ → ℕ
+fileSlot s ds name = lowest (λ k. isFile (typeOf s (slotAt ds k)) && same (nameOf s (slotAt ds k)) name) (slots ds)
+
+unfoldable pub freeSlot : List ℕ → List ℕ → ℕ
+freeSlot s ds = lowest (λ k. isFree (typeOf s (slotAt ds k))) (slots ds)
+
+-- the blocks of the root directory, as many as its self entry counts
+unfoldable pub root : List ℕ → List ℕ
+root s = let b = rootBlock (blockCount s) in chain (next s) b (blocksOf s (512 * b))
+
+-- a file's blocks; "A file's bytes are its chain's blocks in chain order, cut at its size."
+unfoldable pub fileBlocks : List ℕ → ℕ → List ℕ
+fileBlocks s e = chain (next s) (firstBlock s e) (blocksOf s e)
+
+unfoldable pub content : List ℕ → ℕ → List ℕ
+content s e = take (sizeOf s e) (joined (block s) (fileBlocks s e))

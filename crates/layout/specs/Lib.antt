@@ -1,0 +1,10 @@
+pub mod Limits
+pub mod Lists
+pub mod Refusals
+pub mod Bytes
+pub mod Geometry
+pub mod Table
+pub mod Directory
+pub mod Check
+pub mod Looks
+pub mod Listing

@@ -1,0 +1,32 @@
+-- The limits of document 01, each named once.
+use Prim.Native.Nat.{ℕ}
+
+-- "An image is 512·n bytes, 3 ≤ n ≤ 4,096."
+abbrev pub minBlocks : ℕ
+minBlocks = 3
+
+abbrev pub maxBlocks : ℕ
+maxBlocks = 4096
+
+-- "size_blocks d with 1 ≤ d ≤ 64"
+abbrev pub maxDirectory : ℕ
+maxDirectory = 64
+
+-- "a name is 1 to 79 non-zero bytes"
+abbrev pub maxName : ℕ
+maxName = 79
+
+-- refusal 9: "data above 4,096 bytes"
+abbrev pub maxData : ℕ
+maxData = 4096
+
+-- "It is 5 to 4,194,304 bytes": the journal
+abbrev pub minJournal : ℕ
+minJournal = 5
+
+abbrev pub maxJournal : ℕ
+maxJournal = 4194304
+
+-- "The lister reads up to 65,536 bytes from standard input"
+abbrev pub maxListed : ℕ
+maxListed = 65536

@@ -1,0 +1,1 @@
+// The layout reader: what an image holds, by the definitions of specs/.

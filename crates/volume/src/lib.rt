@@ -1,0 +1,1 @@
+// The volume: what changes an image, by the definitions of specs/.
