@@ -1,1 +1,3 @@
-pub mod Tables
+pub mod Laws
+pub mod Theorems
+pub mod Walks

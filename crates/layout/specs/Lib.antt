@@ -8,3 +8,5 @@ pub mod Directory
 pub mod Check
 pub mod Looks
 pub mod Listing
+pub mod Walks
+pub mod Answers

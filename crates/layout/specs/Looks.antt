@@ -1,6 +1,6 @@
 -- The calls that only look (01, "The calls on a sound image"): look up, read, look in place, on any image.
 use Prim.Native.Nat.{ℕ, _-_, _*_, min}
-use mathlib.Core.List.{List, []}
+use mathlib.Core.List.{List}
 use mathlib.Core.Bool.{not, cond}
 use lib.ListN.{length, getD}
 use lib.Dec.{eqb, leb, ltb}

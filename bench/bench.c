@@ -1,0 +1,229 @@
+/*
+ * Times the library beside the plain C baseline, in one run, and prints a
+ * Markdown table: microseconds per call, their ratio, and how much longer a
+ * call takes when the number of blocks doubles.
+ *
+ * The baseline is baseline.c compiled with -DBULGEFS_PREFIX=baseline_.
+ */
+#define _POSIX_C_SOURCE 199309L
+
+#include "bulgefs.h"
+
+#include <math.h>
+#include <stdio.h>
+#include <stdlib.h>
+#include <string.h>
+#include <time.h>
+
+uint32_t baseline_check(const uint8_t *, size_t);
+bulgefs_found baseline_lookup(const uint8_t *, size_t, const uint8_t *, size_t);
+bulgefs_filled baseline_read(const uint8_t *, size_t, const uint8_t *, size_t, uint64_t,
+                             uint8_t *, size_t);
+bulgefs_changed baseline_write(uint8_t *, size_t, uint8_t *, size_t, const uint8_t *, size_t,
+                               uint64_t, const uint8_t *, size_t, uint64_t);
+bulgefs_changed baseline_delete(uint8_t *, size_t, uint8_t *, size_t, const uint8_t *, size_t);
+bulgefs_changed baseline_undo(uint8_t *, size_t, uint8_t *, size_t);
+
+/* The calls of one side. */
+typedef struct {
+    uint32_t (*check)(const uint8_t *, size_t);
+    bulgefs_found (*lookup)(const uint8_t *, size_t, const uint8_t *, size_t);
+    bulgefs_filled (*read)(const uint8_t *, size_t, const uint8_t *, size_t, uint64_t,
+                           uint8_t *, size_t);
+    bulgefs_changed (*write)(uint8_t *, size_t, uint8_t *, size_t, const uint8_t *, size_t,
+                             uint64_t, const uint8_t *, size_t, uint64_t);
+    bulgefs_changed (*delete)(uint8_t *, size_t, uint8_t *, size_t, const uint8_t *, size_t);
+    bulgefs_changed (*undo)(uint8_t *, size_t, uint8_t *, size_t);
+} side;
+
+enum { OURS, BASELINE, SIDES };
+
+static const side sides[SIDES] = {
+    {bulgefs_check, bulgefs_lookup, bulgefs_read, bulgefs_write, bulgefs_delete, bulgefs_undo},
+    {baseline_check, baseline_lookup, baseline_read, baseline_write, baseline_delete,
+     baseline_undo},
+};
+
+enum { CHECK, LOOKUP, READ, WRITE, DELETE, UNDO, CALLS };
+
+static const char *const call_names[CALLS] = {"check", "lookup", "read", "write", "delete",
+                                              "undo"};
+
+static const uint32_t block_counts[] = {16, 256, 1024, 4096};
+static const uint32_t file_counts[] = {10, 100, 250};
+enum { NS = 4, FILES = 3, SAMPLES = 9, SAMPLE_NS = 3000000, JOURNAL = 65536, DATA = 1000 };
+
+static uint8_t image[4096 * 512], journal[JOURNAL], data[DATA], buffer[4096];
+static size_t image_len;
+
+/* Seconds per call; 0 where the files do not fit. */
+static double measured[CALLS][FILES][NS][SIDES];
+
+static double now(void)
+{
+    struct timespec t;
+    clock_gettime(CLOCK_MONOTONIC, &t);
+    return (double)t.tv_sec + (double)t.tv_nsec * 1e-9;
+}
+
+static void require(uint32_t number, const char *what)
+{
+    if (number != BULGEFS_OK) {
+        fprintf(stderr, "bench: %s was refused with %u\n", what, (unsigned)number);
+        exit(EXIT_FAILURE);
+    }
+}
+
+static size_t file_name(uint32_t i, uint8_t *name)
+{
+    return (size_t)snprintf((char *)name, 80, "settings of serial number %06u", (unsigned)i);
+}
+
+/*
+ * A volume of n blocks and so many files.  Every second file has a block, as
+ * long as some stay free; the last file has a few.  Gives 0 if they do not fit.
+ */
+static int make_volume(uint32_t n, uint32_t files)
+{
+    static const uint8_t volume_name[128] = "bench";
+    bulgefs_uuid uuid = {{0}};
+    uint32_t root = (files + 2 + 3) / 4;
+    uint32_t used = (n + 127) / 128 + 1 + root;
+    if (used + 8 > n)
+        return 0;
+    uint32_t spare = n - used - 8;
+    image_len = (size_t)n * 512;
+    require(bulgefs_format(image, image_len, root, 1, uuid, volume_name, 128), "format");
+    for (uint32_t i = 0; i < files; i++) {
+        uint8_t name[80];
+        size_t len = file_name(i, name);
+        size_t size = i + 1 == files ? DATA + 500 : i % 2 == 0 && spare > 0 ? 100 : 0;
+        spare -= size == 100;
+        require(bulgefs_journal_start(journal, JOURNAL), "start");
+        require(bulgefs_create(image, image_len, journal, JOURNAL, name, len, 0x60, 0, 0, 0, 0,
+                               1).number,
+                "create");
+        require(bulgefs_write(image, image_len, journal, JOURNAL, name, len, 0, buffer, size,
+                              2).number,
+                "write");
+    }
+    require(bulgefs_journal_start(journal, JOURNAL), "start");
+    return 1;
+}
+
+/* Makes every call once and adds the time of each. */
+static void make_calls(const side *s, const uint8_t *name, size_t len, double *sum)
+{
+    double t[7];
+    t[0] = now();
+    uint32_t number = s->check(image, image_len);
+    t[1] = now();
+    number |= s->lookup(image, image_len, name, len).number;
+    t[2] = now();
+    number |= s->read(image, image_len, name, len, 0, buffer, sizeof buffer).number;
+    t[3] = now();
+    number |= s->write(image, image_len, journal, JOURNAL, name, len, 1000, data, DATA, 3).number;
+    t[4] = now();
+    number |= s->undo(image, image_len, journal, JOURNAL).number;
+    t[5] = now();
+    number |= s->delete(image, image_len, journal, JOURNAL, name, len).number;
+    t[6] = now();
+    number |= s->undo(image, image_len, journal, JOURNAL).number;
+    require(number, "a timed call");
+    sum[CHECK] += t[1] - t[0];
+    sum[LOOKUP] += t[2] - t[1];
+    sum[READ] += t[3] - t[2];
+    sum[WRITE] += t[4] - t[3];
+    sum[UNDO] += t[5] - t[4];
+    sum[DELETE] += t[6] - t[5];
+}
+
+static int ascending(const void *a, const void *b)
+{
+    double x = *(const double *)a, y = *(const double *)b;
+    return (x > y) - (x < y);
+}
+
+/* Takes samples of both sides in turn and keeps the median of each call. */
+static void measure(uint32_t n_index, uint32_t file_index)
+{
+    double samples[SIDES][CALLS][SAMPLES];
+    uint8_t name[80];
+    if (!make_volume(block_counts[n_index], file_counts[file_index]))
+        return;
+    size_t len = file_name(file_counts[file_index] - 1, name);
+    for (int i = 0; i < SAMPLES; i++) {
+        for (int s = 0; s < SIDES; s++) {
+            double sum[CALLS] = {0};
+            double begin = now();
+            int calls = 0;
+            for (; calls < 3 || now() - begin < SAMPLE_NS * 1e-9; calls++)
+                make_calls(&sides[s], name, len, sum);
+            for (int c = 0; c < CALLS; c++)
+                samples[s][c][i] = sum[c] / calls;
+        }
+    }
+    for (int c = 0; c < CALLS; c++) {
+        for (int s = 0; s < SIDES; s++) {
+            qsort(samples[s][c], SAMPLES, sizeof(double), ascending);
+            measured[c][file_index][n_index][s] = samples[s][c][SAMPLES / 2];
+        }
+    }
+}
+
+/* The factor of one doubling of n, from the number of blocks before. */
+static void print_growth(const double (*row)[SIDES], int n_index, int s)
+{
+    if (n_index == 0 || row[n_index - 1][s] == 0) {
+        printf(" - |");
+        return;
+    }
+    double doublings = log2((double)block_counts[n_index] / block_counts[n_index - 1]);
+    printf(" %.2f |", pow(row[n_index][s] / row[n_index - 1][s], 1 / doublings));
+}
+
+static void print_table(void)
+{
+    printf("| call | files | blocks | ours, us | C, us | ratio | ours, n doubled | C, n doubled |\n");
+    printf("|---|--:|--:|--:|--:|--:|--:|--:|\n");
+    for (int c = 0; c < CALLS; c++)
+        for (int f = 0; f < FILES; f++)
+            for (int n = 0; n < NS; n++) {
+                const double (*row)[SIDES] = (const double (*)[SIDES])measured[c][f];
+                if (row[n][OURS] == 0)
+                    continue;
+                printf("| %s | %u | %u | %.2f | %.2f | %.2f |", call_names[c],
+                       (unsigned)file_counts[f], (unsigned)block_counts[n], row[n][OURS] * 1e6,
+                       row[n][BASELINE] * 1e6, row[n][OURS] / row[n][BASELINE]);
+                print_growth(row, n, OURS);
+                print_growth(row, n, BASELINE);
+                printf("\n");
+            }
+}
+
+/* The geometric mean of the ratios of each call. */
+static void print_means(void)
+{
+    printf("\n| call | mean ratio |\n|---|--:|\n");
+    for (int c = 0; c < CALLS; c++) {
+        double sum = 0;
+        int count = 0;
+        for (int f = 0; f < FILES; f++)
+            for (int n = 0; n < NS; n++)
+                if (measured[c][f][n][OURS] > 0) {
+                    sum += log(measured[c][f][n][OURS] / measured[c][f][n][BASELINE]);
+                    count++;
+                }
+        printf("| %s | %.2f |\n", call_names[c], exp(sum / count));
+    }
+}
+
+int main(void)
+{
+    for (uint32_t n = 0; n < NS; n++)
+        for (uint32_t f = 0; f < FILES; f++)
+            measure(n, f);
+    print_table();
+    print_means();
+    return 0;
+}

@@ -1,0 +1,47 @@
+use Rattle.capi.proofs.Bounds.{undo-case}
+use borrow.Author.Needs.{needs}
+use Rattle.capi.proofs.bulgefs_undo.Statement.{statement}
+use Rattle.capi.proofs.bulgefs_undo.Tie as tie
+
+undo-requires : tie.Need-undo-requires
+undo-requires c κs = search needs
+
+enum-known-size : tie.Need-enum-known-size
+enum-known-size c = search needs
+
+enum-known-number : tie.Need-enum-known-number
+enum-known-number c = search needs
+
+same-length : tie.Need-same-length
+same-length c = search needs
+
+same-length-2 : tie.Need-same-length-2
+same-length-2 c = search needs
+
+returns : tie.Need-returns
+returns c =
+    (undo-case _ (c .before .size .given .1) (c .before .before .before .before .before .before .before .undo .ensures .0), c .before .before .before .before .before .before .before .undo .ensures .1)
+
+same-length-3 : tie.Need-same-length-3
+same-length-3 c = search needs
+
+same-length-4 : tie.Need-same-length-4
+same-length-4 c = search needs
+
+returns-2 : tie.Need-returns-2
+returns-2 c =
+    (undo-case _ (c .before .number .given .1) (c .before .before .before .before .before .before .before .undo .ensures .0), c .before .before .before .before .before .before .before .undo .ensures .1)
+
+pub bulgefs-undo-spec : {M : Type 1} → statement M
+bulgefs-undo-spec =
+    tie.close
+    (tie.spec
+    undo-requires
+    enum-known-size
+    enum-known-number
+    same-length
+    same-length-2
+    returns
+    same-length-3
+    same-length-4
+    returns-2)

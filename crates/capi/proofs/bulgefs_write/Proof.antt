@@ -1,0 +1,50 @@
+use Rattle.capi.proofs.Bounds.{change-case, no-slot}
+use mathlib.Core.Path.{refl}
+use Rattle.volume.specs.Change.{slotGiven}
+use borrow.Author.Needs.{needs}
+use Rattle.capi.proofs.bulgefs_write.Statement.{statement}
+use Rattle.capi.proofs.bulgefs_write.Tie as tie
+
+write-requires : tie.Need-write-requires
+write-requires c κs = search needs
+
+enum-known-size : tie.Need-enum-known-size
+enum-known-size c = search needs
+
+enum-known-number : tie.Need-enum-known-number
+enum-known-number c = search needs
+
+same-length : tie.Need-same-length
+same-length c = search needs
+
+same-length-2 : tie.Need-same-length-2
+same-length-2 c = search needs
+
+returns : tie.Need-returns
+unfolding slotGiven
+returns c =
+    (no-slot _ _ refl _ _ (change-case _ (c .before .size .given .1) (c .before .before .before .before .before .before .before .write .ensures .0)), c .before .before .before .before .before .before .before .write .ensures .1)
+
+same-length-3 : tie.Need-same-length-3
+same-length-3 c = search needs
+
+same-length-4 : tie.Need-same-length-4
+same-length-4 c = search needs
+
+returns-2 : tie.Need-returns-2
+returns-2 c =
+    (change-case _ (c .before .number .given .1) (c .before .before .before .before .before .before .before .write .ensures .0), c .before .before .before .before .before .before .before .write .ensures .1)
+
+pub bulgefs-write-spec : {M : Type 1} → statement M
+bulgefs-write-spec =
+    tie.close
+    (tie.spec
+    write-requires
+    enum-known-size
+    enum-known-number
+    same-length
+    same-length-2
+    returns
+    same-length-3
+    same-length-4
+    returns-2)

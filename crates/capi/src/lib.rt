@@ -1,0 +1,226 @@
+// The C entry points: numbers and byte buffers only. Each call says, field by field, what the call below it says; include/bulgefs.h documents them
+// for C. Nothing is asked of the caller but buffers that do not overlap.
+ghost use mathlib.Core.Path.{_≡_};
+ghost use lib.ListN.{length};
+ghost use Rattle.layout.specs.Refusals.{accept};
+ghost use Rattle.layout.specs.Check.{check};
+ghost use Rattle.layout.specs.Looks.{LookupAnswer, ReadAnswer, Extent, lookup, read, extentOf};
+ghost use Rattle.volume.specs.Change.{create, write, delete};
+ghost use Rattle.volume.specs.Format.{formatRefusal, formatted};
+ghost use Rattle.journal.specs.Journal.{started, startRefusal};
+ghost use Rattle.journal.specs.Run.{state, changed, undone, changeAnswer, afterChange, undoAnswer, afterUndo};
+
+// Sixteen bytes by value: C cannot pass an array so.
+#[repr(C)]
+pub struct Uuid {
+    pub bytes: [u8; 16],
+}
+
+#[repr(C)]
+pub struct Found {
+    pub number: u32,
+    pub slot: u32,
+    pub size: u32,
+    pub blocks: u32,
+}
+
+#[repr(C)]
+pub struct Filled {
+    pub number: u32,
+    pub count: u32,
+}
+
+// A part of the caller's image: C cannot take a returned slice.
+#[repr(C)]
+pub struct Part {
+    pub start: u32,
+    pub length: u32,
+}
+
+// A created file's slot, and the length of the record added.
+#[repr(C)]
+pub struct Created {
+    pub number: u32,
+    pub slot: u32,
+    pub size: u32,
+}
+
+// The length of the record added or taken back.
+#[repr(C)]
+pub struct Changed {
+    pub number: u32,
+    pub size: u32,
+}
+
+#[no_mangle]
+pub extern "C" fn bulgefs_check(image: &[u8]) -> u32
+    ensures { λ r. ⌜ r ≡ check (now (image .entry)) ⌝ }
+{
+    layout::check::check(image)
+}
+
+#[no_mangle]
+pub extern "C" fn bulgefs_lookup(image: &[u8], name: &[u8]) -> Found
+    ensures { λ r. ⌜ _≡_ {A = LookupAnswer} (record { number = r .number; slot = r .slot; size = r .size; blocks = r .blocks }) (lookup (now (image .entry)) (now (name .entry))) ⌝ }
+{
+    match layout::reading::lookup(image, name) {
+        layout::reading::Found::File { slot, size, blocks } => Found {
+            number: 0,
+            slot: slot,
+            size: size,
+            blocks: blocks,
+        },
+        layout::reading::Found::Refused(number) => Found {
+            number: number,
+            slot: 0,
+            size: 0,
+            blocks: 0,
+        },
+    }
+}
+
+#[no_mangle]
+pub extern "C" fn bulgefs_read(image: &[u8], name: &[u8], offset: u64, buffer: &mut [u8]) -> Filled
+    ensures { λ r. ⌜ _≡_ {A = ReadAnswer} (record { number = r .number; count = r .count; buffer = now (buffer .exit) }) (read (now (image .entry)) (now (name .entry)) offset (now (buffer .entry))) ⌝ }
+{
+    match layout::reading::read(image, name, offset as usize, buffer) {
+        layout::reading::Filled::Bytes(count) => Filled {
+            number: 0,
+            count: count as u32,
+        },
+        layout::reading::Filled::Refused(number) => Filled {
+            number: number,
+            count: 0,
+        },
+    }
+}
+
+#[no_mangle]
+pub extern "C" fn bulgefs_look_in_place(image: &[u8], name: &[u8], index: u64) -> Part
+    ensures { λ r. ⌜ _≡_ {A = Extent} (record { start = r .start; size = r .length }) (extentOf (now (image .entry)) (now (name .entry)) index) ⌝ }
+{
+    let x = layout::reading::extent_in_place(image, name, index as usize);
+    Part {
+        start: x.start as u32,
+        length: x.size as u32,
+    }
+}
+
+#[no_mangle]
+pub extern "C" fn bulgefs_format(
+    image: &mut [u8],
+    root_blocks: u32,
+    time: u64,
+    uuid: Uuid,
+    name: &[u8],
+) -> u32
+    ensures number { λ r. ⌜ r ≡ formatRefusal (now (image .entry)) «root_blocks» (now (name .entry)) ⌝ }
+    ensures bytes { λ _. ⌜ now (image .exit) ≡ formatted (now (image .entry)) «root_blocks» (uuid .bytes) (now (name .entry)) time ⌝ }
+{
+    let bytes = uuid.bytes;
+    volume::format::format(image, root_blocks, time, bytes, name)
+}
+
+#[no_mangle]
+pub extern "C" fn bulgefs_journal_start(journal: &mut [u8]) -> u32
+    ensures { λ r. ⌜ (r ≡ startRefusal (now (journal .entry))) × (now (journal .exit) ≡ accept (startRefusal (now (journal .entry))) (started (length (now (journal .entry)))) (now (journal .entry))) ⌝ }
+{
+    journal::start::start(journal)
+}
+
+#[no_mangle]
+pub extern "C" fn bulgefs_create(
+    image: &mut [u8],
+    journal: &mut [u8],
+    name: &[u8],
+    kind: u8,
+    user: u8,
+    group: u8,
+    permissions: u8,
+    flags: u32,
+    time: u64,
+) -> Created
+    ensures answer { λ r. ⌜ changed (r .number) (r .slot) (r .size) ≡ changeAnswer (state (now (image .entry)) (now (journal .entry))) (create (now (name .entry)) kind user group permissions flags time) ⌝ }
+    ensures state { λ _. ⌜ state (now (image .exit)) (now (journal .exit)) ≡ afterChange (state (now (image .entry)) (now (journal .entry))) (create (now (name .entry)) kind user group permissions flags time) ⌝ }
+{
+    match journal::calls::create(
+        image,
+        journal,
+        name,
+        kind,
+        user,
+        group,
+        permissions,
+        flags,
+        time,
+    ) {
+        journal::calls::Changed::Done { slot, size } => Created {
+            number: 0,
+            slot: slot,
+            size: size,
+        },
+        journal::calls::Changed::Refused(number) => Created {
+            number: number,
+            slot: 0,
+            size: 0,
+        },
+    }
+}
+
+#[no_mangle]
+pub extern "C" fn bulgefs_write(
+    image: &mut [u8],
+    journal: &mut [u8],
+    name: &[u8],
+    offset: u64,
+    bytes: &[u8],
+    time: u64,
+) -> Changed
+    ensures answer { λ r. ⌜ changed (r .number) 0 (r .size) ≡ changeAnswer (state (now (image .entry)) (now (journal .entry))) (write (now (name .entry)) offset (now (bytes .entry)) time) ⌝ }
+    ensures state { λ _. ⌜ state (now (image .exit)) (now (journal .exit)) ≡ afterChange (state (now (image .entry)) (now (journal .entry))) (write (now (name .entry)) offset (now (bytes .entry)) time) ⌝ }
+{
+    match journal::calls::write(image, journal, name, offset as usize, bytes, time) {
+        journal::calls::Changed::Done { slot: _, size } => Changed {
+            number: 0,
+            size: size,
+        },
+        journal::calls::Changed::Refused(number) => Changed {
+            number: number,
+            size: 0,
+        },
+    }
+}
+
+#[no_mangle]
+pub extern "C" fn bulgefs_delete(image: &mut [u8], journal: &mut [u8], name: &[u8]) -> Changed
+    ensures answer { λ r. ⌜ changed (r .number) 0 (r .size) ≡ changeAnswer (state (now (image .entry)) (now (journal .entry))) (delete (now (name .entry))) ⌝ }
+    ensures state { λ _. ⌜ state (now (image .exit)) (now (journal .exit)) ≡ afterChange (state (now (image .entry)) (now (journal .entry))) (delete (now (name .entry))) ⌝ }
+{
+    match journal::calls::delete(image, journal, name) {
+        journal::calls::Changed::Done { slot: _, size } => Changed {
+            number: 0,
+            size: size,
+        },
+        journal::calls::Changed::Refused(number) => Changed {
+            number: number,
+            size: 0,
+        },
+    }
+}
+
+#[no_mangle]
+pub extern "C" fn bulgefs_undo(image: &mut [u8], journal: &mut [u8]) -> Changed
+    ensures answer { λ r. ⌜ undone (r .number) (r .size) ≡ undoAnswer (state (now (image .entry)) (now (journal .entry))) ⌝ }
+    ensures state { λ _. ⌜ state (now (image .exit)) (now (journal .exit)) ≡ afterUndo (state (now (image .entry)) (now (journal .entry))) ⌝ }
+{
+    match journal::calls::undo(image, journal) {
+        journal::calls::Undone::Done(size) => Changed {
+            number: 0,
+            size: size,
+        },
+        journal::calls::Undone::Refused(number) => Changed {
+            number: number,
+            size: 0,
+        },
+    }
+}

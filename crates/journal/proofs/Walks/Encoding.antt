@@ -1,0 +1,171 @@
+-- Answers as bytes: their lengths, and what the code writes piece by piece.
+use Prim.Native.Nat.{ℕ, zero, suc, _+_, _-_, _*_, _≤_, min}
+use mathlib.Core.Path.{_≡_, refl, sym, ap, _∙_}
+use mathlib.Core.Bool.{Bool, true, false, cond}
+use mathlib.Core.List.{List, [], _++_, append-assoc, append-nil}
+use native.Mathlib.Omega.{arith}
+use borrow.Rule.Slice.PartMut.{putMid}
+use lib.Dec.{ltb}
+use lib.ListN.{length, getD, take, drop, replicate, length-append, length-replicate}
+use lib.Seq.{length-take-le, drop-length}
+use Rattle.layout.specs.Bytes.{bytes4, zeros, part, splice}
+use Rattle.layout.specs.Refusals.{accept}
+use Rattle.layout.specs.declared.reading.Filled.{Filled}
+use Rattle.layout.specs.declared.reading.Filled.the-variants.{Bytes, Refused}
+use Rattle.layout.specs.Looks.{ReadAnswer, Extent, read, readRefusal, lookupRefusal, entryOf, extentOf, lookInPlace}
+use Rattle.layout.specs.Directory.{sizeOf, blocksOf, fileBlocks, content}
+use Rattle.journal.specs.Run.{Look, Call, Answer, State, change, undo, look, checkImage, findFile, readFile, lookAt, changed, filled, shown, lookAnswer, answer, changeAnswer, changeRefusal, undoAnswer, undoRefusal}
+use Rattle.journal.specs.Script.{numbers, encoded, answerSize}
+use Rattle.layout.specs.Answers.{readAnswer}
+use Rattle.layout.proofs.Laws.Bytes.{length-bytes4, length-zeros, splice-flat, putMid-splice, length-splice, splice-append, splice-whole, splice-left, length-take-most}
+
+pub length-numbers : (a b c d : ℕ) → length (numbers a b c d) ≡ 16
+unfolding numbers bytes4
+length-numbers a b c d = refl
+
+-- four numbers, written one after the other
+pub numbers-put : (s : List ℕ) (a b c d : ℕ) → 16 ≤ length s
+    → splice (splice (splice (splice s 0 (bytes4 a)) 4 (bytes4 b)) 8 (bytes4 c)) 12 (bytes4 d) ≡ splice s 0 (numbers a b c d)
+unfolding numbers bytes4
+numbers-put s a b c d h =
+    ap (λ (x : List ℕ). splice (splice x 8 (bytes4 c)) 12 (bytes4 d)) (splice-append s 0 (bytes4 a) (bytes4 b) (omega arith))
+    ∙ ap (λ (x : List ℕ). splice x 12 (bytes4 d)) (splice-append s 0 (bytes4 a ++ bytes4 b) (bytes4 c) (omega arith))
+    ∙ splice-append s 0 (bytes4 a ++ (bytes4 b ++ bytes4 c)) (bytes4 d) (omega arith)
+
+-- numbers before what is handed back, in either order
+pub numbers-alone : (s : List ℕ) (a b c d : ℕ) → length s ≡ 16 → splice s 0 (numbers a b c d) ≡ numbers a b c d
+numbers-alone s a b c d h = splice-whole s (numbers a b c d) (length-numbers a b c d ∙ sym h)
+
+pub three-after : (s x y z : List ℕ) (a b : ℕ) → length s ≡ length x + length y + length z → a ≡ length x → b ≡ length x + length y
+    → splice (splice (splice s 0 x) a y) b z ≡ x ++ (y ++ z)
+three-after s x y z a b h e f =
+    let g : length (x ++ y) ≡ length x + length y = length-append x y in
+    let k : length ((x ++ y) ++ z) ≡ length s = length-append (x ++ y) z ∙ omega arith in
+    let d : 0 + length x ≡ a = omega arith in
+    let d₂ : 0 + length (x ++ y) ≡ b = omega arith in
+    ap (λ (l : List ℕ). splice l b z) (rw d at (splice-append s 0 x y (omega arith)))
+    ∙ (rw d₂ at (splice-append s 0 (x ++ y) z (omega arith)))
+    ∙ splice-whole s ((x ++ y) ++ z) k ∙ append-assoc x y z
+
+pub before-rest : (s x y : List ℕ) (a : ℕ) → length s ≡ a + length y → length x ≡ a → splice (splice s a y) 0 x ≡ x ++ y
+before-rest s x y a h e =
+    let l : length (take a s) ≡ a = length-take-le a s (omega arith) in
+    rw (splice-end s y a h) (splice-left (take a s) y 0 x (omega arith) ∙ ap (λ (r : List ℕ). r ++ y) (splice-whole (take a s) x (e ∙ sym l)))
+  where
+    splice-end : (s y : List ℕ) (a : ℕ) → length s ≡ a + length y → splice s a y ≡ take a s ++ y
+    splice-end s y a h = splice-flat s a y ∙ rw (← h, drop-length, append-nil)
+
+-- what holds of both outcomes holds of the one that is given
+both : {A : Type 0} (P : A → Type 0) (k : ℕ) (a b : A) → P a → P b → P (accept k a b)
+both P zero a b f g = f
+both P (suc k) a b f g = g
+
+both-cond : {A : Type 0} (P : A → Type 0) (t : Bool) (a b : A) → P a → P b → P (cond t a b)
+both-cond P true a b f g = f
+both-cond P false a b f g = g
+
+short : (s : List ℕ) (at k n : ℕ) → k ≤ n → length (part s at k) ≤ n
+short s at k n h = omega (arith, length-take-most k (drop at s))
+
+-- read leaves as long a buffer and fills no more; look in place shows a block at most
+module _ (s name : List ℕ) (offset : ℕ) (buffer : List ℕ) where
+  pub read-count : read s name offset buffer .count ≤ length buffer
+  unfolding read
+  read-count =
+      let h : min (length buffer) (sizeOf s (entryOf s name) - offset) ≤ length buffer = omega arith in
+      let z : 0 ≤ length buffer = omega arith in
+      both (λ (r : ReadAnswer). r .count ≤ length buffer) (readRefusal s name offset) _ _ h z
+
+  pub read-length : length (read s name offset buffer .buffer) ≡ length buffer
+  unfolding read
+  read-length =
+      let count : ℕ = min (length buffer) (sizeOf s (entryOf s name) - offset) in
+      let bytes : List ℕ = part (content s (entryOf s name)) offset count in
+      let h : length bytes ≤ length buffer = short (content s (entryOf s name)) offset count (length buffer) (omega arith) in
+      both (λ (r : ReadAnswer). length (r .buffer) ≡ length buffer) (readRefusal s name offset) _ _ (length-splice buffer 0 bytes (omega arith)) refl
+
+pub shown-short : (s name : List ℕ) (i : ℕ) → length (lookInPlace s name i) ≤ 512
+unfolding lookInPlace extentOf
+shown-short s name i =
+    let e : ℕ = entryOf s name in
+    let size : ℕ = min 512 (sizeOf s e - 512 * i) in
+    let h : length (part s (512 * getD (fileBlocks s e) i 0) size) ≤ 512 = short s (512 * getD (fileBlocks s e) i 0) size 512 (omega arith) in
+    let z : length (part s 0 0) ≤ 512 = short s 0 0 512 (omega arith) in
+    let P : Extent → Type 0 = λ (x : Extent). length (part s (x .start) (x .size)) ≤ 512 in
+    both P (lookupRefusal s name) _ _ (both-cond P (ltb i (blocksOf s e)) _ _ h z) z
+
+-- an answer's length is that of its call, whatever the state
+pub answer-length : (p : State) (c : Call) → length (encoded (answer p c)) ≡ answerSize c
+unfolding answer answerSize encoded changeAnswer undoAnswer lookAnswer
+answer-length p (change c) = both (λ (a : Answer). length (encoded a) ≡ 16) (changeRefusal p c) _ _ (length-numbers _ _ _ _) (length-numbers _ _ _ _)
+answer-length p undo = both (λ (a : Answer). length (encoded a) ≡ 16) (undoRefusal p) _ _ (length-numbers _ _ _ _) (length-numbers _ _ _ _)
+answer-length p (look checkImage) = length-numbers _ _ _ _
+answer-length p (look (findFile name)) = length-numbers _ _ _ _
+answer-length p (look (readFile name offset buffer)) =
+    let r : ReadAnswer = read (p .image) name offset buffer in
+    length-append (numbers (r .number) (r .count) 0 0) (r .buffer) ∙ rw (length-numbers, read-length (p .image) name offset buffer)
+answer-length p (look (lookAt name i)) =
+    let b : List ℕ = lookInPlace (p .image) name i in
+    let h : length b ≤ 512 = shown-short (p .image) name i in
+    length-append (numbers (length b) 0 0 0) (b ++ zeros (512 - length b)) ∙ rw (length-numbers, length-append, length-zeros) (omega arith)
+
+-- the answers of read and look in place, as the code writes them
+pub read-encoded : (s buffer : List ℕ) (a : ReadAnswer) → length s ≡ 16 + length buffer → a .buffer ≡ buffer
+    → splice (splice s 16 buffer) 0 (numbers (a .number) (a .count) 0 0) ≡ encoded (filled a)
+unfolding encoded
+read-encoded s buffer a h e = before-rest s (numbers (a .number) (a .count) 0 0) buffer 16 h (length-numbers (a .number) (a .count) 0 0) ∙ rw e
+
+pub shown-encoded : (s bytes : List ℕ) → length s ≡ 528 → length bytes ≤ 512
+    → splice (splice (splice s 0 (numbers (length bytes) 0 0 0)) 16 bytes) (16 + length bytes) (zeros (512 - length bytes)) ≡ encoded (shown bytes)
+unfolding encoded
+shown-encoded s bytes h k =
+    let l = length-numbers (length bytes) 0 0 0 in
+    let z = length-zeros (512 - length bytes) in
+    three-after s (numbers (length bytes) 0 0 0) bytes (zeros (512 - length bytes)) 16 (16 + length bytes) (omega arith) (omega arith) (omega arith)
+
+-- number and count of a read do not depend on the buffer
+module _ (f : Filled) (b : List ℕ) where
+  pub number-alone : readAnswer f [] .number ≡ readAnswer f b .number
+  number-alone = elim f [ Bytes count ↦ refl | Refused number ↦ refl ]
+
+  pub count-alone : readAnswer f [] .count ≡ readAnswer f b .count
+  count-alone = elim f [ Bytes count ↦ refl | Refused number ↦ refl ]
+
+  pub buffer-alone : readAnswer f b .buffer ≡ b
+  buffer-alone = elim f [ Bytes count ↦ refl | Refused number ↦ refl ]
+
+-- what read_into left in the part, and the numbers before it
+pub read-told : (s b name before : List ℕ) (image : List ℕ) (offset : ℕ) (f : Filled) → readAnswer f b ≡ read image name offset before → length s ≡ 16 + length before
+    → splice (splice s 16 b) 0 (numbers (readAnswer f [] .number) (readAnswer f [] .count) 0 0) ≡ encoded (filled (read image name offset before))
+read-told s b name before image offset f e h =
+    let l : length b ≡ length before = ap length (sym (buffer-alone f b)) ∙ ap (λ (a : ReadAnswer). length (a .buffer)) e ∙ read-length image name offset before in
+    rw (number-alone f b, count-alone f b) (read-encoded s b (readAnswer f b) (omega arith) (buffer-alone f b)) ∙ ap (λ (a : ReadAnswer). encoded (filled a)) e
+
+pub read-small : (b name before : List ℕ) (image : List ℕ) (offset : ℕ) (f : Filled) → readAnswer f b ≡ read image name offset before → readAnswer f [] .count ≤ length before
+read-small b name before image offset f e = omega (arith, count-alone f b, ap (λ (a : ReadAnswer). a .count) e, read-count image name offset before)
+
+zeros-are : (k : ℕ) → replicate k 0 ≡ zeros k
+unfolding zeros
+zeros-are k = refl
+
+-- the parts that calls left: of look in place, and of read
+pub shown-written : (s t bytes x y : List ℕ) → length s ≡ 528 → length bytes ≤ 512 → t ≡ splice s 0 (numbers (length bytes) 0 0 0) → x ≡ bytes
+    → y ≡ replicate (length (part (putMid 16 (16 + length bytes - 16) t x) (16 + length bytes) (528 - (16 + length bytes)))) 0
+    → length y ≡ 528 - (16 + length bytes)
+    → putMid (16 + length bytes) (528 - (16 + length bytes)) (putMid 16 (16 + length bytes - 16) t x) y ≡ encoded (shown bytes)
+shown-written s t bytes x y h g d e f l =
+    let z : y ≡ zeros (length y) = whole y (length (part (putMid 16 (16 + length bytes - 16) t x) (16 + length bytes) (528 - (16 + length bytes)))) f in
+    let m : length y ≡ 512 - length bytes = omega arith in
+    putMid-splice (putMid 16 (16 + length bytes - 16) t x) (16 + length bytes) (528 - (16 + length bytes)) y l
+    ∙ ap (λ (r : List ℕ). splice r (16 + length bytes) y) (putMid-splice t 16 (16 + length bytes - 16) x (ap length e ∙ omega arith))
+    ∙ rw (z, m, d, e) (shown-encoded s bytes h g)
+  where
+    whole : (y : List ℕ) (k : ℕ) → y ≡ replicate k 0 → y ≡ zeros (length y)
+    whole y k f = f ∙ zeros-are k ∙ ap zeros (sym (ap length f ∙ length-replicate {A = ℕ} k 0))
+
+pub read-written : (s b t name before image : List ℕ) (offset size : ℕ) (f : Filled) (n₁ n₂ n₃ n₄ : ℕ) → readAnswer f b ≡ read image name offset before
+    → length before ≡ size → length s ≡ 16 + size → length b ≡ 16 + size - 16
+    → (n₁ ≡ readAnswer f [] .number) × (n₂ ≡ readAnswer f [] .count) × (n₃ ≡ 0) × (n₄ ≡ 0)
+    → t ≡ splice (putMid 16 (16 + size - 16) s b) 0 (numbers n₁ n₂ n₃ n₄) → t ≡ encoded (filled (read image name offset before))
+read-written s b t name before image offset size f n₁ n₂ n₃ n₄ e l h k n d =
+    d ∙ rw (n .0, n .1, n .2, n .3) (rw (putMid-splice s 16 (16 + size - 16) b k) (read-told s b name before image offset f e (h ∙ omega arith)))

@@ -1,0 +1,196 @@
+-- The items of a script one after the other, and the call of each.
+use Prim.Native.Nat.{ℕ, zero, suc, _+_, _-_, _≤_, _<_}
+use mathlib.Core.Path.{_≡_, refl, sym, ap, _∙_}
+use mathlib.Core.Bool.{Bool, true, false, _&&_, cond}
+use mathlib.Core.List.{List, [], _∷_, map}
+use native.Mathlib.Omega.{arith}
+use borrow.Author.Tests.{lt-ltb, le-ltb, le-leb, lt-leb, ltb-true, ltb-false, leb-true, leb-false, ne-eqb}
+use lib.Dec.{ltb, leb, eqb}
+use lib.ListN.{length, getD}
+use Rattle.layout.specs.Lists.{every}
+use Rattle.layout.specs.Bytes.{be32}
+use Rattle.volume.specs.Change.{create, write, delete}
+use Rattle.journal.specs.Journal.{recordsFrom}
+use Rattle.journal.specs.Run.{Call, change, undo, look, checkImage, findFile, readFile, lookAt}
+use Rattle.journal.specs.Script.{be64, opAt, nameAt, dataAt, dataLength, itemSize, callAt, itemOk, itemsFrom, callsFrom, answerSize, answersSize}
+use Rattle.layout.proofs.Laws.Tests.{and-split}
+use Rattle.layout.proofs.Laws.Bytes.{length-part}
+
+-- the walk does not depend on its fuel, if that is enough
+module _ (size : ℕ → ℕ) (some : (a : ℕ) → 1 ≤ size a) (u : ℕ) where
+  none : (fuel at : ℕ) → u ≤ at → recordsFrom size u at fuel ≡ []
+  unfolding recordsFrom
+  none zero at h = refl
+  none (suc fuel) at h = rw (le-ltb at u h)
+
+  enough : (f g at : ℕ) → u ≤ at + f → u ≤ at + g → recordsFrom size u at f ≡ recordsFrom size u at g
+  unfolding recordsFrom
+  enough zero g at h k = sym (none g at (omega arith))
+  enough (suc f) zero at h k = none (suc f) at (omega arith)
+  enough (suc f) (suc g) at h k =
+      let s = some at in
+      ap (λ (l : List ℕ). cond (ltb at u) (at ∷ l) []) (enough f g (at + size at) (omega arith) (omega arith))
+
+  one-more : (at : ℕ) → at < u → recordsFrom size u at (u - at) ≡ at ∷ recordsFrom size u (at + size at) (u - (at + size at))
+  unfolding recordsFrom
+  one-more at h =
+      let s = some at in
+      let e : u - at ≡ suc (u - (at + 1)) = omega arith in
+      ap (λ (x : ℕ). recordsFrom size u at x) e ∙ rw (lt-ltb at u h)
+      (ap (λ (l : List ℕ). at ∷ l) (enough (u - (at + 1)) (u - (at + size at)) (at + size at) (omega arith) (omega arith)))
+
+module _ (s : List ℕ) (at : ℕ) where
+  pub items-none : length s ≤ at → itemsFrom s at ≡ []
+  unfolding itemsFrom
+  items-none h = none (itemSize s) (λ a. omega arith) (length s) (length s - at) at h
+
+  pub items-step : at < length s → itemsFrom s at ≡ at ∷ itemsFrom s (at + itemSize s at)
+  unfolding itemsFrom
+  items-step h = one-more (itemSize s) (λ a. omega arith) (length s) at h
+
+  pub calls-none : length s ≤ at → callsFrom s at ≡ []
+  unfolding callsFrom
+  calls-none h = ap (λ (l : List ℕ). map (callAt s) l) (items-none h)
+
+  pub calls-step : at < length s → callsFrom s at ≡ callAt s at ∷ callsFrom s (at + itemSize s at)
+  unfolding callsFrom
+  calls-step h = ap (λ (l : List ℕ). map (callAt s) l) (items-step h)
+
+  -- an item of the form
+  pub item-fits : itemOk s at ≡ true → (at + itemSize s at ≤ length s) × (1 ≤ opAt s at) × (opAt s at ≤ 8)
+  unfolding itemOk
+  item-fits t =
+      let a = and-split (leb (at + itemSize s at) (length s)) _ t in
+      let b = and-split (leb 1 (opAt s at)) _ (a .1) in
+      (leb-true _ _ (a .0), leb-true _ _ (b .0), leb-true _ _ (b .1))
+
+  pub item-cut : length s < at + itemSize s at → itemOk s at ≡ false
+  unfolding itemOk
+  item-cut h = rw (lt-leb _ _ h)
+
+  pub item-low : at + itemSize s at ≤ length s → opAt s at < 1 → itemOk s at ≡ false
+  unfolding itemOk
+  item-low h k = rw (le-leb _ _ h, lt-leb _ _ k)
+
+  pub item-last : at + itemSize s at ≤ length s → 1 ≤ opAt s at → itemOk s at ≡ leb (opAt s at) 8
+  unfolding itemOk
+  item-last h k = rw (le-leb _ _ h, le-leb _ _ k)
+
+  pub every-step : at < length s → itemOk s at ≡ true → every (itemOk s) (itemsFrom s at) ≡ every (itemOk s) (itemsFrom s (at + itemSize s at))
+  every-step h t = rw (items-step h, t)
+
+  pub every-bad : at < length s → itemOk s at ≡ false → every (itemOk s) (itemsFrom s at) ≡ false
+  every-bad h f = rw (items-step h, f)
+
+  pub every-end : length s ≤ at → every (itemOk s) (itemsFrom s at) ≡ true
+  every-end h = rw (items-none h)
+
+  -- of a script of the form, the item that is next, and the rest
+  pub record Next : Type 0 where
+    pub fits : at + itemSize s at ≤ length s
+    pub low : 1 ≤ opAt s at
+    pub high : opAt s at ≤ 8
+    pub rest : every (itemOk s) (itemsFrom s (at + itemSize s at)) ≡ true
+
+  pub next : at < length s → every (itemOk s) (itemsFrom s at) ≡ true → Next
+  next h w =
+      let a = and-split (itemOk s at) _ (rw (items-step h) at w) in
+      let f = item-fits (a .0) in
+      record { fits = f .0; low = f .1; high = f .2; rest = a .1 }
+
+  -- the call of each op
+  pub is-check : opAt s at ≡ 1 → callAt s at ≡ look checkImage
+  unfolding callAt
+  is-check e = rw e
+
+  pub is-lookup : opAt s at ≡ 2 → callAt s at ≡ look (findFile (nameAt s at))
+  unfolding callAt
+  is-lookup e = rw e
+
+  pub is-read : opAt s at ≡ 3 → callAt s at ≡ look (readFile (nameAt s at) (be64 s (at + 9)) (dataAt s at))
+  unfolding callAt
+  is-read e = rw e
+
+  pub is-look-in-place : opAt s at ≡ 4 → callAt s at ≡ look (lookAt (nameAt s at) (be64 s (at + 9)))
+  unfolding callAt
+  is-look-in-place e = rw e
+
+  pub is-create : opAt s at ≡ 5
+      → callAt s at ≡ change (create (nameAt s at) (getD s (at + 1) 0) (getD s (at + 2) 0) (getD s (at + 3) 0) (getD s (at + 4) 0) (be32 s (at + 5)) (be64 s (at + 17)))
+  unfolding callAt
+  is-create e = rw e
+
+  pub is-write : opAt s at ≡ 6 → callAt s at ≡ change (write (nameAt s at) (be64 s (at + 9)) (dataAt s at) (be64 s (at + 17)))
+  unfolding callAt
+  is-write e = rw e
+
+  pub is-delete : opAt s at ≡ 7 → callAt s at ≡ change (delete (nameAt s at))
+  unfolding callAt
+  is-delete e = rw e
+
+  pub is-undo : opAt s at ≡ 8 → callAt s at ≡ undo
+  unfolding callAt
+  is-undo e = rw e
+
+  pub length-data : at + itemSize s at ≤ length s → length (dataAt s at) ≡ dataLength s at
+  unfolding dataAt
+  length-data h = length-part s (at + 33 + be32 s (at + 25)) (be32 s (at + 29)) (omega arith)
+
+  -- the length of the answer
+  either : (b : Bool) (x y : Call) (k : ℕ) → answerSize x ≡ k → answerSize y ≡ k → answerSize (cond b x y) ≡ k
+  either true x y k f g = f
+  either false x y k f g = g
+
+  pub size-read : at + itemSize s at ≤ length s → opAt s at ≡ 3 → answerSize (callAt s at) ≡ 16 + dataLength s at
+  unfolding answerSize
+  size-read h e = rw (is-read e, length-data h)
+
+  pub size-look-in-place : opAt s at ≡ 4 → answerSize (callAt s at) ≡ 528
+  unfolding answerSize
+  size-look-in-place e = rw (is-look-in-place e)
+
+  pub size-plain : eqb (opAt s at) 3 ≡ false → eqb (opAt s at) 4 ≡ false → answerSize (callAt s at) ≡ 16
+  unfolding answerSize callAt
+  size-plain e f =
+      rw (e, f)
+      (either (eqb (opAt s at) 1) _ _ 16 refl
+      (either (eqb (opAt s at) 2) _ _ 16 refl
+      (either (eqb (opAt s at) 5) _ _ 16 refl
+      (either (eqb (opAt s at) 6) _ _ 16 refl
+      (either (eqb (opAt s at) 7) _ _ 16 refl refl)))))
+
+  pub size-low : opAt s at ≤ 2 → answerSize (callAt s at) ≡ 16
+  size-low h = size-plain (ne-eqb (opAt s at) 3 (λ e. omega arith)) (ne-eqb (opAt s at) 4 (λ e. omega arith))
+
+  pub size-high : 5 ≤ opAt s at → answerSize (callAt s at) ≡ 16
+  size-high h = size-plain (ne-eqb (opAt s at) 3 (λ e. omega arith)) (ne-eqb (opAt s at) 4 (λ e. omega arith))
+
+  -- room for the answers from here on
+  pub sizes-step : at < length s → answersSize (callsFrom s at) ≡ answerSize (callAt s at) + answersSize (callsFrom s (at + itemSize s at))
+  unfolding answersSize
+  sizes-step h = rw (calls-step h)
+
+  pub sizes-none : length s ≤ at → answersSize (callsFrom s at) ≡ 0
+  unfolding answersSize
+  sizes-none h = rw (calls-none h)
+
+  pub room-short : (left : ℕ) → at < length s → left < answerSize (callAt s at) → leb (answersSize (callsFrom s at)) left ≡ false
+  room-short left h k = lt-leb (answersSize (callsFrom s at)) left (omega (arith, sizes-step h))
+
+  pub room-step : (left : ℕ) → at < length s → answerSize (callAt s at) ≤ left
+      → leb (answersSize (callsFrom s at)) left ≡ leb (answersSize (callsFrom s (at + itemSize s at))) (left - answerSize (callAt s at))
+  room-step left h k = go (leb later (left - answerSize (callAt s at))) refl
+    where
+      later : ℕ
+      later = answersSize (callsFrom s (at + itemSize s at))
+
+      go : (b : Bool) → leb later (left - answerSize (callAt s at)) ≡ b → leb (answersSize (callsFrom s at)) left ≡ b
+      go true e =
+          let l : later ≤ left - answerSize (callAt s at) = leb-true _ _ e in
+          le-leb (answersSize (callsFrom s at)) left (omega (arith, sizes-step h))
+      go false e =
+          let l : left - answerSize (callAt s at) < later = leb-false _ _ e in
+          lt-leb (answersSize (callsFrom s at)) left (omega (arith, sizes-step h))
+
+  pub room-none : (left : ℕ) → length s ≤ at → leb (answersSize (callsFrom s at)) left ≡ true
+  room-none left h = rw (sizes-none h) (le-leb 0 left (omega arith))

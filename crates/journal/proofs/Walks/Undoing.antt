@@ -1,0 +1,94 @@
+-- Undo, step by step: its refusals, and the record that it takes back.
+use Prim.Native.Nat.{ℕ, zero, suc, _+_, _*_, _≤_}
+use mathlib.Core.Path.{_≡_, refl, sym, _∙_}
+use mathlib.Core.Bool.{Bool, true, false}
+use mathlib.Core.List.{List, [], _∷_}
+use native.Mathlib.Omega.{arith}
+use borrow.Author.Tests.{ne-eqb}
+use lib.ListN.{length}
+use Rattle.layout.specs.Lists.{range, every, lastOr}
+use Rattle.layout.specs.Refusals.{firstOf, accept}
+use Rattle.layout.specs.Bytes.{be32, bytes4, zeros, splice}
+use Rattle.layout.specs.Geometry.{blockCount}
+use Rattle.layout.specs.Check.{check}
+use Rattle.journal.specs.Journal.{used, copies, recordOk, records, wellFormed, lastRecord, restored, undoneImage, undoneJournal}
+use Rattle.journal.specs.Run.{State, Answer, undone, undoRefusal, afterUndo, undoAnswer, state}
+use Rattle.journal.specs.Walks.{Last, Saved}
+use Rattle.layout.proofs.Laws.Tests.{and-split}
+use Rattle.layout.proofs.Laws.Sound.{sound}
+use Rattle.journal.proofs.Laws.Append.{Fine, fine, WellFormed, well}
+
+-- a refusal is the first number, and leaves all as it was
+pub first-refusal : (a b : ℕ) → (a ≡ 0 → ⊥) → firstOf a b ≡ a
+first-refusal zero b h = absurd (h refl)
+first-refusal (suc a) b h = refl
+
+pub not-accepted : {A : Type 0} (k : ℕ) (x y : A) → (k ≡ 0 → ⊥) → accept k x y ≡ y
+not-accepted zero x y h = absurd (h refl)
+not-accepted (suc k) x y h = refl
+
+-- what undo answers and leaves
+abbrev pub Undoes : State → Answer → State → Type 0
+Undoes p a q = (a ≡ undoAnswer p) × (q ≡ afterUndo p)
+
+module _ (s j : List ℕ) where
+  refused : (r : ℕ) → undoRefusal (state s j) ≡ r → (r ≡ 0 → ⊥) → Undoes (state s j) (undone r 0) (state s j)
+  unfolding undoAnswer afterUndo
+  refused r e h = rw e (sym (not-accepted r _ (undone r 0) h), sym (not-accepted r _ (state s j) h))
+
+  pub undo-unsound : (r : ℕ) → r ≡ check s → (r ≡ 0 → ⊥) → Undoes (state s j) (undone r 0) (state s j)
+  unfolding undoRefusal
+  undo-unsound r e h = refused r (rw (← e) (first-refusal r _ h)) h
+
+  pub undo-malformed : check s ≡ 0 → wellFormed j (blockCount s) ≡ false → Undoes (state s j) (undone 8 0) (state s j)
+  unfolding undoRefusal
+  undo-malformed c w = refused 8 (rw (c, w)) (λ e. omega arith)
+
+  pub undo-none : check s ≡ 0 → wellFormed j (blockCount s) ≡ true → lastRecord j ≡ 0 → Undoes (state s j) (undone 16 0) (state s j)
+  unfolding undoRefusal
+  undo-none c w l = refused 16 (rw (c, w, l)) (λ e. omega arith)
+
+-- the last of a list passes if all do
+last-passes : (p : ℕ → Bool) (xs : List ℕ) (x : ℕ) → p x ≡ true → every p xs ≡ true → p (lastOr x xs) ≡ true
+last-passes p [] x a t = a
+last-passes p (y ∷ xs) x a t = let b = and-split (p y) (every p xs) t in last-passes p xs y (b .0) (b .1)
+
+some-passes : (p : ℕ → Bool) (xs : List ℕ) → (lastOr 0 xs ≡ 0 → ⊥) → every p xs ≡ true → p (lastOr 0 xs) ≡ true
+some-passes p [] h t = absurd (h refl)
+some-passes p (y ∷ xs) h t = let b = and-split (p y) (every p xs) t in last-passes p xs y (b .0) (b .1)
+
+module _ (s j : List ℕ) (at : ℕ) (l : Last s j at) where
+  pub last-well : WellFormed j (blockCount s)
+  last-well = well j (blockCount s) (l .well-formed)
+
+  pub last-fine : Fine j (blockCount s) at
+  unfolding lastRecord
+  last-fine =
+      let e = l .last in
+      fine j (blockCount s) at (rw e (some-passes (recordOk j (blockCount s)) (records j) (λ z. l .some (e ∙ z)) (last-well .recorded)))
+
+  pub last-saved : (k : ℕ) → k ≡ copies j at → Saved s j (blockCount s) at k
+  last-saved k e =
+      let z = sound s (l .sound) in
+      let f = last-fine in
+      let size : be32 j at ≡ 4 + 516 * copies j at = f .size in
+      let inside : at + be32 j at ≤ used j = f .inside in
+      let high : used j ≤ length j = last-well .used-high in
+      record { whole = z .whole; blocks = z .most; inside = omega arith; below = rw e (f .below) }
+
+  pub last-image : (k : ℕ) → k ≡ copies j at → restored s j at (range 0 k) ≡ undoneImage s j
+  unfolding undoneImage
+  last-image k e = rw (e, l .last)
+
+  pub last-journal : (size : ℕ) → size ≡ be32 j at → splice (splice j at (zeros size)) 1 (bytes4 at) ≡ undoneJournal j
+  unfolding undoneJournal
+  last-journal size e = rw (e, l .last)
+
+  accepted : undoRefusal (state s j) ≡ 0
+  unfolding undoRefusal
+  accepted = rw (l .sound, l .well-formed, ne-eqb (lastRecord j) 0 (λ e. l .some (l .last ∙ e)))
+
+  pub undo-done : (size : ℕ) → size ≡ be32 j (lastRecord j) → (t i : List ℕ) → t ≡ undoneImage s j → i ≡ undoneJournal j
+      → Undoes (state s j) (undone 0 size) (state t i)
+  unfolding undoAnswer afterUndo
+  undo-done size e t i a b = rw (accepted, e, a, b) (refl, refl)

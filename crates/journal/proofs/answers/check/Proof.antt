@@ -1,0 +1,23 @@
+use mathlib.Core.Path.{_∙_}
+use Rattle.journal.specs.Script.{encoded}
+use Rattle.journal.specs.Run.{lookAnswer}
+use borrow.Author.Needs.{needs}
+use Rattle.journal.proofs.answers.check.Statement.{statement}
+use Rattle.journal.proofs.answers.check.Tie as tie
+use Rattle.journal.proofs.Walks.Encoding.{numbers-alone}
+
+check-requires : tie.Need-check-requires
+check-requires c κs = search needs
+
+put-numbers-requires : tie.Need-put-numbers-requires
+put-numbers-requires c κs = search needs
+
+same-length : tie.Need-same-length
+same-length c = search needs
+
+returns : tie.Need-returns
+unfolding encoded lookAnswer
+returns c = c .before .before .put-numbers .ensures ∙ numbers-alone _ _ _ _ _ (c .before .before .before .before .before .before .before .pre) ∙ rw (c .before .before .before .before .check .ensures)
+
+pub check-spec : {M : Type 1} → statement M
+check-spec = tie.close (tie.spec check-requires put-numbers-requires same-length returns)

@@ -1,0 +1,36 @@
+use mathlib.Core.Path.{_∙_}
+use Rattle.journal.specs.Run.{lookAnswer}
+use borrow.Author.Needs.{needs}
+use Rattle.journal.proofs.answers.lookup.Statement.{statement}
+use Rattle.journal.proofs.answers.lookup.Tie as tie
+use Rattle.journal.proofs.Walks.Encoding.{numbers-alone}
+
+name-of-requires : tie.Need-name-of-requires
+name-of-requires c κs = search needs
+
+lookup-requires : tie.Need-lookup-requires
+lookup-requires c κs = search needs
+
+found-numbers-requires : tie.Need-found-numbers-requires
+found-numbers-requires c κs = search needs
+
+put-numbers-requires : tie.Need-put-numbers-requires
+put-numbers-requires c κs = search needs
+
+same-length : tie.Need-same-length
+same-length c = search needs
+
+returns : tie.Need-returns
+unfolding lookAnswer
+returns c = c .before .before .put-numbers .ensures ∙ numbers-alone _ _ _ _ _ (c .before .before .before .before .before .before .before .before .before .before .pre .1) ∙ c .before .before .before .found-numbers .ensures ∙ rw (c .before .before .before .before .before .lookup .ensures, c .before .before .before .before .before .before .name-of .ensures)
+
+pub lookup-spec : {M : Type 1} → statement M
+lookup-spec =
+    tie.close
+    (tie.spec
+    name-of-requires
+    lookup-requires
+    found-numbers-requires
+    put-numbers-requires
+    same-length
+    returns)

@@ -1,0 +1,35 @@
+use borrow.Author.Needs.{needs}
+use Rattle.journal.proofs.answers.put_numbers.Statement.{statement}
+use Rattle.journal.proofs.answers.put_numbers.Tie as tie
+use Rattle.journal.proofs.Walks.Encoding.{numbers-put}
+
+put32-requires : tie.Need-put32-requires
+put32-requires c κs = search needs
+
+put32-requires-2 : tie.Need-put32-requires-2
+put32-requires-2 c κs = search needs
+
+put32-requires-3 : tie.Need-put32-requires-3
+put32-requires-3 c κs = search needs
+
+put32-requires-4 : tie.Need-put32-requires-4
+put32-requires-4 c κs = search needs
+
+same-length : tie.Need-same-length
+same-length c = search needs
+
+returns : tie.Need-returns
+returns c =
+    let a = c .before .before .before .before .before .before .before .before .before .before .before .before .before .before .before .before .before .args in
+    rw (c .before .before .put324 .ensures, c .before .before .before .before .before .before .put323 .ensures, c .before .before .before .before .before .before .before .before .before .before .put322 .ensures, c .before .before .before .before .before .before .before .before .before .before .before .before .before .before .put32 .ensures) (numbers-put (a .part .now) (a .n .first) (a .n .second) (a .n .third) (a .n .fourth) (c .before .before .before .before .before .before .before .before .before .before .before .before .before .before .before .before .before .pre))
+
+pub put-numbers-spec : {M : Type 1} → statement M
+put-numbers-spec =
+    tie.close
+    (tie.spec
+    put32-requires
+    put32-requires-2
+    put32-requires-3
+    put32-requires-4
+    same-length
+    returns)

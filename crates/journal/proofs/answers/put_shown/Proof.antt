@@ -1,0 +1,64 @@
+use native.Mathlib.Omega.{arith}
+use borrow.Author.Needs.{needs}
+use Rattle.journal.proofs.answers.put_shown.Statement.{statement}
+use Rattle.journal.proofs.answers.put_shown.Tie as tie
+use Rattle.journal.proofs.Walks.Encoding.{shown-written}
+
+cast-t10 : tie.Need-cast-t10
+cast-t10 c = search needs
+
+put-numbers-requires : tie.Need-put-numbers-requires
+put-numbers-requires c κs = search needs
+
+add-e : tie.Need-add-e
+add-e c = search needs
+
+sub-copy : tie.Need-sub-copy
+sub-copy c = search needs
+
+part-copy-start : tie.Need-part-copy-start
+part-copy-start c = search needs
+
+part-copy-end : tie.Need-part-copy-end
+part-copy-end c = search needs
+
+copy-requires : tie.Need-copy-requires
+copy-requires c κs = search needs
+
+sub-clear : tie.Need-sub-clear
+sub-clear c = search needs
+
+part-clear-start : tie.Need-part-clear-start
+part-clear-start c = search needs
+
+part-clear-end : tie.Need-part-clear-end
+part-clear-end c = search needs
+
+clear-requires : tie.Need-clear-requires
+clear-requires c κs = search needs
+
+same-length : tie.Need-same-length
+same-length c = search needs
+
+returns : tie.Need-returns
+returns c =
+    let a = c .before .before .before .before .before .before .before .before .before .before .before .before .before .before .args in
+    shown-written (a .part .now) _ (a .bytes .now) _ _ (c .before .before .before .before .before .before .before .before .before .before .before .before .before .before .pre .1) (c .before .before .before .before .before .before .before .before .before .before .before .before .before .before .pre .0) (c .before .before .before .before .before .before .before .before .before .before .put-numbers .ensures) (c .before .before .before .before .before .before .copy .ensures) (c .before .before .clear .ensures) (omega arith)
+
+pub put-shown-spec : {M : Type 1} → statement M
+put-shown-spec =
+    tie.close
+    (tie.spec
+    cast-t10
+    put-numbers-requires
+    add-e
+    sub-copy
+    part-copy-start
+    part-copy-end
+    copy-requires
+    sub-clear
+    part-clear-start
+    part-clear-end
+    clear-requires
+    same-length
+    returns)

@@ -1,0 +1,67 @@
+use mathlib.Core.Path.{_∙_, sym}
+use native.Mathlib.Omega.{arith}
+use Rattle.journal.specs.Run.{lookAnswer}
+use borrow.Author.Needs.{needs}
+use Rattle.journal.proofs.answers.read.Statement.{statement}
+use Rattle.journal.proofs.answers.read.Tie as tie
+use Rattle.journal.proofs.Walks.Scripts.{length-data}
+use Rattle.journal.proofs.Walks.Encoding.{read-small, read-written}
+
+add-get32 : tie.Need-add-get32
+add-get32 c = search needs
+
+get32-requires : tie.Need-get32-requires
+get32-requires c κs = search needs
+
+cast-e : tie.Need-cast-e
+cast-e c = search needs
+
+add-e : tie.Need-add-e
+add-e c = search needs
+
+sub-read-into : tie.Need-sub-read-into
+sub-read-into c = search needs
+
+part-read-into-start : tie.Need-part-read-into-start
+part-read-into-start c = search needs
+
+part-read-into-end : tie.Need-part-read-into-end
+part-read-into-end c = search needs
+
+read-into-requires : tie.Need-read-into-requires
+read-into-requires c κs = search needs
+
+filled-numbers-requires : tie.Need-filled-numbers-requires
+filled-numbers-requires c κs =
+    let a = c .before .before .before .before .before .before .before .before .before .args in
+    omega (arith, read-small (c .before .before .before .read-into .last .1 .1 .1 .0) _ _ _ _ (c .before .before .before .read-into .result) (c .before .before .before .read-into .ensures), length-data (a .script .now) (a .at) (c .before .before .before .before .before .before .before .before .before .pre .0), c .before .before .before .before .before .get32 .ensures)
+
+put-numbers-requires : tie.Need-put-numbers-requires
+put-numbers-requires c κs = search needs
+
+same-length : tie.Need-same-length
+same-length c = search needs
+
+returns : tie.Need-returns
+unfolding lookAnswer
+returns c =
+    let a = c .before .before .before .before .before .before .before .before .before .before .before .before .before .args in
+    let l = length-data (a .script .now) (a .at) (c .before .before .before .before .before .before .before .before .before .before .before .before .before .pre .0) ∙ sym (c .before .before .before .before .before .before .before .before .before .get32 .ensures) in
+    read-written (a .part .now) (c .before .before .before .before .before .before .before .read-into .last .1 .1 .1 .0) _ _ _ _ _ (c .before .before .before .before .before .before .before .before .before .get32 .result) (c .before .before .before .before .before .before .before .read-into .result) _ _ _ _ (c .before .before .before .before .before .before .before .read-into .ensures) l (c .before .before .before .before .before .before .before .before .before .before .before .before .before .pre .1 ∙ rw (c .before .before .before .before .before .before .before .before .before .get32 .ensures)) (omega arith) (c .before .before .before .filled-numbers .ensures) (c .before .before .put-numbers .ensures)
+
+pub read-spec : {M : Type 1} → statement M
+read-spec =
+    tie.close
+    (tie.spec
+    add-get32
+    get32-requires
+    cast-e
+    add-e
+    sub-read-into
+    part-read-into-start
+    part-read-into-end
+    read-into-requires
+    filled-numbers-requires
+    put-numbers-requires
+    same-length
+    returns)

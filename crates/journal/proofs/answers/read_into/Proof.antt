@@ -1,0 +1,43 @@
+use mathlib.Core.Path.{_∙_, sym, ap}
+use lib.ListN.{length}
+use borrow.Author.Needs.{needs}
+use Rattle.journal.proofs.answers.read_into.Statement.{statement}
+use Rattle.journal.proofs.answers.read_into.Tie as tie
+use Rattle.journal.proofs.Walks.Scripts.{length-data}
+
+data-of-requires : tie.Need-data-of-requires
+data-of-requires c κs = search needs
+
+copy-requires : tie.Need-copy-requires
+copy-requires c κs = ap length (c .before .data-of .ensures) ∙ length-data _ _ (c .before .before .before .before .before .pre .0) ∙ sym (c .before .before .before .before .before .pre .1)
+
+add-get64 : tie.Need-add-get64
+add-get64 c = search needs
+
+get64-requires : tie.Need-get64-requires
+get64-requires c κs = search needs
+
+name-of-requires : tie.Need-name-of-requires
+name-of-requires c κs = search needs
+
+read-requires : tie.Need-read-requires
+read-requires c κs = search needs
+
+same-length : tie.Need-same-length
+same-length c = search needs
+
+returns : tie.Need-returns
+returns c = c .before .before .read .ensures ∙ rw (c .before .before .before .before .before .before .before .before .copy .ensures, c .before .before .before .before .before .before .before .before .before .before .data-of .ensures, c .before .before .before .before .name-of .ensures, c .before .before .before .before .before .get64 .ensures)
+
+pub read-into-spec : {M : Type 1} → statement M
+read-into-spec =
+    tie.close
+    (tie.spec
+    data-of-requires
+    copy-requires
+    add-get64
+    get64-requires
+    name-of-requires
+    read-requires
+    same-length
+    returns)

@@ -1,0 +1,77 @@
+use mathlib.Core.Path.{_≡_, _∙_}
+use native.Mathlib.Omega.{arith}
+use Rattle.journal.specs.Script.{opAt}
+use borrow.Author.Needs.{needs}
+use Rattle.journal.proofs.runner.look.Statement.{statement}
+use Rattle.journal.proofs.runner.look.Tie as tie
+use Rattle.journal.proofs.Walks.Scripts.{size-low, size-read, size-look-in-place, is-check, is-lookup, is-read, is-look-in-place}
+use Rattle.journal.proofs.Walks.Making.{look-told}
+
+shared-slice-read-if1 : tie.Need-shared-slice-read-if1
+shared-slice-read-if1 c = search needs
+
+check-requires : tie.Need-check-requires
+check-requires c κs = c .before .before .before .before .before .before .pre .0 .room ∙ size-low (c .before .before .before .before .before .before .args .script .now) (c .before .before .before .before .before .before .args .at) (omega (arith, c .before .if1 .taken))
+
+same-length : tie.Need-same-length
+same-length c = search needs
+
+returns : tie.Need-returns
+returns c = λ j. look-told _ j _ _ _ (is-check _ _ (c .before .before .before .before .if1 .taken)) (c .before .before .check .ensures)
+
+shared-slice-read-if2 : tie.Need-shared-slice-read-if2
+shared-slice-read-if2 c = search needs
+
+lookup-requires : tie.Need-lookup-requires
+lookup-requires c κs = (c .before .before .before .before .before .before .before .before .pre .0 .fits, c .before .before .before .before .before .before .before .before .pre .0 .room ∙ size-low (c .before .before .before .before .before .before .before .before .args .script .now) (c .before .before .before .before .before .before .before .before .args .at) (omega (arith, c .before .if2 .taken)))
+
+same-length-2 : tie.Need-same-length-2
+same-length-2 c = search needs
+
+returns-2 : tie.Need-returns-2
+returns-2 c = λ j. look-told _ j _ _ _ (is-lookup _ _ (c .before .before .before .before .if2 .taken)) (c .before .before .lookup .ensures)
+
+shared-slice-read-if3 : tie.Need-shared-slice-read-if3
+shared-slice-read-if3 c = search needs
+
+read-requires : tie.Need-read-requires
+read-requires c κs = (c .before .before .before .before .before .before .before .before .before .before .pre .0 .fits, c .before .before .before .before .before .before .before .before .before .before .pre .0 .room ∙ size-read _ _ (c .before .before .before .before .before .before .before .before .before .before .pre .0 .fits) (c .before .if3 .taken))
+
+same-length-3 : tie.Need-same-length-3
+same-length-3 c = search needs
+
+returns-3 : tie.Need-returns-3
+returns-3 c = λ j. look-told _ j _ _ _ (is-read _ _ (c .before .before .before .before .if3 .taken)) (c .before .before .read .ensures)
+
+look-in-place-requires : tie.Need-look-in-place-requires
+look-in-place-requires c κs =
+    let op : opAt (c .before .before .before .before .before .before .before .before .before .before .args .script .now) (c .before .before .before .before .before .before .before .before .before .before .args .at) ≡ 4 = omega arith in
+    (c .before .before .before .before .before .before .before .before .before .before .pre .0 .fits, c .before .before .before .before .before .before .before .before .before .before .pre .0 .room ∙ size-look-in-place _ _ op)
+
+same-length-4 : tie.Need-same-length-4
+same-length-4 c = search needs
+
+returns-4 : tie.Need-returns-4
+returns-4 c =
+    let op : opAt (c .before .before .before .before .before .before .before .before .before .before .before .before .before .args .script .now) (c .before .before .before .before .before .before .before .before .before .before .before .before .before .args .at) ≡ 4 = omega arith in
+    λ j. look-told _ j _ _ _ (is-look-in-place _ _ op) (c .before .before .look-in-place .ensures)
+
+pub look-spec : {M : Type 1} → statement M
+look-spec =
+    tie.close
+    (tie.spec
+    shared-slice-read-if1
+    check-requires
+    same-length
+    returns
+    shared-slice-read-if2
+    lookup-requires
+    same-length-2
+    returns-2
+    shared-slice-read-if3
+    read-requires
+    same-length-3
+    returns-3
+    look-in-place-requires
+    same-length-4
+    returns-4)

@@ -1,0 +1,48 @@
+use mathlib.Core.Path.{sym, _∙_, ap}
+use Prim.Native.Nat.{ℕ, _+_}
+use borrow.Author.Tests.{ne-eqb}
+use borrow.Author.Needs.{needs}
+use Rattle.journal.proofs.script.answer_size.Statement.{statement}
+use Rattle.journal.proofs.script.answer_size.Tie as tie
+use Rattle.journal.proofs.Walks.Scripts.{size-read, size-look-in-place, size-plain}
+
+shared-slice-read-if1 : tie.Need-shared-slice-read-if1
+shared-slice-read-if1 c = search needs
+
+add-get32 : tie.Need-add-get32
+add-get32 c = search needs
+
+get32-requires : tie.Need-get32-requires
+get32-requires c κs = search needs
+
+cast-result : tie.Need-cast-result
+cast-result c = search needs
+
+add-result : tie.Need-add-result
+add-result c = search needs
+
+returns : tie.Need-returns
+returns c = let a = c .before .before .before .before .args in ap (λ (x : ℕ). 16 + x) (c .get32 .ensures) ∙ sym (size-read (a .script .now) (a .at) (c .before .before .before .before .pre) (c .before .if1 .taken))
+
+shared-slice-read-if2 : tie.Need-shared-slice-read-if2
+shared-slice-read-if2 c = search needs
+
+returns-2 : tie.Need-returns-2
+returns-2 c = let a = c .before .before .before .before .before .args in sym (size-look-in-place (a .script .now) (a .at) (c .if2 .taken))
+
+returns-3 : tie.Need-returns-3
+returns-3 c = let a = c .before .before .before .before .before .args in sym (size-plain (a .script .now) (a .at) (ne-eqb _ _ (c .before .before .if1 .left)) (ne-eqb _ _ (c .if2 .left)))
+
+pub answer-size-spec : {M : Type 1} → statement M
+answer-size-spec =
+    tie.close
+    (tie.spec
+    shared-slice-read-if1
+    add-get32
+    get32-requires
+    cast-result
+    add-result
+    returns
+    shared-slice-read-if2
+    returns-2
+    returns-3)

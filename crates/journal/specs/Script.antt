@@ -1,0 +1,130 @@
+-- Scripts: a run's calls as bytes, and its answers as bytes. A script is a sequence of items that fill it exactly. An item is a header of 33 bytes,
+-- then a name, then data. In the header, all numbers big-endian: op (1 byte), type (1), user (1), group (1), permissions (1), flags (4), offset (8),
+-- time (8), length of the name (4), length of the data (4). Fields that an op does not use are not looked at.
+use Prim.Native.Nat.{ℕ, _+_, _-_, _*_, _≤_}
+use mathlib.Core.Path.{_≡_}
+use mathlib.Core.List.{List, [], _∷_, _++_, map}
+use mathlib.Core.Bool.{Bool, _&&_, cond}
+use lib.ListN.{length, getD}
+use lib.Dec.{eqb, leb}
+use Rattle.layout.specs.Lists.{within, every, joined}
+use Rattle.layout.specs.Refusals.{require, accept}
+use Rattle.layout.specs.Bytes.{be32, bytes4, zeros, part, splice}
+use Rattle.layout.specs.Check.{check}
+use Rattle.volume.specs.Change.{Change, create, write, delete}
+use Rattle.journal.specs.Journal.{recordsFrom, started, startRefusal}
+use Rattle.journal.specs.Run.{Look, checkImage, findFile, readFile, lookAt, Call, change, undo, look, Answer, changed, undone, checked, found, filled, shown, State, run, answers, state}
+use Rattle.journal.specs.Replay.{replayed, standing, replayAnswers}
+
+-- the number of the eight bytes at an offset
+unfoldable pub be64 : List ℕ → ℕ → ℕ
+be64 s at = be32 s at * 0x100000000 + be32 s (at + 4)
+
+-- Of the item at an offset: its op, its name, its data and its length.
+abbrev pub opAt : List ℕ → ℕ → ℕ
+opAt s at = getD s at 0
+
+abbrev pub nameLength : List ℕ → ℕ → ℕ
+nameLength s at = be32 s (at + 25)
+
+abbrev pub dataLength : List ℕ → ℕ → ℕ
+dataLength s at = be32 s (at + 29)
+
+unfoldable pub nameAt : List ℕ → ℕ → List ℕ
+nameAt s at = part s (at + 33) (nameLength s at)
+
+unfoldable pub dataAt : List ℕ → ℕ → List ℕ
+dataAt s at = part s (at + 33 + nameLength s at) (dataLength s at)
+
+abbrev pub itemSize : List ℕ → ℕ → ℕ
+itemSize s at = 33 + nameLength s at + dataLength s at
+
+-- the whole item stands in the script
+abbrev pub Fits : List ℕ → ℕ → Type 0
+Fits s at = at + itemSize s at ≤ length s
+
+-- Ops: 1 check, 2 look up, 3 read (the data is its buffer as it is before the call), 4 look in place (the offset is its index), 5 create, 6 write,
+-- 7 delete, 8 undo.
+unfoldable pub callAt : List ℕ → ℕ → Call
+callAt s at =
+    let name = nameAt s at in
+    let offset = be64 s (at + 9) in
+    let time = be64 s (at + 17) in
+    cond (eqb (opAt s at) 1) (look checkImage)
+    (cond (eqb (opAt s at) 2) (look (findFile name))
+    (cond (eqb (opAt s at) 3) (look (readFile name offset (dataAt s at)))
+    (cond (eqb (opAt s at) 4) (look (lookAt name offset))
+    (cond (eqb (opAt s at) 5)
+    (change (create name (getD s (at + 1) 0) (getD s (at + 2) 0) (getD s (at + 3) 0) (getD s (at + 4) 0) (be32 s (at + 5)) time))
+    (cond (eqb (opAt s at) 6) (change (write name offset (dataAt s at) time))
+    (cond (eqb (opAt s at) 7) (change (delete name)) undo))))))
+
+-- an item that is not cut off, with a known op
+unfoldable pub itemOk : List ℕ → ℕ → Bool
+itemOk s at = leb (at + itemSize s at) (length s) && within 1 8 (opAt s at)
+
+-- the offsets of the items from `at` on, each where the one before it ends; the calls of a script
+unfoldable pub itemsFrom : List ℕ → ℕ → List ℕ
+itemsFrom s at = recordsFrom (itemSize s) (length s) at (length s - at)
+
+unfoldable pub callsFrom : List ℕ → ℕ → List Call
+callsFrom s at = map (callAt s) (itemsFrom s at)
+
+abbrev pub callsOf : List ℕ → List Call
+callsOf s = callsFrom s 0
+
+-- An answer as bytes: four numbers of 32 bits; then, for read, the buffer after the call, and for look in place 512 bytes, the part and zeros after it.
+unfoldable pub numbers : ℕ → ℕ → ℕ → ℕ → List ℕ
+numbers a b c d = bytes4 a ++ (bytes4 b ++ (bytes4 c ++ bytes4 d))
+
+unfoldable pub encoded : Answer → List ℕ
+encoded (changed number slot size) = numbers number slot size 0
+encoded (undone number size) = numbers number 0 size 0
+encoded (checked number) = numbers number 0 0 0
+encoded (found a) = numbers (a .number) (a .slot) (a .size) (a .blocks)
+encoded (filled a) = numbers (a .number) (a .count) 0 0 ++ (a .buffer)
+encoded (shown bytes) = numbers (length bytes) 0 0 0 ++ (bytes ++ zeros (512 - length bytes))
+
+-- the length of the answer to a call, on every image and journal; of all answers to a script
+unfoldable pub answerSize : Call → ℕ
+answerSize (change c) = 16
+answerSize undo = 16
+answerSize (look checkImage) = 16
+answerSize (look (findFile name)) = 16
+answerSize (look (readFile name offset buffer)) = 16 + length buffer
+answerSize (look (lookAt name i)) = 16 + 512
+
+unfoldable pub answersSize : List Call → ℕ
+answersSize [] = 0
+answersSize (c ∷ cs) = answerSize c + answersSize cs
+
+-- 1: the script is not of this form; 2: the room for the answers is too short
+unfoldable pub scriptRefusal : List ℕ → ℕ → ℕ
+scriptRefusal s room = require (every (itemOk s) (itemsFrom s 0)) 1 (require (leb (answersSize (callsOf s)) room) 2 0)
+
+-- What running a script leaves: its number, image and journal, and the bytes of `out`. "A refused script changes nothing at all."
+pub record Outcome : Type 0 where
+  pub number : ℕ
+  pub state : State
+  pub out : List ℕ
+
+abbrev pub leaves : ℕ → List ℕ → List ℕ → List ℕ → Outcome
+leaves number image journal out = record { number = number; state = state image journal; out = out }
+
+unfoldable pub given : State → List ℕ → List ℕ → State → List Answer → Outcome
+given p script out last told =
+    let done : Outcome = record { number = 0; state = last; out = splice out 0 (joined encoded told) } in
+    accept (scriptRefusal script (length out)) done (record { number = scriptRefusal script (length out); state = p; out = out })
+
+-- by the rules, call by call; and by the replay of the changes that stand, from a sound image and a journal just started
+unfoldable pub outcome : State → List ℕ → List ℕ → Outcome
+outcome p script out = given p script out (run p (callsOf script)) (answers p (callsOf script))
+
+unfoldable pub replayOutcome : State → List ℕ → List ℕ → Outcome
+replayOutcome start script out =
+    given start script out (replayed start (standing start [] (callsOf script))) (replayAnswers start [] (callsOf script))
+
+pub record Fresh (image journal : List ℕ) : Type 0 where
+  pub sound : check image ≡ 0
+  pub sized : startRefusal journal ≡ 0
+  pub just : journal ≡ started (length journal)

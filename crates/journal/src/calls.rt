@@ -1,0 +1,150 @@
+// The calls that are lent a journal. Each checks the image and scans the journal once.
+ghost use mathlib.Core.Path.{_≡_};
+ghost use lib.ListN.{length};
+ghost use Rattle.volume.specs.Change.{create, write, delete};
+ghost use Rattle.journal.specs.Run.{afterUndo, undoAnswer, afterChange, changeAnswer, state};
+ghost use Rattle.journal.specs.Walks.{readyRefusal};
+ghost use Rattle.journal.specs.Changed.{changedAnswer};
+ghost use Rattle.journal.specs.Undone.{undoneAnswer};
+
+// What undo gives: the length of the record taken back, or the number of the refusal.
+pub enum Undone {
+    Done(u32),
+    Refused(u32),
+}
+
+// What create, write and delete give: create's slot (0 for the others) and the length of the record added, or the number of the refusal.
+pub enum Changed {
+    Done { slot: u32, size: u32 },
+    Refused(u32),
+}
+
+// Undo: takes the last record back.
+pub fn undo(image: &mut [u8], journal: &mut [u8]) -> Undone
+    ensures answer { λ r. ⌜ undoneAnswer r ≡ undoAnswer (state (now (image .entry)) (now (journal .entry))) ⌝ }
+    ensures state { λ _. ⌜ state (now (image .exit)) (now (journal .exit)) ≡ afterUndo (state (now (image .entry)) (now (journal .entry))) ⌝ }
+{
+    let refusal = layout::check::check(image);
+    if refusal != 0 {
+        return Undone::Refused(refusal);
+    }
+    let n = image.len() / 512;
+    let found = super::scan::scan(journal, n);
+    let ok = found.ok;
+    let at = found.last;
+    if !ok {
+        return Undone::Refused(8);
+    }
+    if at == 0 {
+        return Undone::Refused(16);
+    }
+    let size = super::restoring::take_back(image, journal, at);
+    Undone::Done(size)
+}
+
+// The refusals 1 to 8, which every change weighs first.
+fn ready_refusal(image: &[u8], journal: &[u8]) -> u32
+    ensures { λ r. ⌜ r ≡ readyRefusal (state (now (image .entry)) (now (journal .entry))) ⌝ }
+{
+    let refusal = layout::check::check(image);
+    if refusal != 0 {
+        return refusal;
+    }
+    let n = image.len() / 512;
+    let found = super::scan::scan(journal, n);
+    let ok = found.ok;
+    if !ok {
+        return 8;
+    }
+    0
+}
+
+// Create: a new empty file, in the lowest free slot.
+pub fn create(
+    image: &mut [u8],
+    journal: &mut [u8],
+    name: &[u8],
+    kind: u8,
+    user: u8,
+    group: u8,
+    permissions: u8,
+    flags: u32,
+    time: u64,
+) -> Changed
+    ensures answer { λ r. ⌜ changedAnswer r ≡ changeAnswer (state (now (image .entry)) (now (journal .entry))) (create (now (name .entry)) kind user group permissions flags time) ⌝ }
+    ensures state { λ _. ⌜ state (now (image .exit)) (now (journal .exit)) ≡ afterChange (state (now (image .entry)) (now (journal .entry))) (create (now (name .entry)) kind user group permissions flags time) ⌝ }
+{
+    let unready = ready_refusal(image, journal);
+    if unready != 0 {
+        return Changed::Refused(unready);
+    }
+    let refusal = volume::create::create_refusal(image, name, kind);
+    if refusal != 0 {
+        return Changed::Refused(refusal);
+    }
+    let size = super::naming::record_create(image, journal);
+    if size == 0 {
+        return Changed::Refused(15);
+    }
+    let slot = volume::create::create(image, name, kind, user, group, permissions, flags, time);
+    Changed::Done {
+        slot: slot,
+        size: size,
+    }
+}
+
+// Write: puts data at an offset of a file.
+pub fn write(
+    image: &mut [u8],
+    journal: &mut [u8],
+    name: &[u8],
+    offset: usize,
+    bytes: &[u8],
+    time: u64,
+) -> Changed
+    ensures answer { λ r. ⌜ changedAnswer r ≡ changeAnswer (state (now (image .entry)) (now (journal .entry))) (write (now (name .entry)) offset (now (bytes .entry)) time) ⌝ }
+    ensures state { λ _. ⌜ state (now (image .exit)) (now (journal .exit)) ≡ afterChange (state (now (image .entry)) (now (journal .entry))) (write (now (name .entry)) offset (now (bytes .entry)) time) ⌝ }
+{
+    let unready = ready_refusal(image, journal);
+    if unready != 0 {
+        return Changed::Refused(unready);
+    }
+    let count = bytes.len();
+    let refusal = volume::write::write_refusal(image, name, offset, count);
+    if refusal != 0 {
+        return Changed::Refused(refusal);
+    }
+    let size = super::naming::record_write(image, journal, name, offset, count);
+    if size == 0 {
+        return Changed::Refused(15);
+    }
+    volume::write::write(image, name, offset, bytes, time);
+    Changed::Done {
+        slot: 0,
+        size: size,
+    }
+}
+
+// Delete: frees a file's blocks and its slot.
+pub fn delete(image: &mut [u8], journal: &mut [u8], name: &[u8]) -> Changed
+    ensures answer { λ r. ⌜ changedAnswer r ≡ changeAnswer (state (now (image .entry)) (now (journal .entry))) (delete (now (name .entry))) ⌝ }
+    ensures state { λ _. ⌜ state (now (image .exit)) (now (journal .exit)) ≡ afterChange (state (now (image .entry)) (now (journal .entry))) (delete (now (name .entry))) ⌝ }
+{
+    let unready = ready_refusal(image, journal);
+    if unready != 0 {
+        return Changed::Refused(unready);
+    }
+    let refusal = volume::delete::delete_refusal(image, name);
+    if refusal != 0 {
+        return Changed::Refused(refusal);
+    }
+    let size = super::naming::record_delete(image, journal, name);
+    if size == 0 {
+        return Changed::Refused(15);
+    }
+    volume::delete::delete(image, name);
+    Changed::Done {
+        slot: 0,
+        size: size,
+    }
+}

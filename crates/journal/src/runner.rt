@@ -1,0 +1,199 @@
+// Running a script: each item's call is made, and its answer written.
+ghost use mathlib.Core.Path.{_≡_};
+ghost use mathlib.Core.List.{List};
+ghost use Prim.Native.Nat.{ℕ, _+_, _≤_, _<_};
+ghost use lib.ListN.{length};
+ghost use mathlib.Core.Bool.{true};
+ghost use Rattle.layout.specs.Lists.{every, joined};
+ghost use Rattle.layout.specs.Bytes.{splice};
+ghost use Rattle.journal.specs.Run.{State, undo, answer, run, answers, state};
+ghost use Rattle.journal.specs.Undone.{undoneAnswer};
+ghost use Rattle.journal.specs.Changed.{changedAnswer};
+ghost use Rattle.journal.specs.Script.{numbers, opAt, callAt, encoded, itemOk, itemsFrom, callsOf, answersSize, leaves, outcome, replayOutcome, Fresh};
+ghost use Rattle.journal.specs.ScriptWalks.{Item, Made};
+use super::answers::Numbers;
+use super::script::data_of;
+use super::script::get64;
+use super::script::name_of;
+
+// The numbers of a change's answer.
+fn changed_numbers(c: super::calls::Changed) -> Numbers
+    ensures { λ r. ⌜ numbers (r .first) (r .second) (r .third) (r .fourth) ≡ encoded (changedAnswer c) ⌝ }
+{
+    match c {
+        super::calls::Changed::Done { slot, size } => Numbers {
+            first: 0,
+            second: slot,
+            third: size,
+            fourth: 0,
+        },
+        super::calls::Changed::Refused(number) => Numbers {
+            first: number,
+            second: 0,
+            third: 0,
+            fourth: 0,
+        },
+    }
+}
+
+// The numbers of undo's answer.
+fn undone_numbers(u: super::calls::Undone) -> Numbers
+    ensures { λ r. ⌜ numbers (r .first) (r .second) (r .third) (r .fourth) ≡ encoded (undoneAnswer u) ⌝ }
+{
+    match u {
+        super::calls::Undone::Done(size) => Numbers {
+            first: 0,
+            second: 0,
+            third: size,
+            fourth: 0,
+        },
+        super::calls::Undone::Refused(number) => Numbers {
+            first: number,
+            second: 0,
+            third: 0,
+            fourth: 0,
+        },
+    }
+}
+
+// Create as the item at `at` asks.
+fn create(script: &[u8], at: usize, image: &mut [u8], journal: &mut [u8], part: &mut [u8])
+    requires { ⌜ (Item (now script) at (now part)) × (opAt (now script) at ≡ 5) ⌝ }
+    ensures { λ _. ⌜ Made (state (now (image .entry)) (now (journal .entry))) (callAt (now (script .entry)) at) (now (image .exit)) (now (journal .exit)) (now (part .exit)) ⌝ }
+{
+    let kind = script[at + 1];
+    let user = script[at + 2];
+    let group = script[at + 3];
+    let permissions = script[at + 4];
+    let flags = layout::number::get32(script, at + 5);
+    let time = get64(script, at + 17);
+    let name = name_of(script, at);
+    let c = super::calls::create(
+        image,
+        journal,
+        name,
+        kind,
+        user,
+        group,
+        permissions,
+        flags,
+        time,
+    );
+    super::answers::put_numbers(part, changed_numbers(c));
+}
+
+// Write as the item at `at` asks.
+fn write(script: &[u8], at: usize, image: &mut [u8], journal: &mut [u8], part: &mut [u8])
+    requires { ⌜ (Item (now script) at (now part)) × (opAt (now script) at ≡ 6) ⌝ }
+    ensures { λ _. ⌜ Made (state (now (image .entry)) (now (journal .entry))) (callAt (now (script .entry)) at) (now (image .exit)) (now (journal .exit)) (now (part .exit)) ⌝ }
+{
+    let offset = get64(script, at + 9) as usize;
+    let time = get64(script, at + 17);
+    let name = name_of(script, at);
+    let bytes = data_of(script, at);
+    let c = super::calls::write(image, journal, name, offset, bytes, time);
+    super::answers::put_numbers(part, changed_numbers(c));
+}
+
+// Delete as the item at `at` asks.
+fn delete(script: &[u8], at: usize, image: &mut [u8], journal: &mut [u8], part: &mut [u8])
+    requires { ⌜ (Item (now script) at (now part)) × (opAt (now script) at ≡ 7) ⌝ }
+    ensures { λ _. ⌜ Made (state (now (image .entry)) (now (journal .entry))) (callAt (now (script .entry)) at) (now (image .exit)) (now (journal .exit)) (now (part .exit)) ⌝ }
+{
+    let name = name_of(script, at);
+    let c = super::calls::delete(image, journal, name);
+    super::answers::put_numbers(part, changed_numbers(c));
+}
+
+// Undo, with its answer.
+fn undo(image: &mut [u8], journal: &mut [u8], part: &mut [u8])
+    requires { ⌜ length (now part) ≡ 16 ⌝ }
+    ensures { λ _. ⌜ Made (state (now (image .entry)) (now (journal .entry))) undo (now (image .exit)) (now (journal .exit)) (now (part .exit)) ⌝ }
+{
+    let u = super::calls::undo(image, journal);
+    super::answers::put_numbers(part, undone_numbers(u));
+}
+
+// Make the call that only looks of the item at `at`; the journal does not matter.
+fn look(script: &[u8], at: usize, image: &[u8], part: &mut [u8])
+    requires { ⌜ (Item (now script) at (now part)) × (1 ≤ opAt (now script) at) × (opAt (now script) at ≤ 4) ⌝ }
+    ensures { λ _. ⌜ ((journal : List ℕ) → now (part .exit) ≡ encoded (answer (state (now (image .entry)) journal) (callAt (now (script .entry)) at))) ⌝ }
+{
+    if script[at] == 1 {
+        super::answers::check(image, part);
+        return;
+    }
+    if script[at] == 2 {
+        super::answers::lookup(script, at, image, part);
+        return;
+    }
+    if script[at] == 3 {
+        super::answers::read(script, at, image, part);
+        return;
+    }
+    super::answers::look_in_place(script, at, image, part);
+}
+
+// Make the change or undo of the item at `at`.
+fn change(script: &[u8], at: usize, image: &mut [u8], journal: &mut [u8], part: &mut [u8])
+    requires { ⌜ (Item (now script) at (now part)) × (5 ≤ opAt (now script) at) × (opAt (now script) at ≤ 8) ⌝ }
+    ensures { λ _. ⌜ Made (state (now (image .entry)) (now (journal .entry))) (callAt (now (script .entry)) at) (now (image .exit)) (now (journal .exit)) (now (part .exit)) ⌝ }
+{
+    if script[at] == 5 {
+        create(script, at, image, journal, part);
+        return;
+    }
+    if script[at] == 6 {
+        write(script, at, image, journal, part);
+        return;
+    }
+    if script[at] == 7 {
+        delete(script, at, image, journal, part);
+        return;
+    }
+    undo(image, journal, part);
+}
+
+// Make the call of the item at `at`.
+fn make(script: &[u8], at: usize, image: &mut [u8], journal: &mut [u8], part: &mut [u8])
+    requires { ⌜ (Item (now script) at (now part)) × (1 ≤ opAt (now script) at) × (opAt (now script) at ≤ 8) ⌝ }
+    ensures { λ _. ⌜ Made (state (now (image .entry)) (now (journal .entry))) (callAt (now (script .entry)) at) (now (image .exit)) (now (journal .exit)) (now (part .exit)) ⌝ }
+{
+    if script[at] <= 4 {
+        look(script, at, image, part);
+        return;
+    }
+    change(script, at, image, journal, part);
+}
+
+// Makes the calls of a script of the right form, whose answers have room.
+fn execute(script: &[u8], image: &mut [u8], journal: &mut [u8], out: &mut [u8])
+    requires { ⌜ (every (itemOk (now script)) (itemsFrom (now script) 0) ≡ true) × (answersSize (callsOf (now script)) ≤ length (now out)) ⌝ }
+    ensures { λ _. ⌜ (state (now (image .exit)) (now (journal .exit)) ≡ run (state (now (image .entry)) (now (journal .entry))) (callsOf (now (script .entry)))) × (now (out .exit) ≡ splice (now (out .entry)) 0 (joined encoded (answers (state (now (image .entry)) (now (journal .entry))) (callsOf (now (script .entry)))))) ⌝ }
+{
+    let mut at = 0;
+    let mut q = 0;
+    while at < script.len() {
+        let size = super::script::item_size(script, at);
+        let r = q + super::script::answer_size(script, at);
+        make(script, at, image, journal, &mut out[q..r]);
+        at = at + size;
+        q = r;
+    }
+}
+
+// Runs a script: makes its calls in order and writes their answers to `out`. 1 if the script is not of the right form, 2 if `out` is too short;
+// a refused script changes nothing.
+pub fn run(script: &[u8], image: &mut [u8], journal: &mut [u8], out: &mut [u8]) -> u32
+    ensures outcome { λ r. ⌜ leaves r (now (image .exit)) (now (journal .exit)) (now (out .exit)) ≡ outcome (state (now (image .entry)) (now (journal .entry))) (now (script .entry)) (now (out .entry)) ⌝ }
+    ensures replay { λ r. ⌜ (Fresh (now (image .entry)) (now (journal .entry)) → leaves r (now (image .exit)) (now (journal .exit)) (now (out .exit)) ≡ replayOutcome (state (now (image .entry)) (now (journal .entry))) (now (script .entry)) (now (out .entry))) ⌝ }
+{
+    if !super::script::well_formed(script) {
+        return 1;
+    }
+    if !super::script::answers_fit(script, out.len()) {
+        return 2;
+    }
+    execute(script, image, journal, out);
+    0
+}

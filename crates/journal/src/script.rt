@@ -1,0 +1,113 @@
+// Scripts of calls: the fields of an item, the form of a script, and the length of its answers.
+ghost use mathlib.Core.Path.{_≡_};
+ghost use mathlib.Core.Bool.{true};
+ghost use Prim.Native.Nat.{_+_, _≤_, _<_};
+ghost use lib.ListN.{length};
+ghost use lib.Dec.{leb};
+ghost use Rattle.layout.specs.Lists.{every};
+ghost use Rattle.journal.specs.Script.{Fits, be64, nameAt, dataAt, itemSize, callAt, itemOk, itemsFrom, callsOf, answerSize, answersSize};
+use layout::number::get32;
+
+// The number of the eight bytes at `at`.
+pub fn get64(s: &[u8], at: usize) -> u64
+    requires { ⌜ at + 8 ≤ length (now s) ⌝ }
+    ensures { λ r. ⌜ r ≡ be64 (now (s .entry)) at ⌝ }
+{
+    let high = get32(s, at);
+    let low = get32(s, at + 4);
+    high as u64 * 4294967296 + low as u64
+}
+
+// The length of the item at `at`, whose header is there.
+pub fn item_size(script: &[u8], at: usize) -> usize
+    requires { ⌜ at + 33 ≤ length (now script) ⌝ }
+    ensures { λ r. ⌜ r ≡ itemSize (now (script .entry)) at ⌝ }
+{
+    let name = get32(script, at + 25) as usize;
+    let bytes = get32(script, at + 29) as usize;
+    33 + name + bytes
+}
+
+// The name of the item at `at`.
+pub fn name_of(script: &[u8], at: usize) -> &[u8]
+    requires { ⌜ Fits (now script) at ⌝ }
+    ensures { λ r. ⌜ now r ≡ nameAt (now (script .entry)) at ⌝ }
+{
+    let a = at + 33;
+    let e = a + get32(script, at + 25) as usize;
+    &script[a..e]
+}
+
+// The data of the item at `at`.
+pub fn data_of(script: &[u8], at: usize) -> &[u8]
+    requires { ⌜ Fits (now script) at ⌝ }
+    ensures { λ r. ⌜ now r ≡ dataAt (now (script .entry)) at ⌝ }
+{
+    let a = at + 33 + get32(script, at + 25) as usize;
+    let e = a + get32(script, at + 29) as usize;
+    &script[a..e]
+}
+
+// Whether an item with a known op stands at `at`, and is not cut off.
+pub fn item_ok(script: &[u8], at: usize) -> bool
+    requires { ⌜ at < length (now script) ⌝ }
+    ensures { λ r. ⌜ r ≡ itemOk (now (script .entry)) at ⌝ }
+{
+    let left = script.len() - at;
+    if left < 33 {
+        return false;
+    }
+    if left < item_size(script, at) {
+        return false;
+    }
+    if script[at] < 1 {
+        return false;
+    }
+    script[at] <= 8
+}
+
+// The length of the answer to the item at `at`.
+pub fn answer_size(script: &[u8], at: usize) -> usize
+    requires { ⌜ Fits (now script) at ⌝ }
+    ensures { λ r. ⌜ r ≡ answerSize (callAt (now (script .entry)) at) ⌝ }
+{
+    if script[at] == 3 {
+        return 16 + get32(script, at + 29) as usize;
+    }
+    if script[at] == 4 {
+        return 528;
+    }
+    16
+}
+
+// Whether items fill a script exactly.
+pub fn well_formed(script: &[u8]) -> bool
+    ensures { λ r. ⌜ r ≡ every (itemOk (now (script .entry))) (itemsFrom (now (script .entry)) 0) ⌝ }
+{
+    let mut at = 0;
+    while at < script.len() {
+        if !item_ok(script, at) {
+            return false;
+        }
+        at = at + item_size(script, at);
+    }
+    true
+}
+
+// Whether the answers to a script have room in `room` bytes.
+pub fn answers_fit(script: &[u8], room: usize) -> bool
+    requires { ⌜ every (itemOk (now script)) (itemsFrom (now script) 0) ≡ true ⌝ }
+    ensures { λ r. ⌜ r ≡ leb (answersSize (callsOf (now (script .entry)))) room ⌝ }
+{
+    let mut at = 0;
+    let mut left = room;
+    while at < script.len() {
+        let size = answer_size(script, at);
+        if left < size {
+            return false;
+        }
+        left = left - size;
+        at = at + item_size(script, at);
+    }
+    true
+}

@@ -1,0 +1,61 @@
+-- Byte strings compared, padding, and good names.
+use Prim.Native.Nat.{ℕ, zero, suc, _≤_, _<_}
+use mathlib.Core.Bool.{true, _&&_, and-assoc, false≢true}
+use mathlib.Core.List.{List, [], _∷_, _++_}
+use mathlib.Core.Logic.{_≢_}
+use mathlib.Core.Path.{_≡_, refl, sym, ap}
+use native.Mathlib.Nat.{le-of-suc-le-suc, not-suc-le-zero, suc-ne-zero}
+use lib.Dec.{eqb}
+use lib.ListN.{length, getD, take, drop}
+use borrow.Author.Tests.{eqb-false, eqb-true, ne-eqb, not-true}
+use Rattle.layout.specs.Limits.{maxName}
+use Rattle.layout.specs.Lists.{within, every, same}
+use Rattle.layout.specs.Directory.{nameByte, goodName, unpadded}
+use Rattle.layout.proofs.Laws.Lists.{getD-in, every-in}
+use Rattle.layout.proofs.Laws.Tests.{and-split, and-join, within-split, eqb-self}
+
+pub same-eq : (x y : List ℕ) → same x y ≡ true → x ≡ y
+same-eq [] [] e = refl
+same-eq [] (y ∷ ys) e = absurd (false≢true e)
+same-eq (x ∷ xs) [] e = absurd (false≢true e)
+same-eq (x ∷ xs) (y ∷ ys) e =
+    let w = and-split (eqb x y) (same xs ys) e in
+    let p = eqb-true x y (w .0) in
+    let q = same-eq xs ys (w .1) in
+    rw (p, q)
+
+pub same-refl : (x : List ℕ) → same x x ≡ true
+same-refl [] = refl
+same-refl (x ∷ xs) = and-join (eqb-self x) (same-refl xs)
+
+-- against two strings one after the other
+pub same-append : (s a b : List ℕ) → length a ≤ length s → same s (a ++ b) ≡ same (take (length a) s) a && same (drop (length a) s) b
+same-append s [] b h = refl
+same-append [] (x ∷ xs) b h = absurd (not-suc-le-zero h)
+same-append (y ∷ s) (x ∷ xs) b h =
+    rw (same-append s xs b (le-of-suc-le-suc h)) (sym (and-assoc (eqb y x) (same (take (length xs) s) xs) (same (drop (length xs) s) b)))
+
+-- the bytes before the first zero
+pub take-unpadded : (f : List ℕ) → take (length (unpadded f)) f ≡ unpadded f
+take-unpadded [] = refl
+take-unpadded (zero ∷ xs) = refl
+take-unpadded (suc x ∷ xs) = ap (λ (l : List ℕ). suc x ∷ l) (take-unpadded xs)
+
+pub unpadded-bytes : (f : List ℕ) → every nameByte (unpadded f) ≡ true
+unpadded-bytes [] = refl
+unpadded-bytes (zero ∷ xs) = refl
+unpadded-bytes (suc x ∷ xs) = rw (ne-eqb (suc x) 0 (suc-ne-zero x)) (unpadded-bytes xs)
+
+-- a good name has 1 to 79 bytes, none of them 0
+pub goodName-split : (name : List ℕ) → goodName name ≡ true → (1 ≤ length name) × (length name ≤ maxName) × (every nameByte name ≡ true)
+unfolding goodName
+goodName-split name e =
+    let a = and-split (within 1 maxName (length name)) (every nameByte name) e in
+    let b = within-split 1 maxName (length name) (a .0) in
+    (b .0, b .1, a .1)
+
+pub goodName-length : (name : List ℕ) → goodName name ≡ true → length name ≤ maxName
+goodName-length name e = goodName-split name e .1
+
+pub goodName-byte : (name : List ℕ) (i : ℕ) → goodName name ≡ true → i < length name → getD name i 0 ≢ 0
+goodName-byte name i e h = eqb-false _ _ (not-true _ (every-in nameByte name (getD name i 0) (goodName-split name e .2) (getD-in name i 0 h)))

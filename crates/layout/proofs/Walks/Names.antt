@@ -1,0 +1,146 @@
+-- The loops over bytes and over the field of a name, at index i.
+use Prim.Native.Nat.{ℕ, zero, suc, _+_, _-_, _≤_, _<_}
+use mathlib.Core.Bool.{true, false, _&&_, and-false}
+use mathlib.Core.List.{List, [], _∷_}
+use mathlib.Core.Path.{_≡_, refl, sym, ap, _∙_}
+use native.Mathlib.Nat.{suc-ne-zero}
+use native.Mathlib.Numerals.{add-one}
+use native.Mathlib.Omega.{arith}
+use lib.Dec.{eqb}
+use lib.ListN.{length, getD, drop, replicate, length-drop}
+use lib.Seq.{drop-cons, drop-length}
+use borrow.Author.Tests.{eq-eqb, le-leb, lt-leb, ne-eqb}
+use Rattle.layout.specs.Limits.{maxName}
+use Rattle.layout.specs.Lists.{every, same}
+use Rattle.layout.specs.Bytes.{zeros}
+use Rattle.layout.specs.Directory.{nameByte, goodName, unpadded}
+use Rattle.layout.specs.Walks.Entries.{fieldOk, allZero}
+use Rattle.layout.proofs.Laws.Names.{same-refl, same-append, take-unpadded, unpadded-bytes}
+
+pub same-lengths : (a b : List ℕ) → (length a ≡ length b → ⊥) → same a b ≡ false
+same-lengths [] [] h = absurd (h refl)
+same-lengths [] (y ∷ ys) h = refl
+same-lengths (x ∷ xs) [] h = refl
+same-lengths (x ∷ xs) (y ∷ ys) h = rw (same-lengths xs ys (λ e. h (ap suc e)), and-false)
+
+pub same-end : (a b : List ℕ) → length a ≡ length b → same (drop (length a) a) (drop (length a) b) ≡ true
+same-end a b e = rw (drop-length a, e, drop-length b)
+
+pub same-next : (a b : List ℕ) (i : ℕ) → i < length a → i < length b
+    → same (drop i a) (drop i b) ≡ eqb (getD a i 0) (getD b i 0) && same (drop (i + 1) a) (drop (i + 1) b)
+same-next a b i ha hb = rw (drop-cons a i 0 ha, drop-cons b i 0 hb, add-one)
+
+pub allZero-next : (s : List ℕ) (i : ℕ) → i < length s → allZero (drop i s) ≡ eqb (getD s i 0) 0 && allZero (drop (i + 1) s)
+unfolding allZero
+allZero-next s i h = rw (drop-cons s i 0 h, add-one)
+
+pub allZero-end : (s : List ℕ) → allZero (drop (length s) s) ≡ true
+unfolding allZero
+allZero-end s = rw drop-length
+
+pub allZero-same : (s : List ℕ) → allZero s ≡ same s (replicate (length s) 0)
+unfolding allZero
+allZero-same [] = refl
+allZero-same (x ∷ xs) = rw (allZero-same xs)
+
+-- the bytes before the first zero
+nonzero : (x : ℕ) (xs : List ℕ) → (x ≡ 0 → ⊥) → unpadded (x ∷ xs) ≡ x ∷ unpadded xs
+nonzero zero xs h = absurd (h refl)
+nonzero (suc x) xs h = refl
+
+module _ (f : List ℕ) (i : ℕ) (h : i < length f) where
+  pub unpadded-end : getD f i 0 ≡ 0 → unpadded (drop i f) ≡ []
+  unpadded-end z = rw (drop-cons f i 0 h, z)
+
+  pub unpadded-next : (getD f i 0 ≡ 0 → ⊥) → unpadded (drop i f) ≡ getD f i 0 ∷ unpadded (drop (i + 1) f)
+  unpadded-next z = rw (drop-cons f i 0 h, add-one) (nonzero (getD f i 0) (drop (suc i) f) z)
+
+module _ (f : List ℕ) where
+  pub fieldOk-empty : length (unpadded f) ≡ 0 → fieldOk f ≡ false
+  unfolding fieldOk goodName
+  fieldOk-empty e = rw (lt-leb 1 (length (unpadded f)) (omega arith))
+
+  pub fieldOk-long : maxName < length (unpadded f) → fieldOk f ≡ false
+  unfolding fieldOk goodName
+  fieldOk-long h = rw (le-leb 1 (length (unpadded f)) (omega arith), lt-leb (length (unpadded f)) maxName h)
+
+  pub fieldOk-rest : length f ≡ 80 → (length (unpadded f) ≡ 0 → ⊥) → length (unpadded f) ≤ maxName → fieldOk f ≡ allZero (drop (length (unpadded f)) f)
+  unfolding fieldOk goodName zeros
+  fieldOk-rest e h g =
+      let r : 80 - length (unpadded f) ≡ length (drop (length (unpadded f)) f) = simp length-drop (omega arith) in
+      rw (le-leb 1 (length (unpadded f)) (omega arith), le-leb (length (unpadded f)) maxName g, unpadded-bytes f)
+      (same-append f (unpadded f) (replicate (80 - length (unpadded f)) 0) (omega arith) ∙ rw (take-unpadded f, same-refl (unpadded f), r, allZero-same))
+
+-- two fields' names, by the bytes
+heads-differ : (x y : ℕ) (xs ys : List ℕ) → (x ≡ y → ⊥) → same (unpadded (x ∷ xs)) (unpadded (y ∷ ys)) ≡ false
+heads-differ zero zero xs ys h = absurd (h refl)
+heads-differ zero (suc y) xs ys h = refl
+heads-differ (suc x) zero xs ys h = refl
+heads-differ (suc x) (suc y) xs ys h = rw (ne-eqb (suc x) (suc y) h)
+
+heads-agree : (x : ℕ) (xs ys : List ℕ) → (x ≡ 0 → ⊥) → same (unpadded (x ∷ xs)) (unpadded (x ∷ ys)) ≡ same (unpadded xs) (unpadded ys)
+heads-agree zero xs ys h = absurd (h refl)
+heads-agree (suc x) xs ys h = rw (eq-eqb (suc x) (suc x) refl)
+
+module _ (f g : List ℕ) (i : ℕ) (hf : i < length f) (hg : i < length g) where
+  pub names-differ : (getD f i 0 ≡ getD g i 0 → ⊥) → same (unpadded (drop i f)) (unpadded (drop i g)) ≡ false
+  names-differ h = rw (drop-cons f i 0 hf, drop-cons g i 0 hg) (heads-differ (getD f i 0) (getD g i 0) (drop (suc i) f) (drop (suc i) g) h)
+
+  pub names-end : getD f i 0 ≡ getD g i 0 → getD f i 0 ≡ 0 → same (unpadded (drop i f)) (unpadded (drop i g)) ≡ true
+  names-end e z = rw (drop-cons f i 0 hf, drop-cons g i 0 hg, ← e, z)
+
+  pub names-next : getD f i 0 ≡ getD g i 0 → (getD f i 0 ≡ 0 → ⊥)
+      → same (unpadded (drop i f)) (unpadded (drop i g)) ≡ same (unpadded (drop (i + 1) f)) (unpadded (drop (i + 1) g))
+  names-next e z = rw (drop-cons f i 0 hf, drop-cons g i 0 hg, ← e, add-one) (heads-agree (getD f i 0) (drop (suc i) f) (drop (suc i) g) z)
+
+pub names-all : (f g : List ℕ) (i : ℕ) → i ≡ length f → length f ≡ length g → same (unpadded (drop i f)) (unpadded (drop i g)) ≡ true
+names-all f g i e d = rw (e, drop-length f, d, drop-length g)
+
+-- a good name
+module _ (name : List ℕ) where
+  pub goodName-empty : length name < 1 → goodName name ≡ false
+  unfolding goodName
+  goodName-empty h = rw (lt-leb 1 (length name) h)
+
+  pub goodName-long : maxName < length name → goodName name ≡ false
+  unfolding goodName
+  goodName-long h = rw (le-leb 1 (length name) (omega arith), lt-leb (length name) maxName h)
+
+  pub goodName-bytes : 1 ≤ length name → length name ≤ maxName → goodName name ≡ every nameByte name
+  unfolding goodName
+  goodName-bytes h g = rw (le-leb 1 (length name) h, le-leb (length name) maxName g)
+
+  pub nameBytes-zero : (i : ℕ) → i < length name → getD name i 0 ≡ 0 → every nameByte (drop i name) ≡ false
+  nameBytes-zero i h z = rw (drop-cons name i 0 h, z)
+
+  pub nameBytes-next : (i : ℕ) → i < length name → (getD name i 0 ≡ 0 → ⊥) → every nameByte (drop i name) ≡ every nameByte (drop (i + 1) name)
+  nameBytes-next i h z = rw (drop-cons name i 0 h, ne-eqb (getD name i 0) 0 z, add-one)
+
+  pub nameBytes-end : (i : ℕ) → i ≡ length name → every nameByte (drop i name) ≡ true
+  nameBytes-end i e = rw (e, drop-length name)
+
+-- a field and a good name
+start-differs : (x y : ℕ) (xs ys : List ℕ) → (x ≡ y → ⊥) → same (unpadded (x ∷ xs)) (y ∷ ys) ≡ false
+start-differs zero y xs ys h = refl
+start-differs (suc x) y xs ys h = rw (ne-eqb (suc x) y h)
+
+start-agrees : (x : ℕ) (xs ys : List ℕ) → (x ≡ 0 → ⊥) → same (unpadded (x ∷ xs)) (x ∷ ys) ≡ same (unpadded xs) ys
+start-agrees zero xs ys h = absurd (h refl)
+start-agrees (suc x) xs ys h = rw (eq-eqb (suc x) (suc x) refl)
+
+start-ends : (x : ℕ) (xs : List ℕ) → same (unpadded (x ∷ xs)) [] ≡ eqb x 0
+start-ends zero xs = refl
+start-ends (suc x) xs = sym (ne-eqb (suc x) 0 (suc-ne-zero x))
+
+module _ (f name : List ℕ) (i : ℕ) (hf : i < length f) where
+  pub holds-differ : i < length name → (getD f i 0 ≡ getD name i 0 → ⊥) → same (unpadded (drop i f)) (drop i name) ≡ false
+  holds-differ hn h = rw (drop-cons f i 0 hf, drop-cons name i 0 hn) (start-differs (getD f i 0) (getD name i 0) (drop (suc i) f) (drop (suc i) name) h)
+
+  pub holds-next : i < length name → getD f i 0 ≡ getD name i 0 → (getD name i 0 ≡ 0 → ⊥)
+      → same (unpadded (drop i f)) (drop i name) ≡ same (unpadded (drop (i + 1) f)) (drop (i + 1) name)
+  holds-next hn e z = rw (drop-cons f i 0 hf, drop-cons name i 0 hn, e, add-one) (start-agrees (getD name i 0) (drop (suc i) f) (drop (suc i) name) z)
+
+  pub holds-end : i ≡ length name → same (unpadded (drop i f)) (drop i name) ≡ eqb (getD f i 0) 0
+  holds-end e =
+      let d : drop i name ≡ [] = ap (λ (j : ℕ). drop j name) e ∙ drop-length name in
+      rw (drop-cons f i 0 hf, d) (start-ends (getD f i 0) (drop (suc i) f))

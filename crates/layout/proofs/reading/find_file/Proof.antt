@@ -1,0 +1,33 @@
+use mathlib.Core.Path.{_≡_, refl, ap, sym, _∙_, subst}
+use mathlib.Core.List.{List}
+use Prim.Native.Nat.{ℕ}
+use native.Mathlib.Omega.{arith}
+use Rattle.layout.specs.Geometry.{blockCount}
+use Rattle.layout.specs.Directory.{fileSlot}
+use Rattle.layout.specs.Walks.Slots.{Stands}
+use Rattle.layout.proofs.Walks.Shapes.{sound-shape, sound-root, sound-directory}
+use Rattle.layout.proofs.reading.find_file.Statement.{statement}
+use Rattle.layout.proofs.reading.find_file.Tie as tie
+
+add-first : tie.Need-add-first
+add-first c = omega arith
+
+add-first-2 : tie.Need-add-first-2
+add-first-2 c = omega arith
+
+number-at-requires : tie.Need-number-at-requires
+number-at-requires c κs =
+    let h = sound-shape (c .before .before .args .image .now) (c .before .before .pre .0) in
+    (omega arith, omega arith)
+
+find-requires : tie.Need-find-requires
+find-requires c κs = (sound-directory (c .before .before .before .args .image .now) (c .before .before .before .pre .0) _ (c .number-at .ensures), c .before .before .before .pre .1, c .before .before .before .pre .2)
+
+returns : tie.Need-returns
+returns c =
+    let s = c .before .before .before .before .args .image .now in
+    subst (λ (ds : List ℕ). Stands ds (blockCount s) (fileSlot s ds (c .before .before .before .before .args .name .now)) (c .find .result .slot) (c .find .result .block)) (sound-root s (c .before .before .before .before .pre .0) _ (c .before .number-at .ensures)) (c .find .ensures)
+
+pub find-file-spec : {M : Type 1} → statement M
+find-file-spec =
+    tie.close (tie.spec add-first add-first-2 number-at-requires find-requires returns)

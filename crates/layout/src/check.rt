@@ -1,0 +1,152 @@
+// The check, in stages: the number of the first that is not met, or 0.
+ghost use Prim.Native.Nat.{_+_, _-_, _*_, _/_, _≤_, _<_};
+ghost use mathlib.Core.Path.{_≡_};
+ghost use lib.ListN.{length};
+ghost use Rattle.layout.specs.Limits.{maxBlocks};
+ghost use Rattle.layout.specs.Table.{next, chain};
+ghost use Rattle.layout.specs.Check.{check, stage1, stage2, stage7};
+ghost use Rattle.layout.specs.Walks.Shapes.{Shape, Room, DirectoryAt};
+ghost use Rattle.layout.specs.Walks.Stages.{headerOk, countsOk, followTable, headStage, bodyStage};
+use super::limits::MAX_BLOCKS;
+use super::limits::MIN_BLOCKS;
+use super::number::get32;
+
+// Stage 1: the length.
+pub fn sized(image: &[u8]) -> bool
+    ensures { λ r. ⌜ r ≡ stage1 (now (image .entry)) ⌝ }
+{
+    let n = image.len() / 512;
+    if image.len() != 512 * n {
+        return false;
+    }
+    if n < MIN_BLOCKS {
+        return false;
+    }
+    n <= MAX_BLOCKS
+}
+
+// Stage 2, of the first block: signature and version.
+fn signed(header: &[u8]) -> bool
+    requires { ⌜ 512 ≤ length (now header) ⌝ }
+    ensures { λ r. ⌜ r ≡ stage2 (now (header .entry)) ⌝ }
+{
+    let a = 0;
+    let e = 12;
+    super::bytes::equal(&header[a..e], b"BulgeFS!\x00\x01\x00\x00")
+}
+
+// Stage 3, of the first block: total, table and root numbers.
+fn numbered(header: &[u8], n: usize) -> bool
+    requires { ⌜ (512 ≤ length (now header)) × (n ≤ maxBlocks) ⌝ }
+    ensures { λ r. ⌜ r ≡ headerOk (now (header .entry)) n ⌝ }
+{
+    if get32(header, 12) as usize != n {
+        return false;
+    }
+    let t = (n + 127) / 128;
+    if get32(header, 16) as usize != t {
+        return false;
+    }
+    get32(header, 28) as usize == t + 1
+}
+
+// Stages 1 to 3.
+fn head(image: &[u8]) -> u32
+    ensures { λ r. ⌜ r ≡ headStage (now (image .entry)) ⌝ }
+{
+    if !sized(image) {
+        return 1;
+    }
+    let n = image.len() / 512;
+    let a = 0;
+    let e = 512;
+    if !signed(&image[a..e]) {
+        return 2;
+    }
+    if !numbered(&image[a..e], n) {
+        return 3;
+    }
+    0
+}
+
+// Stage 6, when the root's chain is marked: the files' chains, the table's first entries, and the others.
+fn table_ok(image: &[u8], t: usize, n: usize, first: usize, d: usize, marks: &mut [u8]) -> bool
+    requires { ⌜ (Room (now image) t n (now marks)) × (DirectoryAt (now image) n first d) ⌝ }
+    ensures { λ r. ⌜ r ≡ followTable (now (image .entry)) t n (chain (next (now (image .entry))) first d) d (now (marks .entry)) ⌝ }
+{
+    if !super::directory::follow_files(image, t, n, first, d, marks) {
+        return false;
+    }
+    let low = t + 1;
+    if !super::table::ones(image, low) {
+        return false;
+    }
+    let count = 128 * t - low;
+    super::table::rest_free(image, marks, low, count)
+}
+
+// The header's counts, of the first block.
+fn counted(header: &[u8], n: usize, used: usize) -> bool
+    requires { ⌜ (512 ≤ length (now header)) × (used ≤ n) ⌝ }
+    ensures { λ r. ⌜ r ≡ countsOk (now (header .entry)) n used ⌝ }
+{
+    if get32(header, 20) as usize != used {
+        return false;
+    }
+    get32(header, 24) as usize == n - used
+}
+
+// Stage 7: the counts.
+fn counts_ok(image: &[u8], n: usize) -> bool
+    requires { ⌜ Shape (now image) n ⌝ }
+    ensures { λ r. ⌜ r ≡ stage7 (now (image .entry)) ⌝ }
+{
+    let used = super::table::count_used(image, n);
+    let a = 0;
+    let e = 512;
+    counted(&image[a..e], n, used)
+}
+
+// Stages 4 to 7, with room for a mark for each block.
+fn body(image: &[u8], n: usize, marks: &mut [u8]) -> u32
+    requires { ⌜ (Shape (now image) n) × (length (now marks) ≡ maxBlocks) ⌝ }
+    ensures { λ r. ⌜ r ≡ bodyStage (now (image .entry)) ⌝ }
+{
+    let t = (n + 127) / 128;
+    let root = t + 1;
+    super::bytes::clear(marks);
+    if !super::directory::directory_ok(image, t, n, root, root, marks) {
+        return 4;
+    }
+    let d = super::directory::number_at(image, root, 0, 12);
+    if !super::directory::entries_ok(image, n, root, d) {
+        return 5;
+    }
+    if !table_ok(image, t, n, root, d, marks) {
+        return 6;
+    }
+    if !counts_ok(image, n) {
+        return 7;
+    }
+    0
+}
+
+fn check_with(image: &[u8], marks: &mut [u8]) -> u32
+    requires { ⌜ length (now marks) ≡ maxBlocks ⌝ }
+    ensures { λ r. ⌜ r ≡ check (now (image .entry)) ⌝ }
+{
+    let h = head(image);
+    if h != 0 {
+        return h;
+    }
+    let n = image.len() / 512;
+    body(image, n, marks)
+}
+
+// The check: 0, or the number of the first stage that is not met.
+pub fn check(image: &[u8]) -> u32
+    ensures { λ r. ⌜ r ≡ check (now (image .entry)) ⌝ }
+{
+    let mut marks = [0u8; MAX_BLOCKS];
+    check_with(image, &mut marks)
+}

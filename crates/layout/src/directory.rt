@@ -1,0 +1,406 @@
+// Directories and their entries. The work on one entry is given the 512 bytes of its block.
+ghost use Prim.Native.Nat.{_+_, _-_, _*_, _≤_, _<_};
+ghost use mathlib.Core.Bool.{_&&_, _||_, not, true};
+ghost use mathlib.Core.Path.{_≡_};
+ghost use lib.Dec.{eqb};
+ghost use lib.ListN.{length};
+ghost use Rattle.layout.specs.Limits.{maxName};
+ghost use Rattle.layout.specs.Lists.{same};
+ghost use Rattle.layout.specs.Bytes.{be32};
+ghost use Rattle.layout.specs.Table.{next, chain};
+ghost use Rattle.layout.specs.Directory.{slotAt, typeOf, isFile, nameOf, unpadded, goodName, fileSlot, freeSlot};
+ghost use Rattle.layout.specs.Check.{slotOk, entriesOk};
+ghost use Rattle.layout.specs.Walks.Chains.{walked};
+ghost use Rattle.layout.specs.Walks.Entries.{numbersOk, selfOk};
+ghost use Rattle.layout.specs.Walks.Shapes.{Room, DirectoryAt};
+ghost use Rattle.layout.specs.Walks.Slots.{Place, Stands, entryAt, slotBlock, slotsOk, nameIn, namesApart};
+ghost use Rattle.layout.specs.Walks.Stages.{followSlot, followFiles, followDirectory};
+use super::limits::MAX_DIRECTORY;
+use super::limits::NAME_FIELD;
+use super::number::get32;
+
+// The block of slot k, if b is that of slot k − 1.
+pub fn following(image: &[u8], b: usize, k: usize) -> usize
+    requires { ⌜ 512 + 4 * b + 4 ≤ length (now image) ⌝ }
+    ensures { λ r. ⌜ r ≡ slotBlock (next (now (image .entry))) b k ⌝ }
+{
+    if k % 4 == 0 {
+        return super::table::entry(image, b);
+    }
+    b
+}
+
+// Whether a type is a file's.
+pub fn is_file(ty: u8) -> bool
+    ensures { λ r. ⌜ r ≡ isFile ty ⌝ }
+{
+    if ty < 0x60 {
+        return false;
+    }
+    ty <= 0x9F
+}
+
+// Whether the numbers of the file at o are right.
+pub fn numbers_ok(block: &[u8], o: usize) -> bool
+    requires { ⌜ o + 128 ≤ length (now block) ⌝ }
+    ensures { λ r. ⌜ r ≡ numbersOk (now (block .entry)) o ⌝ }
+{
+    if get32(block, o + 32) != 0 {
+        return false;
+    }
+    if get32(block, o + 36) != 0 {
+        return false;
+    }
+    let size = get32(block, o + 8) as usize;
+    let blocks = get32(block, o + 12) as usize;
+    if blocks != (size + 511) / 512 {
+        return false;
+    }
+    if get32(block, o + 4) == 0 {
+        return size == 0;
+    }
+    size != 0
+}
+
+// Whether the slot at o of a directory's block is free or a good file.
+pub fn slot_ok(block: &[u8], o: usize) -> bool
+    requires { ⌜ o + 128 ≤ length (now block) ⌝ }
+    ensures { λ r. ⌜ r ≡ slotOk (now (block .entry)) o ⌝ }
+{
+    if block[o] == 0 {
+        return true;
+    }
+    if !is_file(block[o]) {
+        return false;
+    }
+    let a = o + 48;
+    let e = a + NAME_FIELD;
+    if !super::bytes::name_ok(&block[a..e]) {
+        return false;
+    }
+    numbers_ok(block, o)
+}
+
+// Whether the slot at o of a directory's block is a file of the name in a field.
+pub fn slot_named(block: &[u8], o: usize, field: &[u8]) -> bool
+    requires { ⌜ (o + 128 ≤ length (now block)) × (length (now field) ≡ 80) ⌝ }
+    ensures { λ r. ⌜ r ≡ isFile (typeOf (now (block .entry)) o) && same (unpadded (now (field .entry))) (nameOf (now (block .entry)) o) ⌝ }
+{
+    if !is_file(block[o]) {
+        return false;
+    }
+    let a = o + 48;
+    let e = a + NAME_FIELD;
+    super::bytes::same_name(field, &block[a..e])
+}
+
+// Whether the entry at the start of block b is its self entry.
+pub fn self_ok(block: &[u8], b: usize, parent: usize) -> bool
+    requires { ⌜ 128 ≤ length (now block) ⌝ }
+    ensures { λ r. ⌜ r ≡ selfOk (now (block .entry)) 0 b parent ⌝ }
+{
+    if block[0] != 1 {
+        return false;
+    }
+    if get32(block, 4) as usize != b {
+        return false;
+    }
+    if get32(block, 8) as usize != parent {
+        return false;
+    }
+    let d = get32(block, 12);
+    if d < 1 {
+        return false;
+    }
+    d <= MAX_DIRECTORY
+}
+
+// The slots of an image, by the block b that holds slot k: its type, a number of its entry, whether it is right, whether it is a file of a name.
+pub fn type_of(block: &[u8], o: usize) -> u8
+    requires { ⌜ o < length (now block) ⌝ }
+    ensures { λ r. ⌜ r ≡ typeOf (now (block .entry)) o ⌝ }
+{
+    block[o]
+}
+
+pub fn type_at(image: &[u8], b: usize, k: usize) -> u8
+    requires { ⌜ 512 * b + 512 ≤ length (now image) ⌝ }
+    ensures { λ r. ⌜ r ≡ typeOf (now (image .entry)) (entryAt b k) ⌝ }
+{
+    let o = 128 * (k % 4);
+    let a = 512 * b;
+    let e = a + 512;
+    type_of(&image[a..e], o)
+}
+
+pub fn word_at(image: &[u8], b: usize, k: usize, at: usize) -> u32
+    requires { ⌜ (512 * b + 512 ≤ length (now image)) × (at + 4 ≤ 128) ⌝ }
+    ensures { λ r. ⌜ r ≡ be32 (now (image .entry)) (entryAt b k + at) ⌝ }
+{
+    let o = 128 * (k % 4) + at;
+    let a = 512 * b;
+    let e = a + 512;
+    get32(&image[a..e], o)
+}
+
+pub fn number_at(image: &[u8], b: usize, k: usize, at: usize) -> usize
+    requires { ⌜ (512 * b + 512 ≤ length (now image)) × (at + 4 ≤ 128) ⌝ }
+    ensures { λ r. ⌜ r ≡ be32 (now (image .entry)) (entryAt b k + at) ⌝ }
+{
+    word_at(image, b, k, at) as usize
+}
+
+pub fn slot_ok_at(image: &[u8], b: usize, k: usize) -> bool
+    requires { ⌜ 512 * b + 512 ≤ length (now image) ⌝ }
+    ensures { λ r. ⌜ r ≡ slotOk (now (image .entry)) (entryAt b k) ⌝ }
+{
+    let o = 128 * (k % 4);
+    let a = 512 * b;
+    let e = a + 512;
+    slot_ok(&image[a..e], o)
+}
+
+pub fn named_at(image: &[u8], b: usize, k: usize, field: &[u8]) -> bool
+    requires { ⌜ (512 * b + 512 ≤ length (now image)) × (length (now field) ≡ 80) ⌝ }
+    ensures { λ r. ⌜ r ≡ isFile (typeOf (now (image .entry)) (entryAt b k))
+        && same (unpadded (now (field .entry))) (nameOf (now (image .entry)) (entryAt b k)) ⌝ }
+{
+    let o = 128 * (k % 4);
+    let a = 512 * b;
+    let e = a + 512;
+    slot_named(&image[a..e], o, field)
+}
+
+// Whether each slot from 1 to 4·d − 2 of a directory is right, and the last is the end.
+pub fn slots_ok(image: &[u8], n: usize, first: usize, d: usize) -> bool
+    requires { ⌜ DirectoryAt (now image) n first d ⌝ }
+    ensures { λ r. ⌜ r ≡ slotsOk (now (image .entry)) (chain (next (now (image .entry))) first d) 1 (4 * d - 2)
+        && eqb (typeOf (now (image .entry)) (slotAt (chain (next (now (image .entry))) first d) (4 * d - 1))) 0xFF ⌝ }
+{
+    let mut b = first;
+    let mut k = 1;
+    let mut left = 4 * d - 2;
+    while 0 < left {
+        if !slot_ok_at(image, b, k) {
+            return false;
+        }
+        k = k + 1;
+        b = following(image, b, k);
+        left = left - 1;
+    }
+    type_at(image, b, k) == 0xFF
+}
+
+// Whether one of the `left` slots from k on, the first of them in block b, is a file of the name in a field.
+pub fn taken(
+    image: &[u8],
+    n: usize,
+    first: usize,
+    d: usize,
+    field: &[u8],
+    b: usize,
+    k: usize,
+    left: usize,
+) -> bool
+    requires { ⌜ (DirectoryAt (now image) n first d) × (Place (chain (next (now image)) first d) d b k left) × (length (now field) ≡ 80) ⌝ }
+    ensures { λ r. ⌜ r ≡ nameIn (now (image .entry)) (chain (next (now (image .entry))) first d) (unpadded (now (field .entry))) k left ⌝ }
+{
+    let mut c = b;
+    let mut i = k;
+    let mut rest = left;
+    while 0 < rest {
+        if named_at(image, c, i, field) {
+            return true;
+        }
+        i = i + 1;
+        c = following(image, c, i);
+        rest = rest - 1;
+    }
+    false
+}
+
+// Whether slot k, in block b, is no file, or none of the `left` − 1 slots after it is a file of its name.
+pub fn alone(
+    image: &[u8],
+    n: usize,
+    first: usize,
+    d: usize,
+    b: usize,
+    k: usize,
+    left: usize,
+) -> bool
+    requires { ⌜ (DirectoryAt (now image) n first d) × (Place (chain (next (now image)) first d) d b k left) × (0 < left) ⌝ }
+    ensures { λ r. ⌜ r ≡ not (isFile (typeOf (now (image .entry)) (entryAt b k)))
+        || not (nameIn (now (image .entry)) (chain (next (now (image .entry))) first d) (nameOf (now (image .entry)) (entryAt b k)) (k + 1) (left - 1)) ⌝ }
+{
+    if !is_file(type_at(image, b, k)) {
+        return true;
+    }
+    let a = 512 * b + 128 * (k % 4) + 48;
+    let e = a + NAME_FIELD;
+    let i = k + 1;
+    let c = following(image, b, i);
+    let rest = left - 1;
+    !taken(image, n, first, d, &image[a..e], c, i, rest)
+}
+
+// Whether no two files of a directory have the same name.
+pub fn names_apart(image: &[u8], n: usize, first: usize, d: usize) -> bool
+    requires { ⌜ DirectoryAt (now image) n first d ⌝ }
+    ensures { λ r. ⌜ r ≡ namesApart (now (image .entry)) (chain (next (now (image .entry))) first d) 1 (4 * d - 2) ⌝ }
+{
+    let mut b = first;
+    let mut k = 1;
+    let mut left = 4 * d - 2;
+    while 0 < left {
+        if !alone(image, n, first, d, b, k, left) {
+            return false;
+        }
+        k = k + 1;
+        b = following(image, b, k);
+        left = left - 1;
+    }
+    true
+}
+
+// Whether the entries of a directory are right.
+pub fn entries_ok(image: &[u8], n: usize, first: usize, d: usize) -> bool
+    requires { ⌜ DirectoryAt (now image) n first d ⌝ }
+    ensures { λ r. ⌜ r ≡ entriesOk (now (image .entry)) (chain (next (now (image .entry))) first d) ⌝ }
+{
+    if !slots_ok(image, n, first, d) {
+        return false;
+    }
+    names_apart(image, n, first, d)
+}
+
+// Follows the chain of the file in slot k, which is in block b, if there is one, and marks its blocks.
+pub fn follow_slot(image: &[u8], t: usize, n: usize, b: usize, k: usize, marks: &mut [u8]) -> bool
+    requires { ⌜ (Room (now image) t n (now marks)) × (b < n) ⌝ }
+    ensures { λ r. ⌜ walked r (now (marks .exit)) ≡ followSlot (now (image .entry)) n (entryAt b k) (now (marks .entry)) ⌝ }
+{
+    if !is_file(type_at(image, b, k)) {
+        return true;
+    }
+    let first = number_at(image, b, k, 4);
+    let blocks = number_at(image, b, k, 12);
+    super::table::follow(image, t, n, first, blocks, marks)
+}
+
+// Follows the chains of a directory's files.
+pub fn follow_files(
+    image: &[u8],
+    t: usize,
+    n: usize,
+    first: usize,
+    d: usize,
+    marks: &mut [u8],
+) -> bool
+    requires { ⌜ (Room (now image) t n (now marks)) × (DirectoryAt (now image) n first d) ⌝ }
+    ensures { λ r. ⌜ walked r (now (marks .exit))
+        ≡ followFiles (now (image .entry)) n (chain (next (now (image .entry))) first d) 1 (4 * d - 2) (now (marks .entry)) ⌝ }
+{
+    let mut b = first;
+    let mut k = 1;
+    let mut left = 4 * d - 2;
+    while 0 < left {
+        if !follow_slot(image, t, n, b, k, marks) {
+            return false;
+        }
+        k = k + 1;
+        b = following(image, b, k);
+        left = left - 1;
+    }
+    true
+}
+
+// Whether a directory starts at block b: its self entry, and its chain, whose blocks it marks.
+pub fn directory_ok(
+    image: &[u8],
+    t: usize,
+    n: usize,
+    b: usize,
+    parent: usize,
+    marks: &mut [u8],
+) -> bool
+    requires { ⌜ (Room (now image) t n (now marks)) × (b < n) ⌝ }
+    ensures { λ r. ⌜ walked r (now (marks .exit)) ≡ followDirectory (now (image .entry)) n b parent (now (marks .entry)) ⌝ }
+{
+    let a = 512 * b;
+    let e = a + 512;
+    if !self_ok(&image[a..e], b, parent) {
+        return false;
+    }
+    let d = number_at(image, b, 0, 12);
+    super::table::follow(image, t, n, b, d, marks)
+}
+
+// Whether the slot at o of a directory's block is a file of a good name.
+pub fn slot_holds(block: &[u8], o: usize, name: &[u8]) -> bool
+    requires { ⌜ (o + 128 ≤ length (now block)) × (goodName (now name) ≡ true) × (length (now name) ≤ maxName) ⌝ }
+    ensures { λ r. ⌜ r ≡ isFile (typeOf (now (block .entry)) o) && same (nameOf (now (block .entry)) o) (now (name .entry)) ⌝ }
+{
+    if !is_file(block[o]) {
+        return false;
+    }
+    let a = o + 48;
+    let e = a + NAME_FIELD;
+    super::bytes::holds_name(&block[a..e], name)
+}
+
+pub fn holds_at(image: &[u8], b: usize, k: usize, name: &[u8]) -> bool
+    requires { ⌜ (512 * b + 512 ≤ length (now image)) × (goodName (now name) ≡ true) × (length (now name) ≤ maxName) ⌝ }
+    ensures { λ r. ⌜ r ≡ isFile (typeOf (now (image .entry)) (entryAt b k)) && same (nameOf (now (image .entry)) (entryAt b k)) (now (name .entry)) ⌝ }
+{
+    let o = 128 * (k % 4);
+    let a = 512 * b;
+    let e = a + 512;
+    slot_holds(&image[a..e], o, name)
+}
+
+// Where an entry is: its slot and the block that holds it. Slot 0: there is none.
+pub struct Entry {
+    pub slot: usize,
+    pub block: usize,
+}
+
+// The file of a good name in a directory.
+pub fn find(image: &[u8], n: usize, first: usize, d: usize, name: &[u8]) -> Entry
+    requires { ⌜ (DirectoryAt (now image) n first d) × (goodName (now name) ≡ true) × (length (now name) ≤ maxName) ⌝ }
+    ensures { λ r. ⌜ Stands (chain (next (now (image .entry))) first d) n (fileSlot (now (image .entry)) (chain (next (now (image .entry))) first d) (now (name .entry))) (r .slot) (r .block) ⌝ }
+{
+    let mut b = first;
+    let mut k = 1;
+    let mut left = 4 * d - 2;
+    while 0 < left {
+        if holds_at(image, b, k, name) {
+            return Entry { slot: k, block: b };
+        }
+        k = k + 1;
+        b = following(image, b, k);
+        left = left - 1;
+    }
+    Entry { slot: 0, block: 0 }
+}
+
+// The lowest free slot of a directory.
+pub fn find_free(image: &[u8], n: usize, first: usize, d: usize) -> Entry
+    requires { ⌜ DirectoryAt (now image) n first d ⌝ }
+    ensures { λ r. ⌜ Stands (chain (next (now (image .entry))) first d) n (freeSlot (now (image .entry)) (chain (next (now (image .entry))) first d)) (r .slot) (r .block) ⌝ }
+{
+    let mut b = first;
+    let mut slot = 1;
+    let mut left = 4 * d - 2;
+    while 0 < left {
+        if type_at(image, b, slot) == 0 {
+            return Entry {
+                slot: slot,
+                block: b,
+            };
+        }
+        slot = slot + 1;
+        b = following(image, b, slot);
+        left = left - 1;
+    }
+    Entry { slot: 0, block: 0 }
+}

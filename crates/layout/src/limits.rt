@@ -1,0 +1,14 @@
+// The limits of the layout, each named once. The definitions have them in specs/Limits.antt.
+
+// An image has 3 to 4,096 blocks.
+pub const MIN_BLOCKS: usize = 3;
+
+pub const MAX_BLOCKS: usize = 4096;
+
+// A directory has 1 to 64 blocks.
+pub const MAX_DIRECTORY: u32 = 64;
+
+// A name has 1 to 79 bytes, in a field of 80.
+pub const MAX_NAME: usize = 79;
+
+pub const NAME_FIELD: usize = 80;

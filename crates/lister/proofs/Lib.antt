@@ -1,0 +1,4 @@
+mod Bounds
+mod Digits
+mod Lines
+mod Pieces

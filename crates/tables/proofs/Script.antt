@@ -1,0 +1,46 @@
+-- The example of docs/SCRIPT.md, as antt computes it: the script's answers, and a script that is refused.
+use Prim.Native.Nat.{ℕ}
+use mathlib.Core.List.{List, [], _∷_, _++_}
+use lib.Dec.{T}
+use lib.ListN.{replicate, take}
+use Rattle.layout.specs.Lists.{every, same}
+use Rattle.journal.specs.Journal.{started}
+use Rattle.journal.specs.Run.{State}
+use Rattle.journal.specs.Script.{be64, nameAt, dataAt, callAt, itemOk, itemsFrom, callsFrom, encoded, answerSize, answersSize, scriptRefusal, Outcome, given, outcome}
+use Rattle.tables.proofs.Rules.{rules}
+use Rattle.tables.proofs.Samples.{formattedAs, samples}
+
+-- a header: op and the four bytes after it; low bytes of offset and time, and of the two lengths; the other bytes are 0
+header : List ℕ → ℕ → ℕ → ℕ → ℕ → List ℕ
+header first offset time name bytes =
+    first ++ (replicate 4 0 ++ (replicate 7 0 ++ (offset ∷ (replicate 7 0 ++ (time ∷ (replicate 3 0 ++ (name ∷ (replicate 3 0 ++ (bytes ∷ [])))))))))
+
+pub script : List ℕ
+script =
+    (header (5 ∷ 0x60 ∷ 1 ∷ 2 ∷ 7 ∷ []) 0 100 1 0 ++ (65 ∷ []))
+    ++ ((header (6 ∷ 0 ∷ 0 ∷ 0 ∷ 0 ∷ []) 0 101 1 3 ++ (65 ∷ 97 ∷ 98 ∷ 99 ∷ []))
+    ++ ((header (3 ∷ 0 ∷ 0 ∷ 0 ∷ 0 ∷ []) 1 0 1 4 ++ (65 ∷ 255 ∷ 255 ∷ 255 ∷ 255 ∷ []))
+    ++ header (8 ∷ 0 ∷ 0 ∷ 0 ∷ 0 ∷ []) 0 0 0 0))
+
+pub told : List ℕ
+told =
+    replicate 7 0 ++ (1 ∷ 0 ∷ 0 ∷ 2 ∷ 8 ∷ replicate 4 0)
+    ++ (replicate 10 0 ++ (8 ∷ 0x14 ∷ replicate 4 0)
+    ++ (replicate 7 0 ++ (2 ∷ replicate 8 0) ++ (0x62 ∷ 0x63 ∷ 255 ∷ 255 ∷ [])
+    ++ (replicate 10 0 ++ (8 ∷ 0x14 ∷ replicate 4 0))))
+
+start : State
+start = record { image = formattedAs 16 2; journal = started 2593 }
+
+pub table : List (List ℕ × List ℕ)
+table =
+    let o = outcome start script (replicate 70 9) in
+    (o .number ∷ [], 0 ∷ [])
+    ∷ (o .out, told ++ (9 ∷ 9 ∷ []))
+    -- the last item cut off; no room for the last byte
+    ∷ (outcome start (take 141 script) (replicate 70 9) .number ∷ outcome start script (replicate 67 9) .number ∷ [], 1 ∷ 2 ∷ [])
+    ∷ []
+
+pub example-holds : T (every (λ row. same (row .0) (row .1)) table)
+unfolding table header script told start samples be64 nameAt dataAt callAt itemOk itemsFrom callsFrom encoded answerSize answersSize scriptRefusal given outcome rules Rattle.journal.specs.Script.numbers
+example-holds = tt

@@ -1,0 +1,130 @@
+-- A write, step by step: the blocks taken, the data put and the entry told anew give writeAt.
+use Prim.Native.Nat.{ℕ, _+_, _-_, _*_, _≤_, _<_}
+use mathlib.Core.Path.{_≡_, refl, sym, ap, _∙_}
+use mathlib.Core.Bool.{Bool, true}
+use mathlib.Core.List.{List, [], _∷_, _++_}
+use mathlib.Core.Logic.{inl, inr, ⊎-elim}
+use native.Mathlib.Omega.{arith}
+use lib.ListN.{length, take}
+use borrow.Author.Tests.{lt-ltb}
+use Rattle.layout.specs.Lists.{every, lastOr}
+use Rattle.layout.specs.Bytes.{be32}
+use Rattle.layout.specs.Geometry.{blockCount, blocksFor, inVolume}
+use Rattle.layout.specs.Table.{next, chain, freeBlocks}
+use Rattle.layout.specs.Directory.{slotAt, typeOf, blocksOf, isFile, fileSlot, root, fileBlocks}
+use Rattle.layout.specs.Check.{check}
+use Rattle.layout.specs.Looks.{entryOf}
+use Rattle.layout.specs.Walks.Slots.{entryAt}
+use Rattle.volume.specs.Entries.{grown}
+use Rattle.volume.specs.Write.{newSize, newBlocks, put, setFile, writeAt, writeRefusal}
+use Rattle.volume.specs.Walks.Data.{Placed}
+use Rattle.volume.specs.Walks.Searches.{Growable}
+use Rattle.volume.specs.Walks.Writes.{Planned}
+use Rattle.volume.proofs.Laws.Accepted.{WriteGiven, write-given, named-slot}
+use Rattle.volume.proofs.Laws.Frame.{put-length}
+use Rattle.volume.proofs.Laws.Lists.{last-in}
+use Rattle.volume.proofs.Laws.Owners.{file-used}
+use Rattle.volume.proofs.Laws.Space.{free-count, all-above, all-below, all-length, all-size, last-below}
+use Rattle.volume.proofs.Laws.Write.{larger-blocks, larger-length, first-small, few}
+use Rattle.layout.proofs.Laws.Tests.{and-join}
+use Rattle.layout.proofs.Laws.Lists.{In}
+use Rattle.layout.proofs.Laws.Counts.{occupied-most}
+use Rattle.layout.proofs.Laws.Sound.{dirSize, Sound, sound}
+use Rattle.layout.proofs.Walks.Shapes.{sound-shape}
+
+every-all : (p : ℕ → Bool) (xs : List ℕ) → ((x : ℕ) → In x xs → p x ≡ true) → every p xs ≡ true
+every-all p [] f = refl
+every-all p (x ∷ xs) f = and-join (f x (inl refl)) (every-all p xs (λ y i. f y (inr i)))
+
+module _ (s name : List ℕ) (offset : ℕ) (bytes : List ℕ) (ok : check s ≡ 0) (r : writeRefusal s name offset (length bytes) ≡ 0)
+    {slot b last taken start size blocks : ℕ} (p : Planned s (entryOf s name) offset (length bytes) slot b last taken start size blocks)
+  where
+    abbrev e : ℕ
+    e = entryOf s name
+
+    abbrev n : ℕ
+    n = blockCount s
+
+    abbrev old : List ℕ
+    old = fileBlocks s e
+
+    abbrev new : List ℕ
+    new = newBlocks s e offset (length bytes)
+
+    abbrev larger : List ℕ
+    larger = grown s n (lastOr 0 old) new
+
+    S : Sound s
+    S = sound s ok
+
+    given : WriteGiven s name offset (length bytes)
+    given = write-given s name offset (length bytes) r
+
+    abbrev k : ℕ
+    k = fileSlot s (root s) name
+
+    there : (1 ≤ k) × (k < 4 * dirSize s - 1) × (isFile (typeOf s (slotAt (root s) k)) ≡ true)
+    there = named-slot s name (given .there)
+
+    counted : be32 s 20 + length (freeBlocks (next s) n) ≡ n
+    counted = omega (arith, free-count s S, S .used-is, S .free-is, occupied-most (next s) n)
+
+    pub write-growable : Growable s n last taken
+    unfolding entryOf
+    write-growable =
+        record {
+          shape = sound-shape s ok;
+          inside = rw (p .behind) (last-below s S k (there .1) (there .2) offset (length bytes));
+          used = rw (p .behind) (λ pos. ⊎-elim (λ z. absurd (omega arith)) (λ i. file-used s S k (there .1) (there .2) (lastOr 0 old) i) (last-in old 0));
+          low = λ x h z. omega (arith, S .table .low x h);
+          enough = omega (arith, p .taking, given .room);
+          counted = omega (arith, counted, p .taking, given .room);
+        }
+
+    pub taken-is : grown s n last (take taken (freeBlocks (next s) n)) ≡ larger
+    unfolding newBlocks
+    taken-is = rw (p .behind, p .taking)
+
+    in-volume : (x : ℕ) → In x (old ++ new) → inVolume n x ≡ true
+    unfolding entryOf inVolume
+    in-volume x i =
+        and-join (lt-ltb _ _ (all-above s S k (there .1) (there .2) offset (length bytes) x i)) (lt-ltb _ _ (all-below s S k (there .1) (there .2) offset (length bytes) x i))
+
+    blocks-is : blocks ≡ blocksOf s e + length new
+    unfolding entryOf
+    blocks-is = p .number ∙ all-length s S k (there .1) (there .2) offset (length bytes)
+
+    size-is : blocks ≡ blocksFor size
+    unfolding entryOf
+    size-is = blocks-is ∙ all-size s S k (there .1) (there .2) offset (length bytes) (there .0) (given .room) ∙ ap blocksFor (sym (p .bytes))
+
+    chain-is : chain (next larger) start blocks ≡ old ++ new
+    unfolding entryOf
+    chain-is = rw (blocks-is, p .first) (larger-blocks s S k (there .0) (there .1) (there .2) offset bytes 0 (given .room))
+
+    length-is : length larger ≡ 512 * n
+    unfolding entryOf
+    length-is = larger-length s S k (there .0) (there .1) (there .2) offset bytes 0 (given .room)
+
+    module _ (t : List ℕ) (et : t ≡ grown s n last (take taken (freeBlocks (next s) n))) where
+      pub write-placed : Placed t n start blocks offset (length bytes)
+      unfolding newSize
+      write-placed =
+          rw (et, taken-is)
+          (record { whole = length-is; low = S .least; high = S .most; inside = rw chain-is (every-all (inVolume n) (old ++ new) in-volume); fits = omega (arith, size-is, p .bytes) })
+
+      module _ (u : List ℕ) (eu : u ≡ put t (chain (next t) start blocks) offset bytes) where
+        put-is : u ≡ put larger (old ++ new) offset bytes
+        put-is = eu ∙ rw (et, taken-is, chain-is)
+
+        pub write-settable : (512 * b + 512 ≤ length u) × (start < 4294967296) × (size < 4294967296) × (blocks < 4294967296)
+        unfolding entryOf
+        write-settable =
+            let l : length u ≡ 512 * n = ap length put-is ∙ put-length n (S .least) (old ++ new) larger offset bytes length-is (all-below s S k (there .1) (there .2) offset (length bytes)) in
+            let f : start < 4294967296 = rw (p .first) (first-small s S k (there .0) (there .1) (there .2) offset bytes 0 (given .room)) in
+            let m : blocks ≤ n = rw blocks-is (few s S k (there .0) (there .1) (there .2) offset bytes 0 (given .room)) in
+            (omega (arith, p .inside), f, omega (arith, size-is, S .most), omega (arith, S .most))
+
+        pub write-done : (time : ℕ) → setFile u (entryAt b slot) start size blocks time ≡ writeAt s e offset bytes time
+        unfolding writeAt
+        write-done time = rw (put-is, p .place, p .first, p .bytes, p .number)

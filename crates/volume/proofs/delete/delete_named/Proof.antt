@@ -1,0 +1,31 @@
+use mathlib.Core.Path.{_≡_, _∙_}
+use native.Mathlib.Omega.{arith}
+use Rattle.volume.specs.Delete.{deleteNamed}
+use borrow.Author.Needs.{needs}
+use Rattle.volume.proofs.delete.delete_named.Statement.{statement}
+use Rattle.volume.proofs.delete.delete_named.Tie as tie
+use Rattle.volume.specs.Walks.Marks.{marked}
+use Rattle.volume.proofs.Walks.Files.{entry-block, opened-blocks, opened-run}
+use Rattle.layout.proofs.Walks.Shapes.{sound-shape}
+
+locate-requires : tie.Need-locate-requires
+locate-requires c κs = search needs
+
+mark-requires : tie.Need-mark-requires
+mark-requires c κs =
+    let h = sound-shape (c .before .before .before .before .before .args .image .now) (c .before .before .before .before .before .pre .0) in
+    omega (arith, c .before .locate .ensures .inside, c .before .before .before .before .before .pre .2)
+
+mark-entries-requires : tie.Need-mark-entries-requires
+mark-entries-requires c κs = (opened-run (c .before .before .before .before .before .locate .ensures) (c .before .before .before .before .before .before .before .before .before .pre .1) (c .before .before .before .before .before .before .before .before .before .pre .0), omega (arith, c .before .before .before .before .before .before .before .before .before .pre .2))
+
+same-length : tie.Need-same-length
+same-length c = search needs
+
+returns : tie.Need-returns
+unfolding deleteNamed marked
+returns c = c .before .before .mark-entries .ensures ∙ rw (c .before .before .before .before .before .before .mark .ensures, opened-blocks (c .before .before .before .before .before .before .before .before .locate .ensures), entry-block (c .before .before .before .before .before .before .before .before .locate .ensures))
+
+pub delete-named-spec : {M : Type 1} → statement M
+delete-named-spec =
+    tie.close (tie.spec locate-requires mark-requires mark-entries-requires same-length returns)

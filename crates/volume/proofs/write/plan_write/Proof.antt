@@ -1,0 +1,48 @@
+use native.Mathlib.Omega.{arith}
+use borrow.Author.Needs.{needs}
+use Rattle.volume.proofs.Walks.Files.{opened-run}
+use Rattle.volume.proofs.Walks.Plan.{name-given, plan-sizes, room-given, planned}
+use Rattle.layout.proofs.Walks.Shapes.{sound-shape}
+use Rattle.volume.proofs.write.plan_write.Statement.{statement}
+use Rattle.volume.proofs.write.plan_write.Tie as tie
+
+locate-requires : tie.Need-locate-requires
+locate-requires c κs = (c .before .before .pre .0, name-given _ _ _ _ (c .before .before .pre .1))
+
+needed-requires : tie.Need-needed-requires
+needed-requires c κs =
+    let z = plan-sizes _ _ _ _ (c .before .before .before .pre .0) (c .before .before .before .pre .1) (c .locate .ensures) in
+    (z .0, omega arith, z .2, omega arith)
+
+last-block-requires : tie.Need-last-block-requires
+last-block-requires c κs = opened-run (c .before .locate .ensures) (name-given _ _ _ _ (c .before .before .before .before .pre .1)) (c .before .before .before .before .pre .0)
+
+start-block-requires : tie.Need-start-block-requires
+start-block-requires c κs =
+    let h = sound-shape _ (c .before .before .before .before .before .pre .0) in
+    (omega arith, room-given _ _ _ _ (c .before .before .before .before .before .pre .0) (c .before .before .before .before .before .pre .1) (c .before .before .locate .ensures) _ (c .before .needed .ensures))
+
+add-larger : tie.Need-add-larger
+add-larger c = omega (arith, plan-sizes _ _ _ _ (c .before .before .before .before .before .before .pre .0) (c .before .before .before .before .before .before .pre .1) (c .before .before .before .locate .ensures))
+
+larger-requires : tie.Need-larger-requires
+larger-requires c κs = search needs
+
+add-t14 : tie.Need-add-t14
+add-t14 c = omega (arith, plan-sizes _ _ _ _ (c .before .before .before .before .before .before .before .pre .0) (c .before .before .before .before .before .before .before .pre .1) (c .before .before .before .before .locate .ensures), c .before .before .before .needed .ensures)
+
+returns : tie.Need-returns
+returns c = planned _ _ _ _ (c .before .before .before .before .before .before .before .pre .0) (c .before .before .before .before .before .before .before .pre .1) (c .before .before .before .before .locate .ensures) _ (c .before .before .before .needed .ensures) _ _ _ (c .before .before .last-block .ensures) (c .before .start-block .ensures) (c .larger .ensures)
+
+pub plan-write-spec : {M : Type 1} → statement M
+plan-write-spec =
+    tie.close
+    (tie.spec
+    locate-requires
+    needed-requires
+    last-block-requires
+    start-block-requires
+    add-larger
+    larger-requires
+    add-t14
+    returns)

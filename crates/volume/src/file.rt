@@ -1,0 +1,115 @@
+// The file of a name: its entry, found and written. The work on an entry is given the 512 bytes of its block.
+ghost use mathlib.Core.Path.{_≡_};
+ghost use mathlib.Core.List.{_++_};
+ghost use Prim.Native.Nat.{_+_, _*_, _≤_, _<_};
+ghost use lib.ListN.{length};
+ghost use Rattle.layout.specs.Bytes.{zeros, splice};
+ghost use Rattle.layout.specs.Check.{check};
+ghost use Rattle.layout.specs.Looks.{nameRefusal};
+ghost use Rattle.volume.specs.Write.{setFile};
+use super::number::put32;
+use super::number::put64;
+use layout::directory::number_at;
+ghost use Rattle.volume.specs.Walks.Files.{Opened};
+ghost use Rattle.layout.specs.Walks.Slots.{entryAt};
+
+// Where a file's entry is, and its numbers.
+pub struct File {
+    pub slot: usize,
+    pub block: usize,
+    pub first: usize,
+    pub size: usize,
+    pub blocks: usize,
+}
+
+// The refusal of a name, 9 or 10, or 0.
+pub fn name_refusal(image: &[u8], name: &[u8]) -> u32
+    requires { ⌜ check (now image) ≡ 0 ⌝ }
+    ensures { λ r. ⌜ r ≡ nameRefusal (now (image .entry)) (now (name .entry)) ⌝ }
+{
+    if !layout::bytes::good_name(name) {
+        return 9;
+    }
+    let f = layout::reading::find_file(image, name);
+    if f.slot == 0 {
+        return 10;
+    }
+    0
+}
+
+// The file of a name that is there.
+pub fn locate(image: &[u8], name: &[u8]) -> File
+    requires { ⌜ (check (now image) ≡ 0) × (nameRefusal (now image) (now name) ≡ 0) ⌝ }
+    ensures { λ r. ⌜ Opened (now (image .entry)) (now (name .entry)) (r .slot) (r .block) (r .first) (r .size) (r .blocks) ⌝ }
+{
+    let f = layout::reading::find_file(image, name);
+    let k = f.slot;
+    let b = f.block;
+    let first = number_at(image, b, k, 4);
+    let size = number_at(image, b, k, 8);
+    let blocks = number_at(image, b, k, 12);
+    File {
+        slot: k,
+        block: b,
+        first: first,
+        size: size,
+        blocks: blocks,
+    }
+}
+
+// Zeroes the `count` bytes at `at`.
+pub fn clear_part(s: &mut [u8], at: usize, count: usize)
+    requires { ⌜ at + count ≤ length (now s) ⌝ }
+    ensures { λ _. ⌜ now (s .exit) ≡ splice (now (s .entry)) at (zeros count) ⌝ }
+{
+    let e = at + count;
+    layout::bytes::clear(&mut s[at..e]);
+}
+
+// Zeroes slot k, which is in block b.
+pub fn clear_slot(image: &mut [u8], b: usize, k: usize)
+    requires { ⌜ 512 * b + 512 ≤ length (now image) ⌝ }
+    ensures { λ _. ⌜ now (image .exit) ≡ splice (now (image .entry)) (entryAt b k) (zeros 128) ⌝ }
+{
+    let o = 128 * (k % 4);
+    let a = 512 * b;
+    let e = a + 512;
+    clear_part(&mut image[a..e], o, 128);
+}
+
+// Writes the numbers and the modified time of the file at o of a directory's block.
+fn put_file(block: &mut [u8], o: usize, first: u32, size: u32, blocks: u32, time: u64)
+    requires { ⌜ o + 128 ≤ length (now block) ⌝ }
+    ensures { λ _. ⌜ now (block .exit) ≡ setFile (now (block .entry)) o first size blocks time ⌝ }
+{
+    put32(block, o + 4, first);
+    put32(block, o + 8, size);
+    put32(block, o + 12, blocks);
+    put64(block, o + 24, time);
+}
+
+// The same for the file in slot k, which is in block b.
+pub fn set_file(
+    image: &mut [u8],
+    b: usize,
+    k: usize,
+    first: usize,
+    size: usize,
+    blocks: usize,
+    time: u64,
+)
+    requires { ⌜ (512 * b + 512 ≤ length (now image)) × (first < 4294967296) × (size < 4294967296) × (blocks < 4294967296) ⌝ }
+    ensures { λ _. ⌜ now (image .exit) ≡ setFile (now (image .entry)) (entryAt b k) first size blocks time ⌝ }
+{
+    let o = 128 * (k % 4);
+    let a = 512 * b;
+    let e = a + 512;
+    put_file(
+        &mut image[a..e],
+        o,
+        first as u32,
+        size as u32,
+        blocks as u32,
+        time,
+    );
+}

@@ -1,0 +1,172 @@
+// Write, on an image that the caller has checked.
+ghost use mathlib.Core.Path.{_≡_};
+ghost use mathlib.Core.List.{_++_};
+ghost use Prim.Native.Nat.{_+_, _-_, _*_, _≤_, _<_, max};
+ghost use lib.ListN.{length, getD, take};
+ghost use Rattle.layout.specs.Lists.{lastOr};
+ghost use Rattle.layout.specs.Geometry.{blocksFor};
+ghost use Rattle.layout.specs.Table.{next, chain, freeBlocks};
+ghost use Rattle.layout.specs.Check.{check};
+ghost use Rattle.layout.specs.Looks.{entryOf};
+ghost use Rattle.layout.specs.Walks.Shapes.{ChainBelow};
+ghost use Rattle.volume.specs.Write.{writeRefusal, writeAt, written, writeNamed};
+ghost use Rattle.volume.specs.Walks.Marks.{marked};
+ghost use Rattle.volume.specs.Walks.Writes.{Planned};
+
+// The larger of two numbers.
+fn larger(a: usize, b: usize) -> usize
+    ensures { λ r. ⌜ r ≡ max a b ⌝ }
+{
+    if a < b { b } else { a }
+}
+
+// How many blocks `count` bytes at an offset need beyond those of a file.
+fn needed(size: usize, blocks: usize, offset: usize, count: usize) -> usize
+    requires { ⌜ (offset ≤ size) × (size < 4294967296) × (count ≤ 4096) × (blocks ≤ blocksFor size) ⌝ }
+    ensures { λ r. ⌜ r ≡ blocksFor (max size (offset + count)) - blocks ⌝ }
+{
+    let end = larger(size, offset + count);
+    (end + 511) / 512 - blocks
+}
+
+// The refusal, 9, 10, 12 or 14, or 0.
+pub fn write_refusal(image: &[u8], name: &[u8], offset: usize, count: usize) -> u32
+    requires { ⌜ check (now image) ≡ 0 ⌝ }
+    ensures { λ r. ⌜ r ≡ writeRefusal (now (image .entry)) (now (name .entry)) offset count ⌝ }
+{
+    if 4096 < count {
+        return 9;
+    }
+    let refusal = super::file::name_refusal(image, name);
+    if refusal != 0 {
+        return refusal;
+    }
+    let f = super::file::locate(image, name);
+    let size = f.size;
+    let blocks = f.blocks;
+    if size < offset {
+        return 12;
+    }
+    if super::table::header_number(image, 24) < needed(size, blocks, offset, count) {
+        return 14;
+    }
+    0
+}
+
+// The last block of a chain; 0: it has none.
+fn last_block(image: &[u8], n: usize, first: usize, blocks: usize) -> usize
+    requires { ⌜ ChainBelow (now image) n first blocks ⌝ }
+    ensures { λ r. ⌜ r ≡ lastOr 0 (chain (next (now (image .entry))) first blocks) ⌝ }
+{
+    if blocks == 0 {
+        return 0;
+    }
+    layout::table::nth(image, n, first, blocks, blocks - 1)
+}
+
+// The first block of a chain that takes k blocks more; 0: it has none.
+fn start_block(image: &[u8], n: usize, first: usize, blocks: usize, k: usize) -> usize
+    requires { ⌜ (512 + 4 * n ≤ length (now image)) × (k ≤ length (freeBlocks (next (now image)) n)) ⌝ }
+    ensures { λ r. ⌜ r ≡ getD (chain (next (now (image .entry))) first blocks ++ take k (freeBlocks (next (now (image .entry))) n)) 0 0 ⌝ }
+{
+    if blocks != 0 {
+        return first;
+    }
+    if k == 0 {
+        return 0;
+    }
+    super::table::next_free(image, 0, n)
+}
+
+// What an accepted write does: where the entry is, the block to link behind, and the file's numbers after it.
+struct Plan {
+    slot: usize,
+    block: usize,
+    last: usize,
+    taken: usize,
+    start: usize,
+    size: usize,
+    blocks: usize,
+}
+
+// The plan of an accepted write.
+fn plan_write(image: &[u8], name: &[u8], offset: usize, count: usize) -> Plan
+    requires { ⌜ (check (now image) ≡ 0) × (writeRefusal (now image) (now name) offset count ≡ 0) ⌝ }
+    ensures { λ r. ⌜ Planned (now (image .entry)) (entryOf (now (image .entry)) (now (name .entry))) offset count (r .slot) (r .block) (r .last) (r .taken) (r .start) (r .size) (r .blocks) ⌝ }
+{
+    let f = super::file::locate(image, name);
+    let first = f.first;
+    let size = f.size;
+    let blocks = f.blocks;
+    let n = image.len() / 512;
+    let k = needed(size, blocks, offset, count);
+    let last = last_block(image, n, first, blocks);
+    let start = start_block(image, n, first, blocks, k);
+    let end = larger(size, offset + count);
+    Plan {
+        slot: f.slot,
+        block: f.block,
+        last: last,
+        taken: k,
+        start: start,
+        size: end,
+        blocks: blocks + k,
+    }
+}
+
+// An accepted write: takes the blocks needed, puts the data and tells the entry anew.
+pub fn write(image: &mut [u8], name: &[u8], offset: usize, bytes: &[u8], time: u64)
+    requires { ⌜ (check (now image) ≡ 0) × (writeRefusal (now image) (now name) offset (length (now bytes)) ≡ 0) ⌝ }
+    ensures { λ _. ⌜ now (image .exit) ≡ writeAt (now (image .entry)) (entryOf (now (image .entry)) (now (name .entry))) offset (now (bytes .entry)) time ⌝ }
+{
+    let p = plan_write(image, name, offset, bytes.len());
+    let n = image.len() / 512;
+    super::table::grow(image, n, p.last, p.taken);
+    super::data::put_data(image, n, p.start, p.blocks, offset, bytes);
+    super::file::set_file(image, p.block, p.slot, p.start, p.size, p.blocks, time);
+}
+
+// Marks the blocks that hold one of `count` bytes written at an offset, of the chain of k blocks from `first` on.
+fn mark_written(
+    image: &[u8],
+    n: usize,
+    first: usize,
+    k: usize,
+    offset: usize,
+    count: usize,
+    marks: &mut [u8],
+)
+    requires { ⌜ (ChainBelow (now image) n first k) × (count ≤ 4096) × (length (now marks) ≡ 4096) ⌝ }
+    ensures { λ _. ⌜ now (marks .exit) ≡ marked (now (marks .entry)) (written (chain (next (now (image .entry))) first k) offset count) ⌝ }
+{
+    if count == 0 {
+        return;
+    }
+    super::marks::mark_part(
+        image,
+        n,
+        first,
+        k,
+        offset / 512,
+        (offset % 512 + count + 511) / 512,
+        marks,
+    );
+}
+
+// Marks the blocks that an accepted write names. Every block that is taken holds a written byte.
+pub fn write_named(image: &[u8], name: &[u8], offset: usize, count: usize, marks: &mut [u8])
+    requires { ⌜ (check (now image) ≡ 0) × (writeRefusal (now image) (now name) offset count ≡ 0) × (length (now marks) ≡ 4096) ⌝ }
+    ensures { λ _. ⌜ now (marks .exit) ≡ marked (now (marks .entry)) (writeNamed (now (image .entry)) (entryOf (now (image .entry)) (now (name .entry))) offset count) ⌝ }
+{
+    let f = super::file::locate(image, name);
+    let b = f.block;
+    let first = f.first;
+    let size = f.size;
+    let blocks = f.blocks;
+    let n = image.len() / 512;
+    let last = last_block(image, n, first, blocks);
+    let more = needed(size, blocks, offset, count);
+    super::marks::mark(marks, b);
+    mark_written(image, n, first, blocks, offset, count, marks);
+    super::marks::mark_grown(image, n, last, more, marks);
+}

@@ -1,0 +1,215 @@
+/*
+ * bulgefs.h - a verified settings volume (BulgeFS 0.1.0.0) with an undo journal.
+ *
+ * A volume is one run of bytes, the image: 512 * n bytes with n from 3 to
+ * 4,096, holding one directory of named files.  A journal is a second run of
+ * bytes.  Every accepted change adds one record to it, and bulgefs_undo takes
+ * the last change back, byte for byte.
+ *
+ * The library keeps nothing between calls: no handles, no allocation, no
+ * input or output, no global state.  Link libcapi.a.
+ *
+ * Buffers
+ *   The caller owns every buffer and lends it for the length of one call.
+ *   Buffers lent to the same call must not overlap.  A pointer may be NULL
+ *   only together with length 0.  Buffers need no alignment.
+ *
+ *   Apart from that there are no preconditions: every call accepts any bytes
+ *   at all in any buffer, and any length including 0.
+ *
+ * Answers
+ *   Every call but bulgefs_look_in_place answers a number: 0 (BULGEFS_OK) if
+ *   the call was accepted, otherwise one of the refusals below.  If several
+ *   refusals apply, the lowest is given.  A refused call changes no byte of
+ *   any buffer, and all other fields of its answer are 0.
+ */
+#ifndef BULGEFS_H
+#define BULGEFS_H
+
+#include <stddef.h>
+#include <stdint.h>
+
+#ifdef __cplusplus
+extern "C" {
+#endif
+
+/* Limits. */
+#define BULGEFS_BLOCK_SIZE         512u      /* bytes in a block                       */
+#define BULGEFS_MIN_BLOCKS         3u        /* blocks in the smallest image           */
+#define BULGEFS_MAX_BLOCKS         4096u     /* blocks in the largest image            */
+#define BULGEFS_MIN_ROOT_BLOCKS    1u        /* blocks of the smallest root directory  */
+#define BULGEFS_MAX_ROOT_BLOCKS    64u       /* blocks of the largest root directory   */
+#define BULGEFS_SLOTS_PER_BLOCK    4u        /* directory slots in a block             */
+#define BULGEFS_MAX_NAME           79u       /* bytes in the longest file name         */
+#define BULGEFS_VOLUME_NAME_SIZE   128u      /* bytes of a volume name, always         */
+#define BULGEFS_MAX_DATA           4096u     /* bytes that one write accepts           */
+#define BULGEFS_MIN_FILE_TYPE      0x60u     /* lowest type of a file                  */
+#define BULGEFS_MAX_FILE_TYPE      0x9Fu     /* highest type of a file                 */
+#define BULGEFS_MIN_JOURNAL        5u        /* bytes in the smallest journal          */
+#define BULGEFS_MAX_JOURNAL        4194304u  /* bytes in the largest journal           */
+
+/*
+ * Length of a journal record that saves k blocks.  A create saves 1 block; a
+ * write of BULGEFS_MAX_DATA bytes saves at most 20.
+ */
+#define BULGEFS_RECORD_SIZE(k)     (4u + 516u * (k))
+
+/* The number that a call answers. */
+enum bulgefs_number {
+    BULGEFS_OK              = 0,
+
+    /* The image is not sound; the number is the first stage of the check that fails. */
+    BULGEFS_BAD_LENGTH      = 1,  /* length is not 512 * n with n from 3 to 4,096      */
+    BULGEFS_BAD_SIGNATURE   = 2,  /* signature or version                              */
+    BULGEFS_BAD_GEOMETRY    = 3,  /* total blocks, table blocks or root block          */
+    BULGEFS_BAD_ROOT        = 4,  /* self entry or chain of the root directory         */
+    BULGEFS_BAD_DIRECTORY   = 5,  /* a slot of the root directory                      */
+    BULGEFS_BAD_CHAINS      = 6,  /* a file's chain, or another entry of the table     */
+    BULGEFS_BAD_COUNTS      = 7,  /* the header's counts of occupied and free blocks   */
+
+    /* The image is sound, but the call cannot be done. */
+    BULGEFS_BAD_JOURNAL     = 8,  /* the journal is not well formed                    */
+    BULGEFS_BAD_ARGUMENT    = 9,  /* bad name or type, too much data; see each call    */
+    BULGEFS_NOT_FOUND       = 10, /* no file of that name                              */
+    BULGEFS_NAME_TAKEN      = 11, /* create: a file of that name exists                */
+    BULGEFS_BAD_OFFSET      = 12, /* offset above the file's size                      */
+    BULGEFS_DIRECTORY_FULL  = 13, /* create: no free slot                              */
+    BULGEFS_VOLUME_FULL     = 14, /* fewer free blocks than needed                     */
+    BULGEFS_JOURNAL_FULL    = 15, /* the record does not fit into the journal          */
+    BULGEFS_NOTHING_TO_UNDO = 16  /* undo: the journal holds no record                 */
+};
+
+/* Sixteen bytes, handed over by value. */
+typedef struct { uint8_t bytes[16]; } bulgefs_uuid;
+
+/* A file: its slot in the directory, size in bytes and size in blocks. */
+typedef struct { uint32_t number, slot, size, blocks; } bulgefs_found;
+
+/* How many bytes of a buffer were filled. */
+typedef struct { uint32_t number, count; } bulgefs_filled;
+
+/* A part of the caller's image: offset of its first byte, and its length. */
+typedef struct { uint32_t start, length; } bulgefs_part;
+
+/* A created file's slot, and the length of the record added to the journal. */
+typedef struct { uint32_t number, slot, record; } bulgefs_created;
+
+/* The length of the record added to the journal, or taken back by an undo. */
+typedef struct { uint32_t number, record; } bulgefs_changed;
+
+/*
+ * Names
+ *   A file name is 1 to 79 bytes, none of them zero, handed over without a
+ *   terminating zero.  Names are equal when all their bytes are.  Every call
+ *   that takes a file name refuses a bad one with BULGEFS_BAD_ARGUMENT.
+ */
+
+/*
+ * Checks the whole image.  BULGEFS_OK means that the image is sound.
+ * Refusals: 1 to 7.
+ */
+uint32_t bulgefs_check(const uint8_t *image, size_t image_len);
+
+/*
+ * Makes an empty volume of the whole image and writes every byte of it.  The
+ * root directory gets root_blocks blocks, room for 4 * root_blocks - 2 files.
+ * time is stored as both times of the root.  The volume name is any 128 bytes.
+ * Refusals: BULGEFS_BAD_LENGTH; BULGEFS_BAD_ARGUMENT (root_blocks outside 1
+ * to 64, volume_name_len other than 128); BULGEFS_VOLUME_FULL (header, table
+ * and root do not fit into the image).
+ */
+uint32_t bulgefs_format(uint8_t *image, size_t image_len,
+                        uint32_t root_blocks, uint64_t time, bulgefs_uuid uuid,
+                        const uint8_t *volume_name, size_t volume_name_len);
+
+/*
+ * Finds a file.
+ * Refusals: 1 to 7, BULGEFS_BAD_ARGUMENT, BULGEFS_NOT_FOUND.
+ */
+bulgefs_found bulgefs_lookup(const uint8_t *image, size_t image_len,
+                             const uint8_t *name, size_t name_len);
+
+/*
+ * Copies a file's bytes from offset on into the buffer: as many as there are
+ * and fit, and answers how many.  The rest of the buffer stays as it is.
+ * Reading at offset = size is accepted and gives 0 bytes.
+ * Refusals: 1 to 7, BULGEFS_BAD_ARGUMENT, BULGEFS_NOT_FOUND,
+ * BULGEFS_BAD_OFFSET.
+ */
+bulgefs_filled bulgefs_read(const uint8_t *image, size_t image_len,
+                            const uint8_t *name, size_t name_len,
+                            uint64_t offset, uint8_t *buffer, size_t buffer_len);
+
+/*
+ * Tells where in the image a file's block lies, without copying: the file's
+ * bytes 512 * index up to 512 * index + length are image[start] up to
+ * image[start + length].  index counts from 0; the last block is cut at the
+ * file's end.  The part is empty, start and length 0, exactly if the image is
+ * not sound, the name is bad or not found, or index is not below the file's
+ * blocks; bulgefs_lookup tells which.
+ */
+bulgefs_part bulgefs_look_in_place(const uint8_t *image, size_t image_len,
+                                   const uint8_t *name, size_t name_len,
+                                   uint64_t index);
+
+/*
+ * Makes an empty journal of the whole buffer and writes every byte of it.
+ * Refusals: BULGEFS_BAD_JOURNAL (length outside 5 to 4,194,304).
+ */
+uint32_t bulgefs_journal_start(uint8_t *journal, size_t journal_len);
+
+/*
+ * Creates an empty file in the lowest free slot.  time becomes both times of
+ * the file.  Users, groups, permissions, flags and times are stored as given
+ * and never enforced.
+ * Refusals: 1 to 7, BULGEFS_BAD_JOURNAL, BULGEFS_BAD_ARGUMENT (also for a
+ * type outside 0x60 to 0x9F), BULGEFS_NAME_TAKEN, BULGEFS_DIRECTORY_FULL,
+ * BULGEFS_JOURNAL_FULL.
+ */
+bulgefs_created bulgefs_create(uint8_t *image, size_t image_len,
+                               uint8_t *journal, size_t journal_len,
+                               const uint8_t *name, size_t name_len,
+                               uint8_t type, uint8_t user, uint8_t group,
+                               uint8_t permissions, uint32_t flags, uint64_t time);
+
+/*
+ * Puts data into a file at offset; the file grows if the data reaches past
+ * its end, and never shrinks.  The modified time becomes time.  A write of no
+ * bytes is a change too: it sets the time and adds a record.
+ * Refusals: 1 to 7, BULGEFS_BAD_JOURNAL, BULGEFS_BAD_ARGUMENT (also for
+ * data_len above 4,096), BULGEFS_NOT_FOUND, BULGEFS_BAD_OFFSET,
+ * BULGEFS_VOLUME_FULL, BULGEFS_JOURNAL_FULL.
+ */
+bulgefs_changed bulgefs_write(uint8_t *image, size_t image_len,
+                              uint8_t *journal, size_t journal_len,
+                              const uint8_t *name, size_t name_len,
+                              uint64_t offset, const uint8_t *data, size_t data_len,
+                              uint64_t time);
+
+/*
+ * Deletes a file and frees its blocks.  The freed blocks keep their bytes.
+ * Refusals: 1 to 7, BULGEFS_BAD_JOURNAL, BULGEFS_BAD_ARGUMENT,
+ * BULGEFS_NOT_FOUND, BULGEFS_JOURNAL_FULL.
+ */
+bulgefs_changed bulgefs_delete(uint8_t *image, size_t image_len,
+                               uint8_t *journal, size_t journal_len,
+                               const uint8_t *name, size_t name_len);
+
+/*
+ * Takes the last change back: puts the blocks of the journal's last record
+ * into the image and removes the record.  Image and journal are then, byte
+ * for byte, what they were before that change; if the journal had bytes other
+ * than zero past its used part, those that the record covered are zero.
+ * The journal must be the image's own.  With a well-formed journal of another
+ * image the call still puts the recorded blocks back, and the image need not
+ * be sound afterwards.
+ * Refusals: 1 to 7, BULGEFS_BAD_JOURNAL, BULGEFS_NOTHING_TO_UNDO.
+ */
+bulgefs_changed bulgefs_undo(uint8_t *image, size_t image_len,
+                             uint8_t *journal, size_t journal_len);
+
+#ifdef __cplusplus
+}
+#endif
+
+#endif

@@ -1,0 +1,376 @@
+/*
+ * Calls every entry point with empty, tiny, random and damaged buffers and
+ * looks for any step outside them.
+ *
+ * Each case runs three times: with buffers from exact heap allocations, which
+ * AddressSanitizer watches; with buffers that end right before a page nobody
+ * may touch; and with buffers that begin right after one.  The pages also
+ * catch a library that was built without sanitizers, and buffers that a call
+ * may only read lie on pages that nobody may write.
+ */
+#define _DEFAULT_SOURCE
+
+#include "bulgefs.h"
+
+#include <stdbool.h>
+#include <stdio.h>
+#include <stdlib.h>
+#include <string.h>
+#include <sys/mman.h>
+#include <unistd.h>
+
+static unsigned long passed, failed;
+
+static void expect(bool good, const char *what)
+{
+    if (good) {
+        passed++;
+    } else {
+        failed++;
+        printf("FAILED %s\n", what);
+    }
+}
+
+/* ---- random numbers ---- */
+
+static uint64_t random_state = 20;
+
+static uint32_t random_below(uint32_t limit)
+{
+    random_state = random_state * 0x5D1F3A9B7C24E86Du + 0x1357;
+    return (uint32_t)((random_state >> 33) % limit);
+}
+
+static void fill_random(uint8_t *bytes, size_t len)
+{
+    for (size_t i = 0; i < len; i++)
+        bytes[i] = (uint8_t)random_below(256);
+}
+
+/* ---- buffers ---- */
+
+enum place { HEAP, PAGE_END, PAGE_START, PLACES };
+
+static enum place place;
+
+typedef struct {
+    uint8_t *at;        /* what the library is given       */
+    size_t len;
+    uint8_t *pages;     /* the mapping, or NULL on a heap  */
+    size_t mapped;
+    uint8_t *before;    /* copy of the content             */
+} buffer;
+
+static void *must_have(void *memory)
+{
+    if (memory == NULL || memory == MAP_FAILED) {
+        printf("out of memory\n");
+        exit(2);
+    }
+    return memory;
+}
+
+/* A buffer with this content.  An empty one may be NULL. */
+static buffer lend(const uint8_t *content, size_t len)
+{
+    buffer b = {NULL, len, NULL, 0, NULL};
+    size_t page = (size_t)sysconf(_SC_PAGESIZE);
+    if (len == 0 && random_below(2) == 0)
+        return b;
+    if (place == HEAP) {
+        b.at = must_have(malloc(len));
+    } else {
+        size_t inner = (len + page) / page * page;
+        b.mapped = inner + 2 * page;
+        b.pages = must_have(mmap(NULL, b.mapped, PROT_READ | PROT_WRITE,
+                                 MAP_PRIVATE | MAP_ANONYMOUS, -1, 0));
+        mprotect(b.pages, page, PROT_NONE);
+        mprotect(b.pages + page + inner, page, PROT_NONE);
+        b.at = b.pages + page + (place == PAGE_END ? inner - len : 0);
+    }
+    b.before = must_have(malloc(len + 1));
+    if (len > 0) {
+        memcpy(b.at, content, len);
+        memcpy(b.before, content, len);
+    }
+    return b;
+}
+
+/* The same, for a buffer that the library may only read. */
+static buffer lend_const(const uint8_t *content, size_t len)
+{
+    buffer b = lend(content, len);
+    if (b.pages != NULL)
+        mprotect(b.pages + sysconf(_SC_PAGESIZE), b.mapped - 2 * (size_t)sysconf(_SC_PAGESIZE),
+                 PROT_READ);
+    return b;
+}
+
+static bool unchanged(const buffer *b)
+{
+    return b->len == 0 || memcmp(b->at, b->before, b->len) == 0;
+}
+
+static void give_back(buffer *b)
+{
+    free(b->before);
+    if (b->pages != NULL)
+        munmap(b->pages, b->mapped);
+    else
+        free(b->at);
+}
+
+/* ---- one call of each kind ---- */
+
+/* What a case lends to the calls. */
+typedef struct {
+    const uint8_t *image, *journal, *name, *data;
+    size_t image_len, journal_len, name_len, data_len;
+    uint64_t offset;
+} material;
+
+/* Numbers that a call can answer, one bit each. */
+#define STAGES     0xFEu
+#define BIT(n)     (1u << (n))
+#define MAY(set, n) ((n) <= 16 && ((set) | 1u) >> (n) & 1u)
+
+static void call_looks(const material *m)
+{
+    buffer image = lend_const(m->image, m->image_len);
+    buffer name = lend_const(m->name, m->name_len);
+    buffer into = lend(m->data, m->data_len);
+
+    uint32_t number = bulgefs_check(image.at, image.len);
+    expect(MAY(STAGES, number), "check: number");
+
+    bulgefs_found f = bulgefs_lookup(image.at, image.len, name.at, name.len);
+    expect(MAY(STAGES | BIT(9) | BIT(10), f.number), "lookup: number");
+    expect(number == 0 || f.number == number, "lookup: stage");
+    expect(f.number == 0 || (f.slot | f.size | f.blocks) == 0, "lookup: zeros");
+
+    bulgefs_part part = bulgefs_look_in_place(image.at, image.len, name.at, name.len, m->offset);
+    expect((part.length > 0) == (f.number == 0 && m->offset < f.blocks), "look_in_place: part");
+    expect((uint64_t)part.start + part.length <= image.len, "look_in_place: inside the image");
+
+    bulgefs_filled r = bulgefs_read(image.at, image.len, name.at, name.len, m->offset,
+                                    into.at, into.len);
+    expect(f.number != 0 ? r.number == f.number : r.number == (m->offset > f.size ? 12 : 0),
+           "read: number");
+    expect(r.count <= into.len && (r.number == 0 || r.count == 0), "read: count");
+    expect(r.number == 0 || unchanged(&into), "read: refused without a change");
+
+    expect(unchanged(&image) && unchanged(&name), "looks: nothing changed");
+    give_back(&image);
+    give_back(&name);
+    give_back(&into);
+}
+
+static void settle(buffer *image, buffer *journal, uint32_t number, uint32_t rest, uint32_t set,
+                   const char *what)
+{
+    expect(MAY(set, number), what);
+    expect(number == 0 || rest == 0, what);
+    expect(number == 0 || (unchanged(image) && unchanged(journal)), what);
+    give_back(image);
+    give_back(journal);
+}
+
+static void call_changes(const material *m)
+{
+    const uint32_t common = STAGES | BIT(8) | BIT(15);
+    buffer name = lend_const(m->name, m->name_len);
+    buffer data = lend_const(m->data, m->data_len);
+
+    buffer image = lend(m->image, m->image_len);
+    buffer journal = lend(m->journal, m->journal_len);
+    bulgefs_created c = bulgefs_create(image.at, image.len, journal.at, journal.len, name.at,
+                                       name.len, 0x60, 1, 2, 3, 4, m->offset);
+    settle(&image, &journal, c.number, c.slot | c.record, common | BIT(9) | BIT(11) | BIT(13),
+           "create");
+
+    image = lend(m->image, m->image_len);
+    journal = lend(m->journal, m->journal_len);
+    bulgefs_changed w = bulgefs_write(image.at, image.len, journal.at, journal.len, name.at,
+                                      name.len, m->offset, data.at, data.len, 5);
+    settle(&image, &journal, w.number, w.record,
+           common | BIT(9) | BIT(10) | BIT(12) | BIT(14), "write");
+
+    image = lend(m->image, m->image_len);
+    journal = lend(m->journal, m->journal_len);
+    bulgefs_changed d = bulgefs_delete(image.at, image.len, journal.at, journal.len, name.at,
+                                       name.len);
+    settle(&image, &journal, d.number, d.record, common | BIT(9) | BIT(10), "delete");
+
+    image = lend(m->image, m->image_len);
+    journal = lend(m->journal, m->journal_len);
+    bulgefs_changed u = bulgefs_undo(image.at, image.len, journal.at, journal.len);
+    settle(&image, &journal, u.number, u.record, STAGES | BIT(8) | BIT(16), "undo");
+
+    expect(unchanged(&name) && unchanged(&data), "changes: name and data stay");
+    give_back(&name);
+    give_back(&data);
+}
+
+static const uint8_t volume_name[128] = "settings";
+
+static void call_format(const material *m, uint32_t root_blocks, const uint8_t *name,
+                        size_t name_len)
+{
+    bulgefs_uuid uuid = {{1, 2, 3}};
+    buffer image = lend(m->image, m->image_len);
+    buffer lent = lend_const(name, name_len);
+    uint32_t number = bulgefs_format(image.at, image.len, root_blocks, 5, uuid, lent.at, lent.len);
+    expect(MAY(BIT(1) | BIT(9) | BIT(14), number), "format: number");
+    expect(number == 0 ? bulgefs_check(image.at, image.len) == 0 : unchanged(&image),
+           "format: sound or unchanged");
+    expect(unchanged(&lent), "format: the name stays");
+    give_back(&image);
+    give_back(&lent);
+}
+
+static void call_makers(const material *m)
+{
+    call_format(m, (uint32_t)m->offset, m->name, m->name_len);
+    call_format(m, 1 + random_below(4), volume_name, sizeof volume_name);
+
+    buffer journal = lend(m->journal, m->journal_len);
+    uint32_t number = bulgefs_journal_start(journal.at, journal.len);
+    expect(number == (journal.len < 5 || journal.len > 4194304 ? 8 : 0), "start: number");
+    expect(number == 0 || unchanged(&journal), "start: refused without a change");
+    give_back(&journal);
+}
+
+static void call_all(const material *m)
+{
+    for (place = HEAP; place < PLACES; place++) {
+        call_looks(m);
+        call_changes(m);
+        call_makers(m);
+    }
+}
+
+/* ---- cases ---- */
+
+static const size_t lengths[] = {0, 1, 2, 3, 4, 5, 6, 31, 32, 79, 80, 127, 128, 129, 511, 512,
+                                 513, 525, 1024, 1535, 1536, 1537, 2048, 4096, 4097, 8192};
+enum { LENGTHS = sizeof lengths / sizeof lengths[0], MOST = 70000 };
+
+static size_t any_length(void)
+{
+    return lengths[random_below(LENGTHS)];
+}
+
+static uint64_t any_offset(void)
+{
+    static const uint64_t far[] = {511, 512, 513, 4096, 4294967295u, 4294967296u, UINT64_MAX};
+    return random_below(2) ? random_below(70) : far[random_below(7)];
+}
+
+/* Every length of one buffer, random lengths of the others, random bytes. */
+static void random_buffers(void)
+{
+    static uint8_t image[8192], journal[8192], name[8192], data[8192];
+    for (size_t i = 0; i < 8 * LENGTHS; i++) {
+        fill_random(image, sizeof image);
+        fill_random(journal, sizeof journal);
+        fill_random(name, sizeof name);
+        fill_random(data, sizeof data);
+        material m = {image, journal, name, data, any_length(), any_length(), any_length(),
+                      any_length(), any_offset()};
+        size_t *all[] = {&m.image_len, &m.journal_len, &m.name_len, &m.data_len};
+        *all[i % 4] = lengths[i / 8];
+        if (random_below(2))
+            memcpy(image, "BulgeFS!\0\1\0\0", 12);
+        call_all(&m);
+    }
+    material nothing = {NULL, NULL, NULL, NULL, 0, 0, 0, 0, 0};
+    for (int i = 0; i < 16; i++)
+        call_all(&nothing);
+}
+
+/* A volume of n blocks with some files of many sizes, and its journal. */
+static void fill_volume(uint8_t *image, size_t n, uint8_t *journal, size_t journal_len)
+{
+    static const uint8_t data[4096] = {1, 2, 3};
+    bulgefs_uuid uuid = {{0}};
+    uint32_t root = n < 16 ? 1 : n < 512 ? (uint32_t)n / 8 : 64;
+    expect(bulgefs_format(image, n * 512, root, 1, uuid, volume_name, 128) == 0, "fill: format");
+    expect(bulgefs_journal_start(journal, journal_len) == 0, "fill: start");
+    for (uint32_t i = 0; i < 6; i++) {
+        uint8_t name[2] = {'f', (uint8_t)('0' + i)};
+        bulgefs_create(image, n * 512, journal, journal_len, name, 2, 0x60, 0, 0, 0, 0, i);
+        bulgefs_write(image, n * 512, journal, journal_len, name, 2, 0, data, i * 310, i);
+    }
+    expect(bulgefs_check(image, n * 512) == 0, "fill: sound");
+}
+
+/* Puts a block number of the image's length or more into the last record. */
+static void damage_last_record(uint8_t *journal, size_t n)
+{
+    static const uint32_t more[] = {0, 1, 100, 4000, 0x7FFFFFFF};
+    size_t used = (size_t)journal[2] << 16 | (size_t)journal[3] << 8 | journal[4];
+    if (used == 5)
+        return;
+    uint32_t b = (uint32_t)n + more[random_below(5)];
+    uint8_t *number = journal + used - 516;
+    for (int i = 0; i < 4; i++)
+        number[i] = (uint8_t)(b >> (24 - 8 * i));
+}
+
+/* Good volumes, and volumes and journals with a few bytes changed. */
+static void damaged_volumes(void)
+{
+    static const size_t blocks[] = {3, 4, 16, 17, 127, 128, 129};
+    static uint8_t image[MOST], journal[MOST], saved[MOST], saved_journal[MOST], data[4097];
+    for (size_t i = 0; i < 7; i++) {
+        size_t n = blocks[i];
+        size_t journal_len = 600 + random_below(20000);
+        fill_volume(image, n, journal, journal_len);
+        memcpy(saved, image, n * 512);
+        memcpy(saved_journal, journal, journal_len);
+        for (int round = 0; round < 60; round++) {
+            uint8_t name[2] = {'f', (uint8_t)('0' + random_below(7))};
+            memcpy(image, saved, n * 512);
+            memcpy(journal, saved_journal, journal_len);
+            for (uint32_t k = random_below(3); k > 0; k--)
+                image[random_below((uint32_t)n * 512)] = (uint8_t)random_below(256);
+            if (round % 3 == 1)
+                image[512 + random_below((uint32_t)n * 4)] ^= (uint8_t)(1u << random_below(8));
+            if (round % 4 == 1)
+                journal[random_below(9)] ^= (uint8_t)(1u << random_below(8));
+            if (round % 4 == 2)
+                damage_last_record(journal, n);
+            material m = {image, journal, name, data, n * 512, journal_len, 2,
+                          random_below(sizeof data + 1), any_offset()};
+            call_all(&m);
+        }
+    }
+}
+
+/* The largest image and the longest journal. */
+static void largest(void)
+{
+    size_t image_len = 4096 * 512, journal_len = 4194304;
+    uint8_t *image = must_have(calloc(image_len + 1, 1));
+    uint8_t *journal = must_have(calloc(journal_len + 1, 1));
+    fill_volume(image, 4096, journal, journal_len);
+    for (size_t more = 0; more < 2; more++) {
+        material m = {image, journal, (const uint8_t *)"f5", image, image_len + more,
+                      journal_len, 2, 4096, 1000};
+        call_all(&m);
+        m.image_len = image_len;
+        m.journal_len = journal_len + more;
+        call_all(&m);
+    }
+    free(image);
+    free(journal);
+}
+
+int main(void)
+{
+    random_buffers();
+    damaged_volumes();
+    largest();
+    printf("%lu passed, %lu failed\n", passed, failed);
+    return failed == 0 ? 0 : 1;
+}

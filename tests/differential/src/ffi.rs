@@ -1,0 +1,121 @@
+//! The entry points, as include/bulgefs.h declares them.
+
+#[repr(C)]
+#[derive(Clone, Copy)]
+pub struct Uuid {
+    pub bytes: [u8; 16],
+}
+
+#[repr(C)]
+#[derive(Clone, Copy, Debug, PartialEq, Eq)]
+pub struct Found {
+    pub number: u32,
+    pub slot: u32,
+    pub size: u32,
+    pub blocks: u32,
+}
+
+#[repr(C)]
+#[derive(Clone, Copy, Debug, PartialEq, Eq)]
+pub struct Filled {
+    pub number: u32,
+    pub count: u32,
+}
+
+#[repr(C)]
+#[derive(Clone, Copy, Debug, PartialEq, Eq)]
+pub struct Part {
+    pub start: u32,
+    pub length: u32,
+}
+
+#[repr(C)]
+#[derive(Clone, Copy, Debug, PartialEq, Eq)]
+pub struct Created {
+    pub number: u32,
+    pub slot: u32,
+    pub record: u32,
+}
+
+#[repr(C)]
+#[derive(Clone, Copy, Debug, PartialEq, Eq)]
+pub struct Changed {
+    pub number: u32,
+    pub record: u32,
+}
+
+extern "C" {
+    pub fn bulgefs_check(image: *const u8, image_len: usize) -> u32;
+    pub fn bulgefs_format(
+        image: *mut u8,
+        image_len: usize,
+        root_blocks: u32,
+        time: u64,
+        uuid: Uuid,
+        volume_name: *const u8,
+        volume_name_len: usize,
+    ) -> u32;
+    pub fn bulgefs_lookup(
+        image: *const u8,
+        image_len: usize,
+        name: *const u8,
+        name_len: usize,
+    ) -> Found;
+    pub fn bulgefs_read(
+        image: *const u8,
+        image_len: usize,
+        name: *const u8,
+        name_len: usize,
+        offset: u64,
+        buffer: *mut u8,
+        buffer_len: usize,
+    ) -> Filled;
+    pub fn bulgefs_look_in_place(
+        image: *const u8,
+        image_len: usize,
+        name: *const u8,
+        name_len: usize,
+        index: u64,
+    ) -> Part;
+    pub fn bulgefs_journal_start(journal: *mut u8, journal_len: usize) -> u32;
+    pub fn bulgefs_create(
+        image: *mut u8,
+        image_len: usize,
+        journal: *mut u8,
+        journal_len: usize,
+        name: *const u8,
+        name_len: usize,
+        kind: u8,
+        user: u8,
+        group: u8,
+        permissions: u8,
+        flags: u32,
+        time: u64,
+    ) -> Created;
+    pub fn bulgefs_write(
+        image: *mut u8,
+        image_len: usize,
+        journal: *mut u8,
+        journal_len: usize,
+        name: *const u8,
+        name_len: usize,
+        offset: u64,
+        data: *const u8,
+        data_len: usize,
+        time: u64,
+    ) -> Changed;
+    pub fn bulgefs_delete(
+        image: *mut u8,
+        image_len: usize,
+        journal: *mut u8,
+        journal_len: usize,
+        name: *const u8,
+        name_len: usize,
+    ) -> Changed;
+    pub fn bulgefs_undo(
+        image: *mut u8,
+        image_len: usize,
+        journal: *mut u8,
+        journal_len: usize,
+    ) -> Changed;
+}

@@ -1,0 +1,124 @@
+//! Holds the C entry points of libcapi.a against the reference.
+//!
+//! Usage: differential [--rounds N] [--suite NAME] [--round K] [--trace]
+//!                     [--lister PROGRAM]
+//!
+//! --rounds N         random rounds of each suite (default 500)
+//! --suite NAME       only this suite
+//! --round K          only this round, to see one failure again
+//! --trace            say which round begins, to find one that never ends
+//! --lister PROGRAM   also hold this lister against the reference's listing
+
+mod arguments;
+mod damage;
+mod ffi;
+mod images;
+mod journals;
+mod lent;
+mod report;
+mod rng;
+mod suites;
+mod tester;
+
+use report::Report;
+use rng::Rng;
+use std::process::ExitCode;
+use std::time::Instant;
+use suites::{Suite, LISTER, SUITES};
+use tester::Tester;
+
+struct Options {
+    rounds: u64,
+    suite: Option<String>,
+    round: Option<u64>,
+    trace: bool,
+    lister: Option<String>,
+}
+
+fn main() -> ExitCode {
+    let options = match options(std::env::args().skip(1)) {
+        Ok(options) => options,
+        Err(message) => {
+            eprintln!("error: {message}");
+            return ExitCode::from(2);
+        }
+    };
+    let mut tester = Tester::new(Report::new(), options.lister.clone());
+    for suite in SUITES {
+        let wanted = options.suite.as_deref().unwrap_or(suite.name) == suite.name;
+        if wanted && (suite.name != LISTER || options.lister.is_some()) {
+            run_suite(suite, &options, &mut tester);
+        }
+    }
+    let whole = options.suite.is_none() && options.round.is_none();
+    println!();
+    tester.report.table(whole);
+    println!();
+    let (passed, failed) = tester.report.counts();
+    println!("{passed} passed, {failed} failed");
+    if failed == 0 {
+        ExitCode::SUCCESS
+    } else {
+        ExitCode::FAILURE
+    }
+}
+
+fn run_suite(suite: &Suite, options: &Options, tester: &mut Tester) {
+    let begin = Instant::now();
+    let before = tester.report.counts();
+    let rounds = (suite.rounds)(options.rounds);
+    for round in 0..rounds {
+        if options.round.is_some_and(|only| only != round) {
+            continue;
+        }
+        if options.trace {
+            println!("suite {} round {round}", suite.name);
+        }
+        let seed = seed_of(suite.name, round);
+        tester.report.begin(suite.name, round, seed);
+        (suite.run)(&mut Rng::new(seed), round, tester);
+    }
+    let after = tester.report.counts();
+    println!(
+        "{:<8} {:>6} rounds {:>8} passed {:>6} failed {:>7.1} s",
+        suite.name,
+        rounds,
+        after.0 - before.0,
+        after.1 - before.1,
+        begin.elapsed().as_secs_f64()
+    );
+}
+
+/// A seed that depends on the suite's name and the round alone.
+fn seed_of(suite: &str, round: u64) -> u64 {
+    let name = suite.bytes().fold(7u64, |sum, b| sum.wrapping_mul(257).wrapping_add(u64::from(b)));
+    Rng::new(name ^ (round << 20)).next()
+}
+
+fn options(mut arguments: impl Iterator<Item = String>) -> Result<Options, String> {
+    let mut options = Options { rounds: 500, suite: None, round: None, trace: false, lister: None };
+    while let Some(argument) = arguments.next() {
+        let mut value = || arguments.next().ok_or(format!("{argument} needs a value"));
+        match argument.as_str() {
+            "--rounds" => options.rounds = whole_number(&value()?)?,
+            "--round" => options.round = Some(whole_number(&value()?)?),
+            "--suite" => options.suite = Some(known_suite(value()?)?),
+            "--trace" => options.trace = true,
+            "--lister" => options.lister = Some(value()?),
+            other => return Err(format!("unknown option {other}")),
+        }
+    }
+    Ok(options)
+}
+
+fn whole_number(text: &str) -> Result<u64, String> {
+    text.parse().map_err(|_| format!("not a whole number: {text}"))
+}
+
+fn known_suite(name: String) -> Result<String, String> {
+    if SUITES.iter().any(|suite| suite.name == name) {
+        return Ok(name);
+    }
+    let names: Vec<_> = SUITES.iter().map(|suite| suite.name).collect();
+    Err(format!("unknown suite {name}; there are {}", names.join(", ")))
+}

@@ -1,0 +1,153 @@
+//! Counts cases and refusal numbers, and prints what failed.
+
+#[derive(Clone, Copy, Debug, PartialEq, Eq)]
+pub enum Entry {
+    Check,
+    Format,
+    Lookup,
+    Read,
+    LookInPlace,
+    Start,
+    Create,
+    Write,
+    Delete,
+    Undo,
+}
+
+/// Every entry point, and the numbers that it can answer. Look in place has
+/// no number; its row counts what look up would have answered.
+const ENTRIES: [(Entry, &str, &[u32]); 10] = [
+    (Entry::Check, "check", &[0, 1, 2, 3, 4, 5, 6, 7]),
+    (Entry::Format, "format", &[0, 1, 9, 14]),
+    (Entry::Lookup, "lookup", &[0, 1, 2, 3, 4, 5, 6, 7, 9, 10]),
+    (Entry::Read, "read", &[0, 1, 2, 3, 4, 5, 6, 7, 9, 10, 12]),
+    (Entry::LookInPlace, "look_in_place", &[0, 1, 2, 3, 4, 5, 6, 7, 9, 10]),
+    (Entry::Start, "journal_start", &[0, 8]),
+    (Entry::Create, "create", &[0, 1, 2, 3, 4, 5, 6, 7, 8, 9, 11, 13, 15]),
+    (Entry::Write, "write", &[0, 1, 2, 3, 4, 5, 6, 7, 8, 9, 10, 12, 14, 15]),
+    (Entry::Delete, "delete", &[0, 1, 2, 3, 4, 5, 6, 7, 8, 9, 10, 15]),
+    (Entry::Undo, "undo", &[0, 1, 2, 3, 4, 5, 6, 7, 8, 16]),
+];
+
+const NUMBERS: usize = 17;
+const SHOWN_FAILURES: u64 = 20;
+
+pub struct Report {
+    passed: u64,
+    failed: u64,
+    hits: [[u64; NUMBERS]; ENTRIES.len()],
+    /// Suite and round of the case at hand, and what it is about.
+    suite: &'static str,
+    round: u64,
+    seed: u64,
+    about: String,
+}
+
+impl Report {
+    pub fn new() -> Report {
+        Report {
+            passed: 0,
+            failed: 0,
+            hits: [[0; NUMBERS]; ENTRIES.len()],
+            suite: "",
+            round: 0,
+            seed: 0,
+            about: String::new(),
+        }
+    }
+
+    pub fn begin(&mut self, suite: &'static str, round: u64, seed: u64) {
+        self.suite = suite;
+        self.round = round;
+        self.seed = seed;
+        self.about.clear();
+    }
+
+    /// Says what the following calls are about, for the message of a failure.
+    pub fn about(&mut self, about: impl Into<String>) {
+        self.about = about.into();
+    }
+
+    /// Counts one call of an entry point.
+    pub fn call(
+        &mut self,
+        entry: Entry,
+        number: u32,
+        troubles: impl IntoIterator<Item = Option<String>>,
+    ) {
+        let row = ENTRIES.iter().position(|e| e.0 == entry).unwrap();
+        self.hits[row][number as usize] += 1;
+        let troubles: Vec<String> = troubles.into_iter().flatten().collect();
+        self.case(ENTRIES[row].1, troubles);
+    }
+
+    /// Counts one case that is not a call: the plan of a test against the
+    /// reference, for instance.
+    pub fn agree<T: PartialEq + std::fmt::Debug>(&mut self, what: &str, got: T, expected: T) {
+        let troubles = if got == expected {
+            vec![]
+        } else {
+            vec![format!("got {got:?}, expected {expected:?}")]
+        };
+        self.case(what, troubles);
+    }
+
+    fn case(&mut self, what: &str, troubles: Vec<String>) {
+        if troubles.is_empty() {
+            self.passed += 1;
+            return;
+        }
+        self.failed += 1;
+        if self.failed > SHOWN_FAILURES {
+            return;
+        }
+        println!(
+            "FAILED {what}: suite {} round {} (seed {:#018x}) {}",
+            self.suite, self.round, self.seed, self.about
+        );
+        for trouble in troubles {
+            println!("       {trouble}");
+        }
+        println!("       again: --suite {} --round {}", self.suite, self.round);
+    }
+
+    pub fn counts(&self) -> (u64, u64) {
+        (self.passed, self.failed)
+    }
+
+    /// How often each entry point answered each number. A number that an
+    /// entry point can answer and never did is a failure if `all` is set.
+    pub fn table(&mut self, all: bool) {
+        print!("{:<14}", "number");
+        for number in 0..NUMBERS {
+            print!("{number:>7}");
+        }
+        println!();
+        let mut missing = Vec::new();
+        for (row, (_, name, numbers)) in ENTRIES.iter().enumerate() {
+            print!("{name:<14}");
+            for number in 0..NUMBERS {
+                let hits = self.hits[row][number];
+                match (numbers.contains(&(number as u32)), hits) {
+                    (false, 0) => print!("{:>7}", "."),
+                    (true, 0) => {
+                        print!("{:>7}", "NONE");
+                        missing.push(format!("{name} never answered {number}"));
+                    }
+                    (true, _) => print!("{hits:>7}"),
+                    (false, _) => {
+                        print!("{:>7}", "!");
+                        missing.push(format!("{name} answered {number}, which it must not"));
+                    }
+                }
+            }
+            println!();
+        }
+        if all {
+            for what in missing {
+                println!("FAILED {what}");
+                self.failed += 1;
+            }
+        }
+    }
+}

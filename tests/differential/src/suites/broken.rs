@@ -1,0 +1,169 @@
+//! Damaged images and journals that are not well formed.
+
+use crate::arguments::*;
+use crate::rng::Rng;
+use crate::tester::Tester;
+use crate::{damage, images, journals};
+use reference::layout::{block_count, root_block, root_chain};
+use reference::State;
+
+/// Every call on an image, sound or not, with arguments that were made for
+/// the sound image.
+fn every_call(rng: &mut Rng, t: &mut Tester, sound: &[u8], image: &[u8]) {
+    let name = any_name(rng, sound);
+    let size = size_of(sound, &name);
+    let buffer = any_buffer(rng, size.min(2000));
+    let offset = any_offset(rng, size);
+    t.look(image, &name, offset, &buffer, any_index(rng, size));
+    let journal = journals::any(rng, sound);
+    let state = State { image: image.to_vec(), journal };
+    for change in changes(rng, sound) {
+        t.change(&state, &change);
+    }
+    t.undo(&state);
+}
+
+/// Every clause of every stage, one at a time.
+pub fn clauses(rng: &mut Rng, _: u64, t: &mut Tester) {
+    for clause in damage::clauses() {
+        for _ in 0..3 {
+            let (sound, image) = damaged(rng, clause);
+            t.report.about(format!("stage {}: {}", clause.stage, clause.what));
+            t.report.agree("plan", reference::check(&image), clause.stage);
+            every_call(rng, t, &sound, &image);
+        }
+    }
+}
+
+fn damaged(rng: &mut Rng, clause: &damage::Clause) -> (Vec<u8>, Vec<u8>) {
+    loop {
+        let n = images::small_n(rng);
+        let sound = images::of(rng, n);
+        let mut image = sound.clone();
+        if (clause.make)(rng, &mut image).is_some() {
+            return (sound, image);
+        }
+    }
+}
+
+/// Two clauses at once: the lower stage must win. The stages before the
+/// directory are broken last, since the others need a sound root.
+pub fn two_clauses(rng: &mut Rng, _: u64, t: &mut Tester) {
+    let n = images::small_n(rng);
+    let sound = images::of(rng, n);
+    let mut image = sound.clone();
+    let high = damage::any(rng, &mut image);
+    if high.stage < 5 {
+        return;
+    }
+    for low in [damage::LENGTH, damage::HEADER, damage::ROOT] {
+        let clause = &low[rng.below(low.len())];
+        let mut both = image.clone();
+        // Two of one stage could mend each other.
+        if clause.stage >= high.stage || (clause.make)(rng, &mut both).is_none() {
+            continue;
+        }
+        t.report.about(format!("{} and {}", clause.what, high.what));
+        t.report.agree("plan", reference::check(&both), clause.stage);
+        every_call(rng, t, &sound, &both);
+    }
+}
+
+/// Random bits and bytes, mostly where the check looks.
+pub fn noise(rng: &mut Rng, _: u64, t: &mut Tester) {
+    let n = if rng.once_in(30) { images::any_n(rng) } else { images::small_n(rng) };
+    let sound = images::of(rng, n);
+    let mut image = sound.clone();
+    for _ in 0..rng.pick(&[1, 1, 1, 2, 3, 10]) {
+        let at = watched_byte(rng, &sound);
+        image[at] = match rng.below(3) {
+            0 => image[at] ^ (1 << rng.below(8)),
+            1 => rng.byte(),
+            _ => rng.pick(&[0, 1, 2, 0x60, 0x9F, 0xFF]),
+        };
+    }
+    if rng.once_in(20) {
+        image.truncate(rng.below(image.len()));
+    }
+    if rng.once_in(50) {
+        let len = rng.below(6000);
+        image = rng.bytes(len);
+    }
+    t.report.about(format!("n {n}, length {}", image.len()));
+    every_call(rng, t, &sound, &image);
+}
+
+/// The offset of a byte in the header's start, the table or the directory.
+fn watched_byte(rng: &mut Rng, image: &[u8]) -> usize {
+    let n = block_count(image);
+    match rng.below(10) {
+        0 => rng.below(32),
+        1..=3 => 512 + rng.below(4 * n),
+        4 => 512 + rng.below(512 * (root_block(n) - 1)),
+        5 => rng.below(image.len()),
+        _ => rng.pick(&root_chain(image)) * 512 + rng.below(512),
+    }
+}
+
+/// Every fault of a journal, beside sound images.
+pub fn journals(rng: &mut Rng, _: u64, t: &mut Tester) {
+    for fault in journals::FAULTS {
+        let n = images::small_n(rng);
+        let image = images::of(rng, n);
+        let journal = (fault.make)(rng, &image);
+        let is_good = reference::journal::records(&journal, n).is_ok();
+        t.report.about(format!("journal: {}", fault.what));
+        t.report.agree("plan", is_good, false);
+        let state = State { image, journal };
+        for change in changes(rng, &state.image) {
+            t.change(&state, &change);
+        }
+        t.undo(&state);
+    }
+    other_image(rng, t);
+    noisy_journal(rng, t);
+    for _ in 0..6 {
+        let len = if rng.once_in(2) { rng.below(12) } else { rng.below(5000) };
+        t.report.about(format!("start of {len} bytes"));
+        t.start(&rng.bytes(len));
+    }
+}
+
+/// A good journal of a larger or smaller image.
+fn other_image(rng: &mut Rng, t: &mut Tester) {
+    for _ in 0..4 {
+        let (n, other) = (images::small_n(rng), images::small_n(rng));
+        let image = images::of(rng, n);
+        let another = images::of(rng, other);
+        let journal = journals::any(rng, &another);
+        t.report.about(format!("journal of an image of {other} blocks beside {n}"));
+        let state = State { image, journal };
+        for change in changes(rng, &state.image) {
+            t.change(&state, &change);
+        }
+        t.undo(&state);
+    }
+}
+
+/// Random bytes in the numbers of a journal.
+fn noisy_journal(rng: &mut Rng, t: &mut Tester) {
+    for _ in 0..8 {
+        let n = images::small_n(rng);
+        let image = images::of(rng, n);
+        let mut journal = journals::any(rng, &image);
+        let used = reference::journal::used(&journal);
+        for _ in 0..rng.between(1, 2) {
+            let near = [rng.below(5), 5 + rng.below(8), used - rng.between(1, 5), rng.below(used)];
+            let at = rng.pick(&near);
+            if at < journal.len() {
+                journal[at] = rng.byte() >> rng.below(8);
+            }
+        }
+        t.report.about("random bytes in a journal");
+        let state = State { image, journal };
+        for change in changes(rng, &state.image) {
+            t.change(&state, &change);
+        }
+        t.undo(&state);
+    }
+}

@@ -1,0 +1,120 @@
+//! Fixed cases: the worked numbers, and the edges of lengths.
+
+use crate::images::{build, Fill};
+use crate::journals;
+use crate::rng::Rng;
+use crate::tester::Tester;
+use reference::journal::MAX_LENGTH;
+use reference::{Change, Create, Delete, State, Write};
+
+fn create(name: &[u8]) -> Change {
+    let name = name.to_vec();
+    Change::Create(Create {
+        name,
+        kind: 0x60,
+        user: 1,
+        group: 2,
+        permissions: 3,
+        flags: 4,
+        time: 8,
+    })
+}
+
+fn write(name: &[u8], offset: u64, data: &[u8]) -> Change {
+    Change::Write(Write { name: name.to_vec(), offset, data: data.to_vec(), time: 9 })
+}
+
+/// The worked numbers of the rules. The reference's own tests tie the
+/// reference to them; here the library follows the same steps.
+pub fn numbers(_: &mut Rng, _: u64, t: &mut Tester) {
+    let name = [b'v'; 128];
+    for (n, d) in [(3, 1), (3, 2), (2, 1), (128, 1), (129, 1), (4096, 64), (16, 2)] {
+        t.report.about(format!("format n {n} d {d}"));
+        t.format(&vec![0xEE; 512 * n], d, 7, [3; 16], &name);
+    }
+    let image = reference::format(512 * 16, 2, 7, [3; 16], &name).unwrap();
+    let mut state = State { image, journal: reference::start(65_536).unwrap() };
+    t.report.about("worked run");
+    for (change, number) in [
+        (create(b"A"), 0),
+        (write(b"A", 0, &[b'x'; 513]), 0),
+        (write(b"A", 513, b"y"), 0),
+        (write(b"A", 515, b"y"), 12),
+        (create(b"A"), 11),
+        (create(&[b'n'; 79]), 0),
+        (create(&[b'n'; 80]), 9),
+        (create(b"SN1"), 0),
+        (write(b"SN10", 0, b"z"), 10),
+        (write(b"SN1", 0, &[1; 4096]), 0),
+        (write(b"SN1", 0, &[1; 4097]), 9),
+        (Change::Delete(Delete { name: b"A".to_vec() }), 0),
+    ] {
+        let got = t.change(&state, &change);
+        t.report.agree("plan", got, number);
+        if let Ok(applied) = reference::apply(&state, &change) {
+            state = applied.state;
+        }
+    }
+    while t.undo(&state) == 0 {
+        state = reference::undo(&state).unwrap().state;
+    }
+}
+
+/// Lengths at their edges.
+pub fn edges(rng: &mut Rng, _: u64, t: &mut Tester) {
+    for len in [0, 1, 4, 5, 6, 4095, MAX_LENGTH - 1, MAX_LENGTH, MAX_LENGTH + 1, 5_000_000] {
+        t.report.about(format!("journal of {len} bytes"));
+        let journal = rng.bytes(len);
+        t.start(&journal);
+        let image = build(rng, 20, 2, Fill::Some);
+        let journal = reference::start(len).unwrap_or(journal);
+        every_journaled_call(t, &State { image, journal });
+    }
+    longest_journals(rng, t);
+    for len in [0, 1, 511, 512, 1024, 1535, 1536, 1537, 2_097_152, 2_097_153, 2_097_664] {
+        t.report.about(format!("image of {len} bytes"));
+        let image = rng.bytes(len);
+        t.format(&image, 1, 1, [9; 16], &[0; 128]);
+        t.look(&image, b"A", 0, &[7; 9], 0);
+        let journal = reference::start(3000).unwrap();
+        every_journaled_call(t, &State { image, journal });
+    }
+}
+
+fn every_journaled_call(t: &mut Tester, state: &State) {
+    let name = match reference::check(&state.image) {
+        0 => reference::layout::files(&state.image)[0].name.clone(),
+        _ => b"A".to_vec(),
+    };
+    t.change(state, &create(b"\x01new\x02"));
+    t.change(state, &write(&name, 0, b"bytes"));
+    t.change(state, &Change::Delete(Delete { name }));
+    t.undo(state);
+}
+
+/// Journals of the greatest length, filled up to some bytes before the end.
+fn longest_journals(rng: &mut Rng, t: &mut Tester) {
+    let image = build(rng, 40, 2, Fill::Some);
+    let record = journals::record(rng, &image, 20);
+    for room in [0, 519, 520, 521, 1036] {
+        t.report.about(format!("longest journal, room {room}"));
+        let count = (MAX_LENGTH - 5 - room) / record.len() - 1;
+        let mut records = vec![record.clone(); count];
+        let mut left = MAX_LENGTH - 5 - room - count * record.len();
+        // Records of 520 and 1,036 bytes take up what is left, but for a few bytes.
+        while left >= 520 {
+            let blocks = if left >= 1036 { 2 } else { 1 };
+            let last = journals::record(rng, &image[..512 * blocks], blocks);
+            left -= last.len();
+            records.push(last);
+        }
+        let journal = journals::of_records(rng, &records, left + room);
+        t.report.agree("length", journal.len(), MAX_LENGTH);
+        let state = State { image: image.clone(), journal };
+        every_journaled_call(t, &state);
+        let mut bad = state.clone();
+        let end = reference::journal::used(&bad.journal);
+        bad.journal[end - 516] = 1;
+        every_journaled_call(t, &bad);
+    }
+}

@@ -1,0 +1,37 @@
+//! The suites. Each runs in rounds; a round depends on its number alone.
+
+mod broken;
+mod fixed;
+mod lister;
+mod order;
+mod runs;
+mod sound;
+
+use crate::rng::Rng;
+use crate::tester::Tester;
+
+pub struct Suite {
+    pub name: &'static str,
+    /// How many rounds there are for the number given by `--rounds`.
+    pub rounds: fn(u64) -> u64,
+    pub run: fn(&mut Rng, u64, &mut Tester),
+}
+
+/// The suite that needs a lister program.
+pub const LISTER: &str = "lister";
+
+pub const SUITES: &[Suite] = &[
+    Suite { name: "numbers", rounds: |_| 1, run: fixed::numbers },
+    Suite { name: "edges", rounds: |_| 1, run: fixed::edges },
+    Suite { name: "format", rounds: |n| 5 * n, run: sound::format },
+    Suite { name: "sound", rounds: |n| 4 * n, run: sound::calls },
+    Suite { name: "damage", rounds: |n| n.div_ceil(10), run: broken::clauses },
+    Suite { name: "double", rounds: |n| 2 * n, run: broken::two_clauses },
+    Suite { name: "noise", rounds: |n| 5 * n, run: broken::noise },
+    Suite { name: "journals", rounds: |n| n.div_ceil(4), run: broken::journals },
+    Suite { name: "order", rounds: |n| n.div_ceil(10), run: order::all },
+    Suite { name: "runs", rounds: |n| n, run: runs::run },
+    Suite { name: "long", rounds: |n| n.div_ceil(250), run: runs::long },
+    Suite { name: "large", rounds: |n| n.div_ceil(50), run: runs::large },
+    Suite { name: LISTER, rounds: |n| n, run: lister::run },
+];

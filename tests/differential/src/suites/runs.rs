@@ -1,0 +1,227 @@
+//! Long runs of calls on one image and one journal, held against the
+//! reference's replay after every call.
+
+use crate::arguments::*;
+use crate::ffi;
+use crate::images::{self, build, Fill};
+use crate::lent::{difference, Lent};
+use crate::report::Entry;
+use crate::rng::Rng;
+use crate::tester::{found, Pair, Tester};
+use reference::{Answer, Call, Replay, State};
+
+/// How often a run makes which calls, out of their sum.
+struct Mix {
+    create: usize,
+    write: usize,
+    delete: usize,
+    undo: usize,
+    look: usize,
+}
+
+const MIXES: [Mix; 4] = [
+    Mix { create: 3, write: 8, delete: 2, undo: 3, look: 4 },
+    Mix { create: 2, write: 12, delete: 1, undo: 1, look: 2 },
+    Mix { create: 4, write: 4, delete: 5, undo: 2, look: 2 },
+    Mix { create: 3, write: 6, delete: 3, undo: 9, look: 1 },
+];
+
+pub fn run(rng: &mut Rng, round: u64, t: &mut Tester) {
+    let n = match rng.below(6) {
+        0 => rng.between(3, 8),
+        1 => rng.pick(&[127, 128, 129, 140, 260]),
+        _ => rng.between(9, 60),
+    };
+    let image = if rng.once_in(3) { build(rng, n, 1, Fill::Empty) } else { images::of(rng, n) };
+    let length = match rng.below(5) {
+        0 => rng.between(5, 3000),
+        1 => rng.between(3000, 20_000),
+        _ => rng.between(40_000, 150_000),
+    };
+    let mix = &MIXES[round as usize % MIXES.len()];
+    let calls = rng.between(40, 160);
+    play(rng, t, image, length, mix, calls);
+}
+
+/// A few runs on the largest images and journals.
+pub fn large(rng: &mut Rng, _: u64, t: &mut Tester) {
+    let n = rng.pick(&[1024, 4095, 4096]);
+    let d = rng.pick(&[1, 8, 64]);
+    let fill = rng.pick(&[Fill::Some, Fill::Slots]);
+    let image = build(rng, n, d, fill);
+    let length = rng.pick(&[200_000, 4_194_304]);
+    play(rng, t, image, length, &MIXES[0], 40);
+}
+
+/// A few runs of many calls, with many changes that stand.
+pub fn long(rng: &mut Rng, _: u64, t: &mut Tester) {
+    let image = build(rng, 60, 6, Fill::Some);
+    play(rng, t, image, 500_000, &MIXES[0], 600);
+}
+
+fn play(rng: &mut Rng, t: &mut Tester, image: Vec<u8>, length: usize, mix: &Mix, calls: usize) {
+    let about = format!("n {} journal {length}", image.len() / 512);
+    let journal = reference::start(length).unwrap();
+    let first = State { image, journal };
+    let mut replay = Replay::new(first.clone());
+    let mut pair = t.lend_pair(&first);
+    for step in 0..calls {
+        let call = any_call(rng, &replay, mix);
+        t.report.about(format!("{about} call {step}: {}", brief(&call)));
+        make(t, &mut pair, &mut replay, &call);
+    }
+    t.report.about(format!("{about} undo of all that stands"));
+    for _ in 0..=replay.standing().len() {
+        make(t, &mut pair, &mut replay, &Call::Undo);
+    }
+    t.report.agree("the start again", replay.replayed() == &first, true);
+    let back = pair.troubles(&first).into_iter().flatten().next();
+    t.report.agree("the start again, byte for byte", back, None);
+}
+
+fn any_call(rng: &mut Rng, replay: &Replay, mix: &Mix) -> Call {
+    let image = &replay.replayed().image;
+    let looks = mix.create + mix.write + mix.delete + mix.undo;
+    let pick = rng.below(looks + mix.look);
+    if pick < mix.create {
+        Call::Change(any_create(rng, image))
+    } else if pick < mix.create + mix.write {
+        Call::Change(any_write(rng, image))
+    } else if pick < mix.create + mix.write + mix.delete {
+        Call::Change(any_delete(rng, image))
+    } else if pick < looks {
+        Call::Undo
+    } else {
+        any_look(rng, image)
+    }
+}
+
+fn any_look(rng: &mut Rng, image: &[u8]) -> Call {
+    let name = any_name(rng, image);
+    let size = size_of(image, &name);
+    match rng.below(4) {
+        0 => Call::Check,
+        1 => Call::Lookup { name },
+        2 => {
+            let buffer = any_buffer(rng, size);
+            Call::Read { name, offset: any_offset(rng, size), buffer }
+        }
+        _ => Call::LookInPlace { name, index: any_index(rng, size) },
+    }
+}
+
+/// A call in few words, for the message of a failure.
+fn brief(call: &Call) -> String {
+    use reference::Change::*;
+    match call {
+        Call::Change(Create(c)) => format!("create of a name of {} bytes", c.name.len()),
+        Call::Change(Write(w)) => format!("write of {} bytes at {}", w.data.len(), w.offset),
+        Call::Change(Delete(d)) => format!("delete of a name of {} bytes", d.name.len()),
+        Call::Undo => "undo".into(),
+        Call::Check => "check".into(),
+        Call::Lookup { .. } => "lookup".into(),
+        Call::Read { offset, buffer, .. } => format!("read of {} bytes at {offset}", buffer.len()),
+        Call::LookInPlace { index, .. } => format!("look in place at {index}"),
+    }
+}
+
+/// Makes a call on both sides; compares the answer, and image and journal
+/// with all their bytes.
+fn make(t: &mut Tester, pair: &mut Pair, replay: &mut Replay, call: &Call) {
+    let (entry, got, mut troubles) = call_library(t, pair, call);
+    let expected = replay.call(call);
+    let mut number = number_of(&expected);
+    if let Call::LookInPlace { name, .. } = call {
+        number = reference::lookup(&replay.replayed().image, name).err().unwrap_or(0);
+    }
+    if got != expected {
+        troubles.push(Some(differs(&got, &expected)));
+    }
+    troubles.extend(pair.troubles(replay.replayed()));
+    t.report.call(entry, number, troubles);
+}
+
+fn number_of(answer: &Answer) -> u32 {
+    match answer {
+        Answer::Changed { number, .. } | Answer::Read { number, .. } => *number,
+        Answer::Checked(number) => *number,
+        Answer::Found(result) => result.as_ref().err().copied().unwrap_or(0),
+        Answer::Part { .. } => 0,
+    }
+}
+
+fn differs(got: &Answer, expected: &Answer) -> String {
+    if let (Answer::Read { buffer: g, .. }, Answer::Read { buffer: e, .. }) = (got, expected) {
+        if let Some(trouble) = difference("buffer", g, e) {
+            return trouble;
+        }
+    }
+    format!("got {got:?}, expected {expected:?}")
+}
+
+fn call_library(
+    t: &mut Tester,
+    pair: &mut Pair,
+    call: &Call,
+) -> (Entry, Answer, Vec<Option<String>>) {
+    match call {
+        Call::Change(change) => {
+            let (entry, got, troubles) = t.make(pair, change);
+            let answer = Answer::Changed { number: got.number, slot: got.slot, record: got.record };
+            (entry, answer, troubles)
+        }
+        Call::Undo => {
+            let got = pair.undo();
+            let answer = Answer::Changed { number: got.number, slot: 0, record: got.record };
+            (Entry::Undo, answer, vec![])
+        }
+        look => look_with_library(&pair.image, look),
+    }
+}
+
+fn look_with_library(image: &Lent, call: &Call) -> (Entry, Answer, Vec<Option<String>>) {
+    let (at, len) = (image.ptr(), image.len());
+    match call {
+        Call::Check => {
+            let got = unsafe { ffi::bulgefs_check(at, len) };
+            (Entry::Check, Answer::Checked(got), vec![])
+        }
+        Call::Lookup { name } => {
+            let lent = Lent::new(name, 3);
+            let got = unsafe { ffi::bulgefs_lookup(at, len, lent.ptr(), lent.len()) };
+            let (answer, zeros) = found_answer(got);
+            (Entry::Lookup, answer, vec![lent.trouble("name", name), zeros])
+        }
+        Call::Read { name, offset, buffer } => {
+            let (lent, mut lent_buffer) = (Lent::new(name, 5), Lent::new(buffer, 6));
+            let got = unsafe {
+                let into = lent_buffer.mut_ptr();
+                ffi::bulgefs_read(at, len, lent.ptr(), lent.len(), *offset, into, buffer.len())
+            };
+            let after = lent_buffer.content().to_vec();
+            let troubles = vec![lent.trouble("name", name), lent_buffer.trouble("buffer", &after)];
+            let answer = Answer::Read { number: got.number, count: got.count, buffer: after };
+            (Entry::Read, answer, troubles)
+        }
+        Call::LookInPlace { name, index } => {
+            let lent = Lent::new(name, 8);
+            let got =
+                unsafe { ffi::bulgefs_look_in_place(at, len, lent.ptr(), lent.len(), *index) };
+            let range = got.start as usize..got.start as usize + got.length as usize;
+            let bytes = image.content().get(range.clone()).map_or(vec![], |part| part.to_vec());
+            (Entry::LookInPlace, Answer::Part { range, bytes }, vec![lent.trouble("name", name)])
+        }
+        Call::Change(_) | Call::Undo => unreachable!("not a look"),
+    }
+}
+
+/// The answer of lookup, and whether a refusal comes without zeros.
+fn found_answer(got: ffi::Found) -> (Answer, Option<String>) {
+    let result = if got.number == 0 {
+        Ok(reference::Found { slot: got.slot, size: got.size, blocks: got.blocks })
+    } else {
+        Err(got.number)
+    };
+    let zeros = (found(&result) != got).then(|| format!("not zeros: {got:?}"));
+    (Answer::Found(result), zeros)
+}

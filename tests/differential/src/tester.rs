@@ -1,0 +1,284 @@
+//! Makes one call on both sides and compares everything that can be seen.
+
+use crate::ffi;
+use crate::lent::Lent;
+use crate::report::{Entry, Report};
+use reference::{Change, State};
+
+pub struct Tester {
+    pub report: Report,
+    /// The lister program, if it is to be tested.
+    pub lister: Option<String>,
+    shift: usize,
+}
+
+fn number_of<T>(result: &Result<T, u32>) -> u32 {
+    result.as_ref().err().copied().unwrap_or(0)
+}
+
+fn unequal<T: PartialEq + std::fmt::Debug>(got: T, expected: T) -> Option<String> {
+    (got != expected).then(|| format!("got {got:?}, expected {expected:?}"))
+}
+
+impl Tester {
+    pub fn new(report: Report, lister: Option<String>) -> Tester {
+        Tester { report, lister, shift: 0 }
+    }
+
+    fn lend(&mut self, content: &[u8]) -> Lent {
+        self.shift += 1;
+        Lent::new(content, self.shift)
+    }
+
+    pub fn check(&mut self, image: &[u8]) {
+        let lent = self.lend(image);
+        let got = unsafe { ffi::bulgefs_check(lent.ptr(), lent.len()) };
+        let expected = reference::check(image);
+        let troubles = [unequal(got, expected), lent.trouble("image", image)];
+        self.report.call(Entry::Check, expected, troubles);
+    }
+
+    pub fn format(&mut self, image: &[u8], d: u32, time: u64, uuid: [u8; 16], volume_name: &[u8]) {
+        let mut lent = self.lend(image);
+        let name = self.lend(volume_name);
+        let bytes = ffi::Uuid { bytes: uuid };
+        let len = lent.len();
+        let got = unsafe {
+            ffi::bulgefs_format(lent.mut_ptr(), len, d, time, bytes, name.ptr(), name.len())
+        };
+        let expected = reference::format(image.len(), d, time, uuid, volume_name);
+        let number = number_of(&expected);
+        let after = expected.unwrap_or_else(|_| image.to_vec());
+        let troubles = [
+            unequal(got, number),
+            lent.trouble("image", &after),
+            name.trouble("volume name", volume_name),
+        ];
+        self.report.call(Entry::Format, number, troubles);
+    }
+
+    pub fn lookup(&mut self, image: &[u8], name: &[u8]) {
+        let lent = self.lend(image);
+        let lent_name = self.lend(name);
+        let got = unsafe {
+            ffi::bulgefs_lookup(lent.ptr(), lent.len(), lent_name.ptr(), lent_name.len())
+        };
+        let result = reference::lookup(image, name);
+        let number = number_of(&result);
+        let expected = found(&result);
+        let troubles =
+            [unequal(got, expected), lent.trouble("image", image), lent_name.trouble("name", name)];
+        self.report.call(Entry::Lookup, number, troubles);
+    }
+
+    pub fn read(&mut self, image: &[u8], name: &[u8], offset: u64, buffer: &[u8]) {
+        let lent = self.lend(image);
+        let lent_name = self.lend(name);
+        let mut lent_buffer = self.lend(buffer);
+        let got = unsafe {
+            ffi::bulgefs_read(
+                lent.ptr(),
+                lent.len(),
+                lent_name.ptr(),
+                lent_name.len(),
+                offset,
+                lent_buffer.mut_ptr(),
+                buffer.len(),
+            )
+        };
+        let result = reference::read(image, name, offset, buffer.len());
+        let number = number_of(&result);
+        let bytes = result.unwrap_or_default();
+        let mut after = buffer.to_vec();
+        after[..bytes.len()].copy_from_slice(&bytes);
+        let troubles = [
+            unequal(got, ffi::Filled { number, count: bytes.len() as u32 }),
+            lent.trouble("image", image),
+            lent_name.trouble("name", name),
+            lent_buffer.trouble("buffer", &after),
+        ];
+        self.report.call(Entry::Read, number, troubles);
+    }
+
+    pub fn look_in_place(&mut self, image: &[u8], name: &[u8], index: u64) {
+        let lent = self.lend(image);
+        let lent_name = self.lend(name);
+        let got = unsafe {
+            ffi::bulgefs_look_in_place(
+                lent.ptr(),
+                lent.len(),
+                lent_name.ptr(),
+                lent_name.len(),
+                index,
+            )
+        };
+        let range = reference::look_in_place(image, name, index);
+        let expected = ffi::Part { start: range.start as u32, length: range.len() as u32 };
+        let number = number_of(&reference::lookup(image, name));
+        let troubles =
+            [unequal(got, expected), lent.trouble("image", image), lent_name.trouble("name", name)];
+        self.report.call(Entry::LookInPlace, number, troubles);
+    }
+
+    /// All calls that only look, for one name.
+    pub fn look(&mut self, image: &[u8], name: &[u8], offset: u64, buffer: &[u8], index: u64) {
+        self.check(image);
+        self.lookup(image, name);
+        self.read(image, name, offset, buffer);
+        self.look_in_place(image, name, index);
+    }
+
+    pub fn start(&mut self, journal: &[u8]) {
+        let mut lent = self.lend(journal);
+        let got = unsafe { ffi::bulgefs_journal_start(lent.mut_ptr(), journal.len()) };
+        let expected = reference::start(journal.len());
+        let number = number_of(&expected);
+        let after = expected.unwrap_or_else(|_| journal.to_vec());
+        let troubles = [unequal(got, number), lent.trouble("journal", &after)];
+        self.report.call(Entry::Start, number, troubles);
+    }
+
+    /// Create, write or delete. Gives the reference's number.
+    pub fn change(&mut self, state: &State, change: &Change) -> u32 {
+        let mut pair = self.lend_pair(state);
+        let (entry, got, mut troubles) = self.make(&mut pair, change);
+        let result = reference::apply(state, change);
+        let number = number_of(&result);
+        let (slot, record) = result.as_ref().map_or((0, 0), |a| (a.slot, a.record));
+        let after = result.as_ref().map_or(state, |a| &a.state);
+        troubles.push(unequal(got, ffi::Created { number, slot, record }));
+        troubles.extend(pair.troubles(after));
+        self.report.call(entry, number, troubles);
+        number
+    }
+
+    /// Undo. Gives the reference's number.
+    pub fn undo(&mut self, state: &State) -> u32 {
+        let mut pair = self.lend_pair(state);
+        let got = pair.undo();
+        let result = reference::undo(state);
+        let number = number_of(&result);
+        let record = result.as_ref().map_or(0, |u| u.record);
+        let after = result.as_ref().map_or(state, |u| &u.state);
+        let mut troubles = vec![unequal(got, ffi::Changed { number, record })];
+        troubles.extend(pair.troubles(after));
+        self.report.call(Entry::Undo, number, troubles);
+        number
+    }
+
+    pub fn lend_pair(&mut self, state: &State) -> Pair {
+        Pair { image: self.lend(&state.image), journal: self.lend(&state.journal) }
+    }
+
+    /// Makes a change on lent buffers: the answer, with slot 0 where the call
+    /// has none, and what happened to the buffers that are only read.
+    pub fn make(
+        &mut self,
+        pair: &mut Pair,
+        change: &Change,
+    ) -> (Entry, ffi::Created, Vec<Option<String>>) {
+        match change {
+            Change::Create(c) => {
+                let name = self.lend(&c.name);
+                let got = pair.create(&name, c);
+                (Entry::Create, got, vec![name.trouble("name", &c.name)])
+            }
+            Change::Write(w) => {
+                let name = self.lend(&w.name);
+                let data = self.lend(&w.data);
+                let got = pair.write(&name, w.offset, &data, w.time);
+                let troubles = vec![name.trouble("name", &w.name), data.trouble("data", &w.data)];
+                (Entry::Write, without_slot(got), troubles)
+            }
+            Change::Delete(d) => {
+                let name = self.lend(&d.name);
+                let got = pair.delete(&name);
+                (Entry::Delete, without_slot(got), vec![name.trouble("name", &d.name)])
+            }
+        }
+    }
+}
+
+/// What lookup answers in C.
+pub fn found(result: &Result<reference::Found, u32>) -> ffi::Found {
+    match result {
+        Ok(f) => ffi::Found { number: 0, slot: f.slot, size: f.size, blocks: f.blocks },
+        Err(number) => ffi::Found { number: *number, slot: 0, size: 0, blocks: 0 },
+    }
+}
+
+fn without_slot(changed: ffi::Changed) -> ffi::Created {
+    ffi::Created { number: changed.number, slot: 0, record: changed.record }
+}
+
+/// An image and a journal that are lent together.
+pub struct Pair {
+    pub image: Lent,
+    pub journal: Lent,
+}
+
+impl Pair {
+    pub fn troubles(&self, after: &State) -> [Option<String>; 2] {
+        [self.image.trouble("image", &after.image), self.journal.trouble("journal", &after.journal)]
+    }
+
+    fn create(&mut self, name: &Lent, c: &reference::Create) -> ffi::Created {
+        unsafe {
+            ffi::bulgefs_create(
+                self.image.mut_ptr(),
+                self.image.len(),
+                self.journal.mut_ptr(),
+                self.journal.len(),
+                name.ptr(),
+                name.len(),
+                c.kind,
+                c.user,
+                c.group,
+                c.permissions,
+                c.flags,
+                c.time,
+            )
+        }
+    }
+
+    fn write(&mut self, name: &Lent, offset: u64, data: &Lent, time: u64) -> ffi::Changed {
+        unsafe {
+            ffi::bulgefs_write(
+                self.image.mut_ptr(),
+                self.image.len(),
+                self.journal.mut_ptr(),
+                self.journal.len(),
+                name.ptr(),
+                name.len(),
+                offset,
+                data.ptr(),
+                data.len(),
+                time,
+            )
+        }
+    }
+
+    fn delete(&mut self, name: &Lent) -> ffi::Changed {
+        unsafe {
+            ffi::bulgefs_delete(
+                self.image.mut_ptr(),
+                self.image.len(),
+                self.journal.mut_ptr(),
+                self.journal.len(),
+                name.ptr(),
+                name.len(),
+            )
+        }
+    }
+
+    pub fn undo(&mut self) -> ffi::Changed {
+        unsafe {
+            ffi::bulgefs_undo(
+                self.image.mut_ptr(),
+                self.image.len(),
+                self.journal.mut_ptr(),
+                self.journal.len(),
+            )
+        }
+    }
+}

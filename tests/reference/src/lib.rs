@@ -1,0 +1,22 @@
+//! Reference implementation of the settings volume (BulgeFS 0.1.0.0 with an
+//! undo journal).
+//!
+//! It is written from the rules alone, to be read beside them, and makes no
+//! attempt to be fast: calls take bytes and give new bytes. A refusal is
+//! `Err(number)`, and then there are no new bytes.
+
+pub mod check;
+pub mod journal;
+pub mod layout;
+pub mod listing;
+pub mod replay;
+pub mod volume;
+
+pub use check::check;
+pub use journal::{apply, start, undo, Applied, State, Undone};
+pub use listing::list;
+pub use replay::{Answer, Call, Replay};
+pub use volume::{format, look_in_place, lookup, read, Change, Create, Delete, Found, Write};
+
+/// A refusal number, 1 to 16.
+pub type Refusal = u32;

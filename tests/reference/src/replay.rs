@@ -1,0 +1,128 @@
+//! Runs of calls. A replay has a copy of the start and the changes that
+//! stand; it sees which calls are made and what each brings, and nothing of
+//! the volume under test. (The rules call it a sheet, and its changes rows.)
+
+use crate::journal::{apply, State};
+use crate::volume::{look_in_place, lookup, read, Change, Found};
+use crate::{check, Refusal};
+use std::ops::Range;
+
+/// A call of a run, with what it brings.
+#[derive(Clone, Debug)]
+pub enum Call {
+    Change(Change),
+    Undo,
+    Check,
+    Lookup { name: Vec<u8> },
+    Read { name: Vec<u8>, offset: u64, buffer: Vec<u8> },
+    LookInPlace { name: Vec<u8>, index: u64 },
+}
+
+/// What a call must give.
+#[derive(Clone, Debug, PartialEq, Eq)]
+pub enum Answer {
+    Changed {
+        number: u32,
+        slot: u32,
+        record: u32,
+    },
+    Checked(u32),
+    Found(Result<Found, Refusal>),
+    /// The number, the count and the whole buffer afterwards.
+    Read {
+        number: u32,
+        count: u32,
+        buffer: Vec<u8>,
+    },
+    /// The part of the image and the bytes in it.
+    Part {
+        range: Range<usize>,
+        bytes: Vec<u8>,
+    },
+}
+
+pub struct Replay {
+    start: State,
+    standing: Vec<Change>,
+    /// The pair that the standing changes give, made in order from the start.
+    replayed: State,
+}
+
+impl Replay {
+    /// Begins a run from a sound image and a journal just started.
+    pub fn new(start: State) -> Replay {
+        Replay { replayed: start.clone(), standing: Vec::new(), start }
+    }
+
+    /// What image and journal must be now.
+    pub fn replayed(&self) -> &State {
+        &self.replayed
+    }
+
+    pub fn standing(&self) -> &[Change] {
+        &self.standing
+    }
+
+    /// Takes note of one call and gives its answer.
+    pub fn call(&mut self, call: &Call) -> Answer {
+        match call {
+            Call::Change(change) => self.change(change),
+            Call::Undo => self.undo(),
+            look => look_at(&self.replayed.image, look),
+        }
+    }
+
+    fn change(&mut self, change: &Change) -> Answer {
+        match apply(&self.replayed, change) {
+            Err(number) => Answer::Changed { number, slot: 0, record: 0 },
+            Ok(applied) => {
+                self.standing.push(change.clone());
+                self.replayed = applied.state;
+                Answer::Changed { number: 0, slot: applied.slot, record: applied.record }
+            }
+        }
+    }
+
+    fn undo(&mut self) -> Answer {
+        match self.standing.pop() {
+            None => Answer::Changed { number: 16, slot: 0, record: 0 },
+            Some(last) => {
+                self.replayed = self.remake();
+                let again = apply(&self.replayed, &last).expect("a standing change is accepted");
+                Answer::Changed { number: 0, slot: 0, record: again.record }
+            }
+        }
+    }
+
+    /// Makes all standing changes, in order, from the start.
+    fn remake(&self) -> State {
+        let mut state = self.start.clone();
+        for change in &self.standing {
+            state = apply(&state, change).expect("a standing change is accepted").state;
+        }
+        state
+    }
+}
+
+/// The answer of a call that only looks.
+fn look_at(image: &[u8], call: &Call) -> Answer {
+    match call {
+        Call::Check => Answer::Checked(check(image)),
+        Call::Lookup { name } => Answer::Found(lookup(image, name)),
+        Call::Read { name, offset, buffer } => {
+            let mut after = buffer.clone();
+            match read(image, name, *offset, buffer.len()) {
+                Err(number) => Answer::Read { number, count: 0, buffer: after },
+                Ok(bytes) => {
+                    after[..bytes.len()].copy_from_slice(&bytes);
+                    Answer::Read { number: 0, count: bytes.len() as u32, buffer: after }
+                }
+            }
+        }
+        Call::LookInPlace { name, index } => {
+            let range = look_in_place(image, name, *index);
+            Answer::Part { bytes: image[range.clone()].to_vec(), range }
+        }
+        Call::Change(_) | Call::Undo => unreachable!("not a look"),
+    }
+}

@@ -1,0 +1,152 @@
+//! The rules' "Numbers to hold it against", all of them.
+
+use reference::layout::{entry, header, number, slot_offsets, table_blocks};
+use reference::*;
+
+fn formatted(n: usize, d: u32) -> Result<Vec<u8>, Refusal> {
+    format(512 * n, d, 7, [3; 16], &[b'v'; 128])
+}
+
+fn fresh(n: usize, d: u32) -> State {
+    State { image: formatted(n, d).unwrap(), journal: start(65_536).unwrap() }
+}
+
+fn create_of(name: &[u8]) -> Change {
+    let name = name.to_vec();
+    Change::Create(Create {
+        name,
+        kind: 0x60,
+        user: 1,
+        group: 2,
+        permissions: 3,
+        flags: 4,
+        time: 8,
+    })
+}
+
+fn write_of(name: &[u8], offset: u64, data: &[u8]) -> Change {
+    Change::Write(Write { name: name.to_vec(), offset, data: data.to_vec(), time: 9 })
+}
+
+fn used(state: &State) -> u32 {
+    number(&state.journal, 1)
+}
+
+/// n = 16, d = 2, then "A" with 513 bytes.
+fn with_513_bytes() -> Applied {
+    let created = apply(&fresh(16, 2), &create_of(b"A")).unwrap();
+    assert_eq!((created.slot, created.record), (1, 520));
+    apply(&created.state, &write_of(b"A", 0, &[b'x'; 513])).unwrap()
+}
+
+#[test]
+fn smallest_volume() {
+    let image = formatted(3, 1).unwrap();
+    assert_eq!(check(&image), 0);
+    assert_eq!(number(&image, header::OCCUPIED), 3);
+    assert_eq!(number(&image, header::FREE), 0);
+}
+
+#[test]
+fn smallest_volume_has_no_room_for_two_root_blocks() {
+    assert_eq!(formatted(3, 2), Err(14));
+}
+
+#[test]
+fn two_blocks_are_too_few() {
+    assert_eq!(formatted(2, 1), Err(1));
+    assert_eq!(check(&[0; 1024]), 1);
+}
+
+#[test]
+fn table_sizes() {
+    assert_eq!([128, 129, 4096].map(table_blocks), [1, 2, 32]);
+}
+
+#[test]
+fn sixteen_blocks() {
+    let image = formatted(16, 2).unwrap();
+    assert_eq!([0, 1, 2, 3].map(|b| entry(&image, b)), [1, 1, 3, 1]);
+    assert_eq!(number(&image, header::FREE), 12);
+    assert_eq!(slot_offsets(&image).len() - 2, 6);
+}
+
+#[test]
+fn create_and_write_513_bytes() {
+    let written = with_513_bytes();
+    let image = &written.state.image;
+    assert_eq!([4, 5].map(|b| entry(image, b)), [5, 1]);
+    assert_eq!(number(image, header::OCCUPIED), 6);
+    assert_eq!(written.record, 2584);
+    let numbers = [0, 1, 2, 3, 4].map(|i| number(&written.state.journal, 5 + 520 + 4 + 516 * i));
+    assert_eq!(numbers, [0, 1, 2, 4, 5]);
+    assert_eq!(used(&written.state), 3109);
+    assert_eq!(read(image, b"A", 0, 1000).unwrap(), vec![b'x'; 513]);
+}
+
+#[test]
+fn one_more_byte_and_undo() {
+    let before = with_513_bytes().state;
+    let more = apply(&before, &write_of(b"A", 513, b"y")).unwrap();
+    assert_eq!(more.record, 1036);
+    assert_eq!(used(&more.state), 4145);
+    let undone = undo(&more.state).unwrap();
+    assert_eq!(undone.record, 1036);
+    assert_eq!(used(&undone.state), 3109);
+    assert_eq!(undone.state, before);
+    assert_eq!(apply(&before, &write_of(b"A", 514, b"y")), Err(12));
+    assert_eq!(apply(&before, &create_of(b"A")), Err(11));
+}
+
+#[test]
+fn longest_name() {
+    let state = fresh(16, 2);
+    assert!(apply(&state, &create_of(&[b'n'; 79])).is_ok());
+    assert_eq!(apply(&state, &create_of(&[b'n'; 80])), Err(9));
+}
+
+#[test]
+fn most_data() {
+    let state = apply(&fresh(16, 2), &create_of(b"A")).unwrap().state;
+    assert!(apply(&state, &write_of(b"A", 0, &[1; 4096])).is_ok());
+    assert_eq!(apply(&state, &write_of(b"A", 0, &[1; 4097])), Err(9));
+}
+
+#[test]
+fn a_name_is_not_its_prefix() {
+    let state = apply(&fresh(16, 2), &create_of(b"SN1")).unwrap().state;
+    assert_eq!(lookup(&state.image, b"SN10"), Err(10));
+    assert_eq!(lookup(&state.image, b"SN"), Err(10));
+    assert!(lookup(&state.image, b"SN1").is_ok());
+}
+
+#[test]
+fn listing() {
+    let image = with_513_bytes().state.image;
+    assert_eq!(list(&image), b"blocks 16 used 6 free 10\n1 513 2 A\n");
+}
+
+#[test]
+fn listing_of_other_input() {
+    assert_eq!(list(b""), b"refused 1\n");
+    assert_eq!(list(&formatted(129, 1).unwrap()), b"refused 1\n");
+    assert_eq!(list(&[0; 1536]), b"refused 2\n");
+    let state = apply(&fresh(3, 1), &create_of(b"a b\xFF~!")).unwrap().state;
+    assert_eq!(list(&state.image), b"blocks 3 used 3 free 0\n1 0 0 a?b?~!\n");
+}
+
+#[test]
+fn replay_of_a_run() {
+    let first = fresh(16, 2);
+    let mut run = Replay::new(first.clone());
+    let gave = |number, slot, record| Answer::Changed { number, slot, record };
+    assert_eq!(run.call(&Call::Undo), gave(16, 0, 0));
+    assert_eq!(run.call(&Call::Change(create_of(b"A"))), gave(0, 1, 520));
+    assert_eq!(run.call(&Call::Change(create_of(b"A"))), gave(11, 0, 0));
+    assert_eq!(run.call(&Call::Change(write_of(b"A", 0, &[b'x'; 513]))), gave(0, 0, 2584));
+    assert_eq!(run.replayed(), &with_513_bytes().state);
+    assert_eq!(run.call(&Call::Undo), gave(0, 0, 2584));
+    assert_eq!(run.call(&Call::Undo), gave(0, 0, 520));
+    assert_eq!(run.replayed(), &first);
+    assert_eq!(run.call(&Call::Check), Answer::Checked(0));
+}
