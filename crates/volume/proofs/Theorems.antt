@@ -18,7 +18,7 @@ use Rattle.volume.specs.Entries.{entryBytes}
 use Rattle.volume.specs.Format.{formatRefusal, formatted}
 use Rattle.volume.specs.Write.{needed, newBlocks}
 use Rattle.volume.specs.Change.{Change, create, write, delete, refusal, after, named, slotGiven}
-use Rattle.volume.proofs.Laws.Lists.{has-true, false-has}
+use Rattle.volume.proofs.Laws.Lists.{false-has}
 use Rattle.volume.proofs.Laws.Frame.{frame}
 use Rattle.volume.proofs.Laws.Format.{sound-format}
 use Rattle.volume.proofs.Laws.Sound.{kept}
@@ -28,6 +28,7 @@ use Rattle.volume.proofs.Laws.Write.{Written}
 use Rattle.volume.proofs.Laws.Space.{NoRoom, refused-14, lacking-14, LowestFree, new-lowest, new-length, free-count as count-free}
 use Rattle.volume.proofs.Laws.Owners.{file-owner, root-owner}
 use Rattle.layout.proofs.Laws.Sound.{sound}
+use Rattle.layout.proofs.Laws.Lists.{has-eqb-in}
 
 -- Format's image is sound. (That a UUID has sixteen bytes is its type's.)
 pub format-sound : (s : List ℕ) (d : ℕ) (uuid name : List ℕ) (time : ℕ) → length uuid ≡ 16 → formatRefusal s d name ≡ 0 → check (formatted s d uuid name time) ≡ 0
@@ -54,10 +55,10 @@ module _ (s : List ℕ) (ok : check s ≡ 0) where
   -- No two files, and no file and the root, own one block.
   module _ (name : List ℕ) (found : fileSlot s (root s) name ≢ 0) (b : ℕ) (mine : has eqb b (fileBlocks s (entryOf s name)) ≡ true) where
     pub one-owner : (other : List ℕ) → fileSlot s (root s) other ≢ 0 → has eqb b (fileBlocks s (entryOf s other)) ≡ true → name ≡ other
-    one-owner other too i = file-owner s (sound s ok) name found b (has-true b (fileBlocks s (entryOf s name)) mine) other too (has-true b (fileBlocks s (entryOf s other)) i)
+    one-owner other too i = file-owner s (sound s ok) name found b (has-eqb-in b (fileBlocks s (entryOf s name)) mine) other too (has-eqb-in b (fileBlocks s (entryOf s other)) i)
 
     pub not-root : has eqb b (root s) ≡ false
-    not-root = false-has b (root s) (root-owner s (sound s ok) name found b (has-true b (fileBlocks s (entryOf s name)) mine))
+    not-root = false-has b (root s) (root-owner s (sound s ok) name found b (has-eqb-in b (fileBlocks s (entryOf s name)) mine))
 
   -- An accepted change c.
   module _ (c : Change) (r : refusal s c ≡ 0) where

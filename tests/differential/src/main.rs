@@ -1,13 +1,15 @@
 //! Holds the C entry points of libcapi.a against the reference.
 //!
 //! Usage: differential [--rounds N] [--suite NAME] [--round K] [--trace]
-//!                     [--lister PROGRAM]
+//!                     [--lister PROGRAM] [--scripts PROGRAM]
 //!
 //! --rounds N         random rounds of each suite (default 500)
 //! --suite NAME       only this suite
 //! --round K          only this round, to see one failure again
 //! --trace            say which round begins, to find one that never ends
 //! --lister PROGRAM   also hold this lister against the reference's listing
+//! --scripts PROGRAM  also hold this program, which runs a script, against the
+//!                    reference's replay
 
 mod arguments;
 mod damage;
@@ -24,7 +26,7 @@ use report::Report;
 use rng::Rng;
 use std::process::ExitCode;
 use std::time::Instant;
-use suites::{Suite, LISTER, SUITES};
+use suites::{Suite, LISTER, SCRIPTS, SUITES};
 use tester::Tester;
 
 struct Options {
@@ -33,6 +35,7 @@ struct Options {
     round: Option<u64>,
     trace: bool,
     lister: Option<String>,
+    scripts: Option<String>,
 }
 
 fn main() -> ExitCode {
@@ -43,10 +46,15 @@ fn main() -> ExitCode {
             return ExitCode::from(2);
         }
     };
-    let mut tester = Tester::new(Report::new(), options.lister.clone());
+    let mut tester = Tester::new(Report::new(), options.lister.clone(), options.scripts.clone());
     for suite in SUITES {
         let wanted = options.suite.as_deref().unwrap_or(suite.name) == suite.name;
-        if wanted && (suite.name != LISTER || options.lister.is_some()) {
+        let possible = match suite.name {
+            LISTER => options.lister.is_some(),
+            SCRIPTS => options.scripts.is_some(),
+            _ => true,
+        };
+        if wanted && possible {
             run_suite(suite, &options, &mut tester);
         }
     }
@@ -96,7 +104,14 @@ fn seed_of(suite: &str, round: u64) -> u64 {
 }
 
 fn options(mut arguments: impl Iterator<Item = String>) -> Result<Options, String> {
-    let mut options = Options { rounds: 500, suite: None, round: None, trace: false, lister: None };
+    let mut options = Options {
+        rounds: 500,
+        suite: None,
+        round: None,
+        trace: false,
+        lister: None,
+        scripts: None,
+    };
     while let Some(argument) = arguments.next() {
         let mut value = || arguments.next().ok_or(format!("{argument} needs a value"));
         match argument.as_str() {
@@ -105,6 +120,7 @@ fn options(mut arguments: impl Iterator<Item = String>) -> Result<Options, Strin
             "--suite" => options.suite = Some(known_suite(value()?)?),
             "--trace" => options.trace = true,
             "--lister" => options.lister = Some(value()?),
+            "--scripts" => options.scripts = Some(value()?),
             other => return Err(format!("unknown option {other}")),
         }
     }

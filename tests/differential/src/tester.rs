@@ -9,6 +9,8 @@ pub struct Tester {
     pub report: Report,
     /// The lister program, if it is to be tested.
     pub lister: Option<String>,
+    /// The program that runs scripts, if it is to be tested.
+    pub scripts: Option<String>,
     shift: usize,
 }
 
@@ -21,8 +23,8 @@ fn unequal<T: PartialEq + std::fmt::Debug>(got: T, expected: T) -> Option<String
 }
 
 impl Tester {
-    pub fn new(report: Report, lister: Option<String>) -> Tester {
-        Tester { report, lister, shift: 0 }
+    pub fn new(report: Report, lister: Option<String>, scripts: Option<String>) -> Tester {
+        Tester { report, lister, scripts, shift: 0 }
     }
 
     fn lend(&mut self, content: &[u8]) -> Lent {

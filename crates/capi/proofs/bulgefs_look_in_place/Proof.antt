@@ -5,23 +5,16 @@ use Rattle.capi.proofs.Bounds.{extent-small}
 use borrow.Author.Needs.{needs}
 use Rattle.capi.proofs.bulgefs_look_in_place.Statement.{statement}
 use Rattle.capi.proofs.bulgefs_look_in_place.Tie as tie
-use Rattle.capi.proofs.bulgefs_look_in_place.Reads as reads
-use Rattle.capi.proofs.bulgefs_look_in_place.Lts as lts
-use Rattle.layout.proofs.reading.extent_in_place.Reads as extent-in-place-reads
 
--- src/lib.rt:81:9
 extent-in-place-requires : tie.Need-extent-in-place-requires
 extent-in-place-requires c κs = search needs
 
--- src/lib.rt:83:16
 cast-t6 : tie.Need-cast-t6
 cast-t6 c = omega (arith, extent-small (c .before .before .before .before .args .image .now) (c .before .before .before .before .args .name .now) (c .before .before .before .before .args .index))
 
--- src/lib.rt:84:17
 cast-t7 : tie.Need-cast-t7
 cast-t7 c = omega (arith, extent-small (c .before .before .before .before .before .args .image .now) (c .before .before .before .before .before .args .name .now) (c .before .before .before .before .before .args .index))
 
--- src/lib.rt:77:1
 returns : tie.Need-returns
 returns c =
     let e = c .before .before .extent-in-place .ensures in

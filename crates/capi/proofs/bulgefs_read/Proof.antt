@@ -5,41 +5,30 @@ use Rattle.layout.specs.Looks.{ReadAnswer}
 use borrow.Author.Needs.{needs}
 use Rattle.capi.proofs.bulgefs_read.Statement.{statement}
 use Rattle.capi.proofs.bulgefs_read.Tie as tie
-use Rattle.capi.proofs.bulgefs_read.Reads as reads
-use Rattle.capi.proofs.bulgefs_read.Lts as lts
-use Rattle.layout.proofs.reading.read.Reads as read-reads
 
--- src/lib.rt:65:11
 read-requires : tie.Need-read-requires
 read-requires c κs = search needs
 
--- src/lib.rt:66:40
 enum-known-count : tie.Need-enum-known-count
 enum-known-count c = search needs
 
--- src/lib.rt:68:20
 cast-t12 : tie.Need-cast-t12
 cast-t12 c =
     let e = ap (λ (x : ReadAnswer). x .count) (read-case _ _ (c .before .count .given .1) (c .before .before .before .before .before .read .ensures)) in
     omega (arith, count-small (c .before .before .before .before .before .before .before .before .before .before .args .image .now) (c .before .before .before .before .before .before .before .before .before .before .args .name .now) (c .before .before .before .before .before .before .before .before .before .before .args .offset) (c .before .before .before .before .before .before .before .before .before .before .args .buffer .now) (λ i. omega (arith, c .before .before .before .before .before .before .before .before .before .shared-slice-known .given i)))
 
--- src/lib.rt:70:42
 enum-known-number : tie.Need-enum-known-number
 enum-known-number c = search needs
 
--- src/lib.rt:61:1
 same-length : tie.Need-same-length
 same-length c = search needs
 
--- src/lib.rt:61:1
 returns : tie.Need-returns
 returns c = read-case _ _ (c .before .count .given .1) (c .before .before .before .before .before .read .ensures)
 
--- src/lib.rt:61:1
 same-length-2 : tie.Need-same-length-2
 same-length-2 c = search needs
 
--- src/lib.rt:61:1
 returns-2 : tie.Need-returns-2
 returns-2 c = read-case _ _ (c .before .number .given .1) (c .before .before .before .before .before .read .ensures)
 

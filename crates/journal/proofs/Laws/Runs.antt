@@ -1,4 +1,4 @@
--- DEMAND 3. First from laws on one call each: an accepted change keeps a property P of pairs, and undo takes it back; P holds at the start, where
+-- The theorem over whole runs (demand 3). First from laws on one call each: an accepted change keeps a property P of states, and undo takes it back; P holds at the start, where
 -- undo gives 16. Then at the property Made of Undo.
 use Prim.Native.Nat.{ℕ, zero, suc, _≤_}
 use mathlib.Core.Path.{_≡_, refl, ap, _∙_}
@@ -14,10 +14,10 @@ use Rattle.layout.specs.Limits.{minJournal, maxJournal}
 use Rattle.volume.proofs.Laws.Sound.{KeptSound}
 use Rattle.journal.proofs.Laws.Undo.{Made, kept, back, told, first, none, told-none}
 
--- each row was accepted on the pair before it
+-- each change was accepted on the state before it
 Stand : State → List Change → Type 0
 Stand start [] = Unit {0}
-Stand start (c ∷ rows) = (changeRefusal (replayed start rows) c ≡ 0) × Stand start rows
+Stand start (c ∷ changes) = (changeRefusal (replayed start changes) c ≡ 0) × Stand start changes
 
 refused : (p : State) (c : Change) (k : ℕ) → changeRefusal p c ≡ suc k → afterChange p c ≡ p
 unfolding afterChange
@@ -30,60 +30,60 @@ module _ (start : State) (P : State → Type 0) (first : P start)
     (none : afterUndo start ≡ start)
     (told-none : undoAnswer start ≡ undone 16 0)
   where
-    holds : (rows : List Change) → Stand start rows → P (replayed start rows)
+    holds : (changes : List Change) → Stand start changes → P (replayed start changes)
     unfolding Stand replayed
     holds [] t = first
-    holds (c ∷ rows) t = kept (replayed start rows) c (holds rows (t .1)) (t .0)
+    holds (c ∷ changes) t = kept (replayed start changes) c (holds changes (t .1)) (t .0)
 
-    -- one call: the pair and the answer follow the sheet, and the rows still stand
+    -- one call: the state and the answer follow the replay, and the changes still stand
     One : List Change → Call → Type 0
-    One rows c =
-        (step (replayed start rows) c ≡ replayed start (standingAfter start rows c))
-        × (answer (replayed start rows) c ≡ replayAnswer start rows c)
-        × Stand start (standingAfter start rows c)
+    One changes c =
+        (step (replayed start changes) c ≡ replayed start (standingAfter start changes c))
+        × (answer (replayed start changes) c ≡ replayAnswer start changes c)
+        × Stand start (standingAfter start changes c)
 
-    one-change : (rows : List Change) (c : Change) → Stand start rows → One rows (change c)
+    one-change : (changes : List Change) (c : Change) → Stand start changes → One changes (change c)
     unfolding One Stand replayed step answer standingAfter replayAnswer
-    one-change rows c t = go (changeRefusal (replayed start rows) c) refl
+    one-change changes c t = go (changeRefusal (replayed start changes) c) refl
       where
-        go : (k : ℕ) → changeRefusal (replayed start rows) c ≡ k → One rows (change c)
+        go : (k : ℕ) → changeRefusal (replayed start changes) c ≡ k → One changes (change c)
         go zero e = rw e (refl, refl, (e, t))
-        go (suc k) e = rw e (refused (replayed start rows) c k e, refl, t)
+        go (suc k) e = rw e (refused (replayed start changes) c k e, refl, t)
 
-    one : (rows : List Change) (c : Call) → Stand start rows → One rows c
+    one : (changes : List Change) (c : Call) → Stand start changes → One changes c
     unfolding One Stand replayed step answer standingAfter replayAnswer
-    one rows (change c) t = one-change rows c t
+    one changes (change c) t = one-change changes c t
     one [] undo t = (none, told-none, t)
-    one (c ∷ rows) undo t =
-        (back (replayed start rows) c (holds rows (t .1)) (t .0), told (replayed start rows) c (holds rows (t .1)) (t .0), t .1)
-    one rows (look l) t = (refl, refl, t)
+    one (c ∷ changes) undo t =
+        (back (replayed start changes) c (holds changes (t .1)) (t .0), told (replayed start changes) c (holds changes (t .1)) (t .0), t .1)
+    one changes (look l) t = (refl, refl, t)
 
-    pairs : (rows : List Change) (calls : List Call) → Stand start rows → run (replayed start rows) calls ≡ replayed start (standing start rows calls)
+    states : (changes : List Change) (calls : List Call) → Stand start changes → run (replayed start changes) calls ≡ replayed start (standing start changes calls)
     unfolding run standing One
-    pairs rows [] t = refl
-    pairs rows (c ∷ cs) t =
-        ap (λ (p : State). run p cs) (one rows c t .0) ∙ pairs (standingAfter start rows c) cs (one rows c t .2)
+    states changes [] t = refl
+    states changes (c ∷ cs) t =
+        ap (λ (p : State). run p cs) (one changes c t .0) ∙ states (standingAfter start changes c) cs (one changes c t .2)
 
-    answered : (rows : List Change) (calls : List Call) → Stand start rows → answers (replayed start rows) calls ≡ replayAnswers start rows calls
+    answered : (changes : List Change) (calls : List Call) → Stand start changes → answers (replayed start changes) calls ≡ replayAnswers start changes calls
     unfolding answers replayAnswers One
-    answered rows [] t = refl
-    answered rows (c ∷ cs) t =
-        rw (one rows c t .0, one rows c t .1)
-        (ap (λ (l : List Answer). replayAnswer start rows c ∷ l) (answered (standingAfter start rows c) cs (one rows c t .2)))
+    answered changes [] t = refl
+    answered changes (c ∷ cs) t =
+        rw (one changes c t .0, one changes c t .1)
+        (ap (λ (l : List Answer). replayAnswer start changes c ∷ l) (answered (standingAfter start changes c) cs (one changes c t .2)))
 
-    stand : (rows : List Change) (calls : List Call) → Stand start rows → Stand start (standing start rows calls)
+    stand : (changes : List Change) (calls : List Call) → Stand start changes → Stand start (standing start changes calls)
     unfolding standing One
-    stand rows [] t = t
-    stand rows (c ∷ cs) t = stand (standingAfter start rows c) cs (one rows c t .2)
+    stand changes [] t = t
+    stand changes (c ∷ cs) t = stand (standingAfter start changes c) cs (one changes c t .2)
 
     pub matches-replay : (calls : List Call) → MatchesReplay start calls
     unfolding Stand replayed
-    matches-replay calls = record { state = pairs [] calls tt; answered = answered [] calls tt }
+    matches-replay calls = record { state = states [] calls tt; answered = answered [] calls tt }
 
     -- and P holds after every run
     pub keeps : (calls : List Call) → P (run start calls)
     unfolding Stand replayed
-    keeps calls = rw (pairs [] calls tt) (holds (standing start [] calls) (stand [] calls tt))
+    keeps calls = rw (states [] calls tt) (holds (standing start [] calls) (stand [] calls tt))
 
 pub run-theorem : KeptSound → RunTheorem
 run-theorem sound image size calls e low high =

@@ -10,7 +10,7 @@ use lib.ListN.{getD-replicate, List·getD-eq-default, length, getD, drop, length
 use lib.Seq.{getD-append-add, drop-at}
 use Rattle.layout.specs.Bytes.{be32, bytes4, splice, zeros}
 use Rattle.journal.specs.Journal.{used, started}
-use Rattle.layout.proofs.Laws.Bytes.{length-zeros, zeros-add, splice-between, be32-at, be32-same}
+use Rattle.layout.proofs.Laws.Bytes.{length-zeros, zeros-add, splice-between, be32-at, be32-same, getD-zeros}
 
 unfoldable pub filled : ℕ → List ℕ → ℕ → List ℕ
 filled u body room = 1 ∷ (bytes4 u ++ (body ++ zeros room))
@@ -34,17 +34,9 @@ read-filled u body room i h k =
     ap (λ (x : ℕ). getD (filled u body room) x 0) d
     ∙ getD-append-add (1 ∷ bytes4 u) (body ++ zeros room) (i - 5) 0 ∙ List·getD-append body (zeros room) 0 (i - 5) (omega arith)
 
-zeros-byte : (k i : ℕ) → getD (zeros k) i 0 ≡ 0
-unfolding zeros
-zeros-byte k i = go (ltb i k) refl
-  where
-    go : (b : Bool) → ltb i k ≡ b → getD (zeros k) i 0 ≡ 0
-    go true e = getD-replicate k i 0 0 (ltb-true i k e)
-    go false e = List·getD-eq-default (zeros k) 0 {n = i} (simp length-zeros (ltb-false i k e))
-
 past-body : (u : ℕ) (body : List ℕ) (room k : ℕ) → getD (filled u body room) (length (1 ∷ (bytes4 u ++ body)) + k) 0 ≡ 0
 unfolding filled
-past-body u body room k = rw (← append-assoc (bytes4 u) body (zeros room)) (getD-append-add (1 ∷ (bytes4 u ++ body)) (zeros room) k 0 ∙ zeros-byte room k)
+past-body u body room k = rw (← append-assoc (bytes4 u) body (zeros room)) (getD-append-add (1 ∷ (bytes4 u ++ body)) (zeros room) k 0 ∙ getD-zeros room k)
 
 pub tail-filled : (u : ℕ) (body : List ℕ) (room i : ℕ) → 5 + length body ≡ u → u ≤ i → getD (filled u body room) i 0 ≡ 0
 unfolding bytes4

@@ -1,4 +1,4 @@
--- The laws of one call of a run: an accepted change keeps the property Made of pairs, and undo takes it back, byte for byte; at the start
+-- The laws of one call of a run: an accepted change keeps the property Made of states, and undo takes it back, byte for byte; at the start
 -- undo gives 16. From the soundness law and the frame law of the changes.
 use Prim.Native.Nat.{ℕ, _+_, _-_, _≤_}
 use mathlib.Core.Path.{_≡_, refl, _∙_}

@@ -8,7 +8,7 @@ use lib.ListN.{length, take, drop, length-append, length-take, length-drop, drop
 use lib.Seq.{take-all, take-append-add, take-take, length-take-le, take-add, take-at, drop-at}
 use Rattle.layout.specs.Lists.{joined}
 use Rattle.layout.specs.Bytes.{splice, be32, bytes4, zeros}
-use Rattle.layout.proofs.Laws.Bytes.{length-splice, splice-nil, splice-flat, length-zeros, be32-same, be32-bytes4, splice-right, splice-left, splice-append}
+use Rattle.layout.proofs.Laws.Bytes.{length-splice, splice-nil, splice-flat, length-zeros, getD-zeros, be32-same, be32-bytes4, splice-right, splice-left, splice-append}
 use Rattle.layout.proofs.Laws.Tests.{lt-or-ge}
 
 -- numbers, four bytes each; zeros
@@ -25,13 +25,9 @@ joined4-at (x ∷ xs) (suc b) h g =
     be32-same (joined bytes4 xs) (joined bytes4 (x ∷ xs)) (4 * b) (4 * suc b)
     (λ i l. let e : 4 * suc b + i ≡ suc (suc (suc (suc (4 * b + i)))) = omega arith in rw e) ∙ joined4-at xs b (omega arith) g
 
-pub zeros-at : (m i : ℕ) → getD (zeros m) i 0 ≡ 0
-unfolding zeros
-zeros-at m i = ⊎-elim (λ h. getD-replicate m i 0 0 h) (λ h. List·getD-eq-default (replicate m 0) 0 (omega (arith, length-zeros m))) (lt-or-ge i m)
-
 pub zeros-32 : (m i : ℕ) → be32 (zeros m) i ≡ 0
 unfolding be32
-zeros-32 m i = rw (zeros-at m i, zeros-at m (i + 1), zeros-at m (i + 2), zeros-at m (i + 3))
+zeros-32 m i = rw (getD-zeros m i, getD-zeros m (i + 1), getD-zeros m (i + 2), getD-zeros m (i + 3))
 
 -- bytes put into two lists in order: after the first, or from within the first on
 module _ (x y : List ℕ) (o : ℕ) (p : List ℕ) where

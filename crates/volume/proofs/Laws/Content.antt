@@ -23,12 +23,12 @@ use Rattle.volume.proofs.Laws.Others.{Others, found-same, found-gone, o
 use Rattle.volume.proofs.Laws.Accepted.{CreateGiven, create-given, named-slot, file-given, WriteGiven, write-given, fits-name, named-name, free-slot, good-given, lookup-given}
 use Rattle.volume.proofs.Laws.Sound.{kept}
 use Rattle.volume.proofs.Laws.Data.{length-joined, joined-block}
-use Rattle.volume.proofs.Laws.Lists.{part-middle, in-at}
+use Rattle.volume.proofs.Laws.Lists.{part-middle}
 use Rattle.volume.proofs.Laws.Owners.{file-size, file-below, file-length}
 use Rattle.volume.proofs.Laws.Delete.{deleted-others, deleted-type}
 use Rattle.volume.proofs.Laws.Write.{Written, written-others, written-file}
 use Rattle.layout.proofs.Laws.Tests.{lt-or-ge, and-split, and-join, true-not-false, is-false}
-use Rattle.layout.proofs.Laws.Lists.{In}
+use Rattle.layout.proofs.Laws.Lists.{In, getD-in}
 use Rattle.layout.proofs.Laws.Names.{same-eq, same-refl}
 use Rattle.layout.proofs.Laws.Bytes.{part-part, be32-part, splice-whole, splice-flat}
 use Rattle.layout.proofs.Laws.Sound.{dirSize, Sound, sound}
@@ -58,7 +58,7 @@ look-part s S name ne i m h m₁ m₂ =
     let l = file-length s S k (w .1) (w .2) in
     let q = file-size s S k (w .1) (w .2) (w .0) in
     let below : (x : ℕ) → In x (fileBlocks s e) → x < blockCount s = file-below s S k (w .1) (w .2) in
-    let bn : b < blockCount s = below b (in-at (fileBlocks s e) i (omega arith)) in
+    let bn : b < blockCount s = below b (getD-in (fileBlocks s e) i 0 (omega arith)) in
     let lj : length J ≡ 512 * length (fileBlocks s e) = length-joined (blockCount s) (S .least) (fileBlocks s e) s (S .whole) below in
     let z : 512 * b ≡ 512 * b + 0 = omega arith in
     let y : 512 * i + 0 ≡ 0 + 512 * i = omega arith in

@@ -17,10 +17,10 @@ use Rattle.layout.specs.Directory.{slotAt, typeOf, selfOf, parentOf, blocksOf, 
 use Rattle.layout.specs.Check.{stage1, stage2, stage3, slotOk, check}
 use Rattle.volume.specs.Entries.{entryBytes, directoryMade}
 use Rattle.volume.specs.Format.{formatRefusal, firstEntries, headerBytes, formatImage}
-use Rattle.volume.proofs.Laws.Bytes.{length-joined4, joined4-at, zeros-at, zeros-32}
+use Rattle.volume.proofs.Laws.Bytes.{length-joined4, joined4-at, zeros-32}
 use Rattle.volume.proofs.Laws.Lists.{length-range, getD-range}
 use Rattle.volume.proofs.Laws.Entries.{entry-type, entry-first, entry-size, entry-blocks, entry-length}
-use Rattle.layout.proofs.Laws.Bytes.{length-splice, length-zeros, getD-splice-inside, be32-same, part-same, be32-bytes4}
+use Rattle.layout.proofs.Laws.Bytes.{length-splice, length-zeros, getD-splice-inside, be32-same, part-same, be32-bytes4, getD-zeros}
 use Rattle.layout.proofs.Laws.Tests.{and-split, and-join, true-not-false, lt-or-ge, lt-or-gt, require-zero, within-split}
 use Rattle.layout.proofs.Laws.Names.{same-refl}
 use Rattle.layout.proofs.Laws.Frames.{Same, same-then, same-be32, same-byte, same-below, same-above, same-inside}
@@ -274,7 +274,7 @@ module _ (n d : ℕ) (uuid name : List ℕ) (time : ℕ) (n₁ : 3 ≤ n) (n₂ 
         (same-then blank tabled done (slotAt ds k) 1 (zero-tabled (slotAt ds k) 1 (omega (arith, entries-size)))
         (same-then tabled begun done (slotAt ds k) 1 (same-above tabled (512 * rootBlock n) self fit-begun (slotAt ds k) 1 (omega (arith, self-length))) (from-begun (slotAt ds k) 1 (omega (arith, end-at)))))
         (omega arith) (omega arith)
-        ∙ zeros-at (512 * n) (slotAt ds k)
+        ∙ getD-zeros (512 * n) (slotAt ds k)
 
     end-type : typeOf done (slotAt ds (4 * d - 1)) ≡ 255
     end-type =

@@ -21,13 +21,13 @@ use Rattle.volume.specs.Write.{put, written, changedEntries, newSize, ne
 use Rattle.volume.specs.Change.{refusal, after, Change, named, create, write, delete}
 use Rattle.volume.specs.Create.{createSlot, createImage, createRefusal, createNamed}
 use Rattle.volume.specs.Delete.{deleteAt, deleteNamed}
-use Rattle.volume.proofs.Laws.Lists.{in-part, in-map, true-has, false-has, in-take, in-drop, map-in, in-single, has-true, in-some}
+use Rattle.volume.proofs.Laws.Lists.{in-part, in-map, false-has, map-in, in-single}
 use Rattle.volume.proofs.Laws.Accepted.{named-slot, free-slot, create-given, file-given, WriteGiven, write-given}
 use Rattle.volume.proofs.Laws.Entries.{padded-length, entry-length}
 use Rattle.volume.proofs.Laws.Owners.{slot-block, file-below, file-size, file-length}
 use Rattle.volume.proofs.Laws.Space.{new-fresh, new-length, all-below, last-below}
 use Rattle.layout.proofs.Laws.Bytes.{getD-part, length-take-most, be32-same, length-bytes4, length-bytes8, length-splice, length-zeros, splice-nil, getD-splice-before, getD-splice-after}
-use Rattle.layout.proofs.Laws.Lists.{In, in-left, in-right, in-append}
+use Rattle.layout.proofs.Laws.Lists.{In, in-left, in-right, in-append, in-has-eqb, in-take, in-drop, has-eqb-in, in-some}
 use Rattle.layout.proofs.Laws.Tests.{lt-or-ge, true-not-false}
 use Rattle.layout.proofs.Laws.Sound.{sound, dirSize, Sound}
 
@@ -44,7 +44,7 @@ agree-none s t a = ext-getD 0 t s (a .size) (λ i h. a .byte i refl)
 
 pub agree-more : {s t bs cs : List ℕ} → Agree s t bs → ((b : ℕ) → In b bs → In b cs) → Agree s t cs
 agree-more {s} {t} {bs} {cs} a f =
-    record { size = a .size; byte = λ i e. a .byte i (false-has (i / 512) bs (λ m. true-not-false (true-has (i / 512) cs (f (i / 512) m)) e)) }
+    record { size = a .size; byte = λ i e. a .byte i (false-has (i / 512) bs (λ m. true-not-false (in-has-eqb (i / 512) cs (f (i / 512) m)) e)) }
 
 -- one step, and then others: each within the blocks cs
 pub agree-then : {s t w os bs cs : List ℕ} → Agree s t os → Agree t w bs → ((b : ℕ) → In b os → In b cs) → ((b : ℕ) → In b bs → In b cs) → Agree s w cs
@@ -154,7 +154,7 @@ taken-written xs ys size offset (suc c) x p q h i = written-all x xs ys offset c
 
 pub written-in : (bs : List ℕ) (offset count x : ℕ) → In x (written bs offset count) → In x bs
 unfolding written
-written-in bs offset (suc c) x i = in-drop (offset / 512) bs x (in-take (blocksFor (offset % 512 + suc c)) (drop (offset / 512) bs) x i)
+written-in bs offset (suc c) x i = in-drop x (offset / 512) bs (in-take x (blocksFor (offset % 512 + suc c)) (drop (offset / 512) bs) i)
 
 -- what each step of a change writes, in an image of n blocks
 module _ (n : ℕ) (n₁ : 3 ≤ n) where
@@ -167,7 +167,7 @@ module _ (n : ℕ) (n₁ : 3 ≤ n) where
 
       go : (i : ℕ) → has eqb (i / 512) (b ∷ []) ≡ false → (i < at) ⊎ (at ≤ i) → (i < at + length p) ⊎ (at + length p ≤ i) → getD (splice s at p) i 0 ≡ getD s i 0
       go i e (inl l) m = getD-splice-before s at p fits i l
-      go i e (inr l) (inl m) = absurd (true-not-false (true-has (i / 512) (b ∷ []) (inl (omega arith))) e)
+      go i e (inr l) (inl m) = absurd (true-not-false (in-has-eqb (i / 512) (b ∷ []) (inl (omega arith))) e)
       go i e (inr l) (inr m) = getD-splice-after s at p fits i m
 
   set-next-agree : (s : List ℕ) (b v : ℕ) → length s ≡ 512 * n → b < n → Agree s (setNext s b v) (tableBlockOf b ∷ [])
@@ -296,9 +296,9 @@ module _ (s : List ℕ) (S : Sound s) where
     framed-by c ns q a f =
         record {
           agree = rw q a;
-          inside = λ b i. ⊎-elim (λ d. rw d (slot-block s S k h .0)) (λ j. f b j) (has-true b (e / 512 ∷ ns) (rw q at i));
+          inside = λ b i. ⊎-elim (λ d. rw d (slot-block s S k h .0)) (λ j. f b j) (has-eqb-in b (e / 512 ∷ ns) (rw q at i));
           one = e / 512;
-          listed = rw q (true-has (e / 512) (e / 512 ∷ ns) (inl refl));
+          listed = rw q (in-has-eqb (e / 512) (e / 512 ∷ ns) (inl refl));
         }
 
   create-framed : (name : List ℕ) (type user group permissions flags time : ℕ) → createRefusal s name type ≡ 0 → Framed s (create name type user group permissions flags time)

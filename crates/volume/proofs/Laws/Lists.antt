@@ -14,37 +14,15 @@ use lib.Dec.{eqb}
 use Rattle.layout.specs.Lists.{range, select, keep, lowest, distinct, joined, lastOr, has}
 use Rattle.layout.specs.Bytes.{part}
 use Rattle.layout.proofs.Laws.Tests.{and-split, and-join, true-not-false, is-false}
-use Rattle.layout.proofs.Laws.Lists.{In, has-in, in-right, in-has}
+use Rattle.layout.proofs.Laws.Lists.{In, in-right, in-take, getD-in, has-eqb-in, in-has-eqb}
 
--- membership, as a test and as a fact
+-- what is not in a list, as a test
 module _ (x : ℕ) (xs : List ℕ) where
-  pub has-true : has eqb x xs ≡ true → In x xs
-  has-true = has-in eqb eqb-true (λ y. eq-eqb y y refl) x xs
-
-  pub true-has : In x xs → has eqb x xs ≡ true
-  true-has = in-has eqb eqb-true (λ y. eq-eqb y y refl) x xs
-
   pub false-has : (In x xs → ⊥) → has eqb x xs ≡ false
-  false-has f = is-false (has eqb x xs) (λ e. f (has-true e))
-
-pub in-some : (x : ℕ) (xs : List ℕ) → In x xs → 1 ≤ length xs
-in-some x (y ∷ xs) i = omega arith
+  false-has f = is-false (has eqb x xs) (λ e. f (has-eqb-in x xs e))
 
 pub in-single : (y : ℕ) (xs : List ℕ) → In y xs → (x : ℕ) → In x (y ∷ []) → In x xs
 in-single y xs m x (inl e) = subst (λ (z : ℕ). In z xs) (sym e) m
-
-pub in-take : (j : ℕ) (xs : List ℕ) (x : ℕ) → In x (take j xs) → In x xs
-in-take (suc j) (y ∷ xs) x (inl e) = inl e
-in-take (suc j) (y ∷ xs) x (inr m) = inr (in-take j xs x m)
-
-pub in-drop : (j : ℕ) (xs : List ℕ) (x : ℕ) → In x (drop j xs) → In x xs
-in-drop zero xs x m = m
-in-drop (suc j) (y ∷ xs) x m = inr (in-drop j xs x m)
-
-pub in-at : (xs : List ℕ) (i : ℕ) → i < length xs → In (getD xs i 0) xs
-in-at [] i h = absurd (omega arith)
-in-at (x ∷ xs) zero h = inl refl
-in-at (x ∷ xs) (suc i) h = inr (in-at xs i (omega arith))
 
 pub in-map : (f : ℕ → ℕ) (x : ℕ) (xs : List ℕ) → In x xs → In (f x) (map f xs)
 in-map f x (y ∷ xs) (inl e) = inl (ap f e)
@@ -67,7 +45,7 @@ last-in (x ∷ xs) b = inr (⊎-elim (λ e. inl e) (λ i. inr i) (last-in xs x))
 -- the head of a list of different numbers, and the rest
 module _ (x : ℕ) (xs : List ℕ) (d : distinct eqb (x ∷ xs) ≡ true) where
   pub head-apart : In x xs → ⊥
-  head-apart i = true-not-false (true-has x xs i) (not-true _ (and-split (not (has eqb x xs)) (distinct eqb xs) d .0))
+  head-apart i = true-not-false (in-has-eqb x xs i) (not-true _ (and-split (not (has eqb x xs)) (distinct eqb xs) d .0))
 
   pub tail-distinct : distinct eqb xs ≡ true
   tail-distinct = and-split (not (has eqb x xs)) (distinct eqb xs) d .1
@@ -107,7 +85,7 @@ module _ (p : ℕ → Bool) where
       r = select p (range (suc a) k)
 
       go : (t : Bool) → distinct eqb r ≡ true → distinct eqb (keep t a r) ≡ true
-      go true d = and-join (ap not (is-false (has eqb a r) (λ e. let w = select-in (suc a) k a (has-true a r e) in omega arith))) d
+      go true d = and-join (ap not (is-false (has eqb a r) (λ e. let w = select-in (suc a) k a (has-eqb-in a r e) in omega arith))) d
       go false d = d
 
   pub select-ascends : (k a i j : ℕ) → i < j → j < length (select p (range a k)) → getD (select p (range a k)) i 0 < getD (select p (range a k)) j 0
@@ -117,13 +95,13 @@ module _ (p : ℕ → Bool) where
       go : ((i j : ℕ) → i < j → j < length (select p (range (suc a) k)) → getD (select p (range (suc a) k)) i 0 < getD (select p (range (suc a) k)) j 0)
           → (t : Bool) (i j : ℕ) → i < j → j < length (keep t a (select p (range (suc a) k))) → getD (keep t a (select p (range (suc a) k))) i 0 < getD (keep t a (select p (range (suc a) k))) j 0
       go ih true i zero h g = absurd (omega arith)
-      go ih true zero (suc j) h g = let w = select-in (suc a) k (getD (select p (range (suc a) k)) j 0) (in-at (select p (range (suc a) k)) j (omega arith)) in omega arith
+      go ih true zero (suc j) h g = let w = select-in (suc a) k (getD (select p (range (suc a) k)) j 0) (getD-in (select p (range (suc a) k)) j 0 (omega arith)) in omega arith
       go ih true (suc i) (suc j) h g = ih i j (omega arith) (omega arith)
       go ih false i j h g = ih i j h g
 
   -- the first j of them are the lowest
   pub select-lowest : (k a j x y : ℕ) → In y (take j (select p (range a k))) → x < y → a ≤ x → p x ≡ true → In x (take j (select p (range a k)))
-  select-lowest zero a j x y m lt h t = absurd (in-take j [] y m)
+  select-lowest zero a j x y m lt h t = absurd (in-take y j [] m)
   select-lowest (suc k) a j x y m lt h t = go (λ j m h. select-lowest k (suc a) j x y m lt h t) (p a) refl j m
     where
       later : p a ≡ false → suc a ≤ x

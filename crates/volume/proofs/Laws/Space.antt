@@ -18,10 +18,10 @@ use Rattle.layout.specs.Limits.{maxData}
 use Rattle.layout.specs.Looks.{entryOf}
 use Rattle.layout.specs.Bytes.{be32}
 use Rattle.volume.specs.Write.{newSize, needed, newBlocks, writeAtRefusal, writeRefusal}
-use Rattle.volume.proofs.Laws.Lists.{select-in, in-take, select-ascends, select-lowest, select-distinct, select-split, last-in}
+use Rattle.volume.proofs.Laws.Lists.{select-in, select-ascends, select-lowest, select-distinct, select-split, last-in}
 use Rattle.volume.proofs.Laws.Owners.{file-above, file-below, file-length, file-size}
 use Rattle.layout.proofs.Laws.Sound.{dirSize, Sound}
-use Rattle.layout.proofs.Laws.Lists.{in-append, In, distinct-left}
+use Rattle.layout.proofs.Laws.Lists.{in-append, In, distinct-left, in-take}
 use Rattle.layout.proofs.Laws.Tests.{and-split, lt-or-ge, is-false}
 
 -- the free blocks are as many as the header tells
@@ -53,7 +53,7 @@ free-fresh s S j =
     all = select (λ b. eqb (next s b) 0) (range 0 n)
 
     fact : (x : ℕ) → In x (take j all) → (0 ≤ x) × (x < 0 + n) × (eqb (next s x) 0 ≡ true)
-    fact x i = select-in (λ b. eqb (next s b) 0) 0 n x (in-take j all x i)
+    fact x i = select-in (λ b. eqb (next s b) 0) 0 n x (in-take x j all i)
 
     high : (x : ℕ) → (0 ≤ x) × (x < 0 + n) × (eqb (next s x) 0 ≡ true) → (tableBlocks n < x) ⊎ (x ≤ tableBlocks n) → tableBlocks n < x
     high x w (inl h) = h
@@ -76,7 +76,7 @@ module _ (s : List ℕ) (e offset count : ℕ) where
   unfolding newBlocks freeBlocks
   new-lowest =
       record {
-        free = λ b i. let w = select-in (λ x. eqb (next s x) 0) 0 (blockCount s) b (in-take k all b i) in (omega arith, eqb-true (next s b) 0 (w .2));
+        free = λ b i. let w = select-in (λ x. eqb (next s x) 0) 0 (blockCount s) b (in-take b k all i) in (omega arith, eqb-true (next s b) 0 (w .2));
         rising = λ i j h g. let l = length-take k all in
             rw (getD-take k all i 0 (omega arith), getD-take k all j 0 (omega arith)) (select-ascends (λ x. eqb (next s x) 0) (blockCount s) 0 i j h (omega arith));
         lowest = λ b c i lt z. select-lowest (λ x. eqb (next s x) 0) (blockCount s) 0 k b c i lt (omega arith) (eq-eqb (next s b) 0 z);

@@ -14,16 +14,13 @@ use Rattle.layout.specs.Bytes.{be32, part, splice}
 use Rattle.layout.specs.Geometry.{tableBlocks, rootBlock, inVolume}
 use Rattle.layout.specs.Table.{next, chain}
 use Rattle.volume.specs.Write.{put}
+use Rattle.volume.proofs.Walks.Release.{chain-suc}
 use Rattle.volume.specs.Walks.Data.{Placed}
 use Rattle.volume.proofs.Laws.Table.{before-next}
 use Rattle.layout.proofs.Laws.Tests.{and-split}
 use Rattle.layout.proofs.Laws.Bytes.{length-part, splice-nil, length-splice}
 use Rattle.layout.proofs.Laws.Frames.{same-beside}
 use Rattle.layout.proofs.Walks.Content.{least-cases}
-
-chain-step : (v : ℕ → ℕ) (b k : ℕ) → 0 < k → chain v b k ≡ b ∷ chain v (v b) (k - 1)
-unfolding chain
-chain-step v b k h = let e : k ≡ suc (k - 1) = omega arith in ap (λ (j : ℕ). chain v b j) e
 
 -- another table with the same values below n has the same chain
 chain-same : (n : ℕ) (v w : ℕ → ℕ) (k b : ℕ) → ((c : ℕ) → c < n → w c ≡ v c) → every (inVolume n) (chain v b k) ≡ true → chain w b k ≡ chain v b k
@@ -66,10 +63,10 @@ module _ (s₀ : List ℕ) (n first k offset : ℕ) (bytes s : List ℕ) (b left
     some = omega arith
 
     first-put : put s (chain (next s) b left) o (drop p bytes) ≡ put (splice s (512 * b + o) (take (512 - o) (drop p bytes))) (chain (next s) (next s b) (left - 1)) (o - 512) (drop (512 - o) (drop p bytes))
-    first-put = ap (λ (l : List ℕ). put s l o (drop p bytes)) (chain-step (next s) b left some) ∙ put-cons s b (chain (next s) (next s b) (left - 1)) o (drop p bytes)
+    first-put = ap (λ (l : List ℕ). put s l o (drop p bytes)) (chain-suc (next s) b left some) ∙ put-cons s b (chain (next s) (next s b) (left - 1)) o (drop p bytes)
 
     split : every (inVolume n) (b ∷ chain (next s) (next s b) (left - 1)) ≡ true
-    split = rw (chain-step (next s) b left some) at (r .inside)
+    split = rw (chain-suc (next s) b left some) at (r .inside)
 
     pub block-above : tableBlocks n < b
     unfolding inVolume

@@ -16,13 +16,12 @@ use Rattle.layout.specs.Check.{check}
 use Rattle.layout.specs.Looks.{nameRefusal, entryOf}
 use Rattle.layout.specs.Walks.Shapes.{Shape, ChainBelow}
 use Rattle.layout.proofs.Laws.Tests.{lt-or-ge}
-use Rattle.layout.proofs.Laws.Lists.{In, in-left, in-right, in-append}
+use Rattle.layout.proofs.Laws.Lists.{In, in-left, in-right, in-append, getD-in, in-take}
 use Rattle.layout.proofs.Laws.Chains.{nth, nth-add, length-chain, getD-chain}
 use Rattle.volume.specs.Entries.{entriesNamed}
 use Rattle.volume.specs.Write.{newSize, needed, newBlocks, written, changedEntries, writeNamed, writeRefusal}
 use Rattle.volume.specs.Walks.Files.{Opened}
 use Rattle.volume.specs.Walks.Marks.{marked}
-use Rattle.volume.proofs.Laws.Lists.{in-at, in-take}
 use Rattle.volume.proofs.Laws.Accepted.{WriteGiven, write-given}
 use Rattle.volume.proofs.Laws.Frame.{entries-table, entries-zero, entries-of, changed-new, changed-of, taken-written}
 use Rattle.volume.proofs.Walks.Marks.{marked-append, marked-same}
@@ -103,7 +102,7 @@ module _ (last : ℕ) (bs zs m : List ℕ) (some : 0 < length bs) (f : (x : ℕ)
   before-in h = changed-last last bs h some
 
   there : (x : ℕ) → In x (0 ∷ (pairs bs ++ zs)) → In x (bs ++ named)
-  there x (inl e) = let b = getD bs 0 0 in rw e (in-right 0 bs named (entries-zero (changedEntries last bs) b (changed-new last bs b (in-at bs 0 some))))
+  there x (inl e) = let b = getD bs 0 0 in rw e (in-right 0 bs named (entries-zero (changedEntries last bs) b (changed-new last bs b (getD-in bs 0 0 some))))
   there x (inr i) = ⊎-elim new old (in-append x (pairs bs) zs i)
     where
       new : In x (pairs bs) → In x (bs ++ named)
@@ -153,7 +152,7 @@ take-left x (suc w) (z ∷ xs) ys (inl e) = inl e
 take-left x (suc w) (z ∷ xs) ys (inr i) = inr (take-left x w xs ys i)
 
 take-both : (x w : ℕ) (xs ys : List ℕ) → In x (take w (xs ++ ys)) → In x (take w xs) ⊎ In x ys
-take-both x w [] ys i = inr (in-take w ys x i)
+take-both x w [] ys i = inr (in-take x w ys i)
 take-both x (suc w) (z ∷ xs) ys (inl e) = inl (inl e)
 take-both x (suc w) (z ∷ xs) ys (inr i) = ⊎-elim (λ j. inl (inr j)) (λ j. inr j) (take-both x w xs ys i)
 

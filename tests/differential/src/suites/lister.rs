@@ -51,7 +51,7 @@ fn compare(report: &mut Report, program: &str, input: &[u8]) {
     }
 }
 
-fn output_of(program: &str, input: &[u8]) -> std::io::Result<Vec<u8>> {
+pub fn output_of(program: &str, input: &[u8]) -> std::io::Result<Vec<u8>> {
     let mut child = Command::new(program).stdin(Stdio::piped()).stdout(Stdio::piped()).spawn()?;
     // The lister need not read all of an input that is too long.
     let _ = child.stdin.take().expect("stdin is piped").write_all(input);

@@ -5,6 +5,7 @@ mod fixed;
 mod lister;
 mod order;
 mod runs;
+mod scripts;
 mod sound;
 
 use crate::rng::Rng;
@@ -17,8 +18,9 @@ pub struct Suite {
     pub run: fn(&mut Rng, u64, &mut Tester),
 }
 
-/// The suite that needs a lister program.
+/// The suites that need a program.
 pub const LISTER: &str = "lister";
+pub const SCRIPTS: &str = "scripts";
 
 pub const SUITES: &[Suite] = &[
     Suite { name: "numbers", rounds: |_| 1, run: fixed::numbers },
@@ -34,4 +36,5 @@ pub const SUITES: &[Suite] = &[
     Suite { name: "long", rounds: |n| n.div_ceil(250), run: runs::long },
     Suite { name: "large", rounds: |n| n.div_ceil(50), run: runs::large },
     Suite { name: LISTER, rounds: |n| n, run: lister::run },
+    Suite { name: SCRIPTS, rounds: |n| n, run: scripts::run },
 ];

@@ -11,7 +11,7 @@ use crate::tester::{found, Pair, Tester};
 use reference::{Answer, Call, Replay, State};
 
 /// How often a run makes which calls, out of their sum.
-struct Mix {
+pub struct Mix {
     create: usize,
     write: usize,
     delete: usize,
@@ -19,7 +19,7 @@ struct Mix {
     look: usize,
 }
 
-const MIXES: [Mix; 4] = [
+pub const MIXES: [Mix; 4] = [
     Mix { create: 3, write: 8, delete: 2, undo: 3, look: 4 },
     Mix { create: 2, write: 12, delete: 1, undo: 1, look: 2 },
     Mix { create: 4, write: 4, delete: 5, undo: 2, look: 2 },
@@ -79,7 +79,7 @@ fn play(rng: &mut Rng, t: &mut Tester, image: Vec<u8>, length: usize, mix: &Mix,
     t.report.agree("the start again, byte for byte", back, None);
 }
 
-fn any_call(rng: &mut Rng, replay: &Replay, mix: &Mix) -> Call {
+pub fn any_call(rng: &mut Rng, replay: &Replay, mix: &Mix) -> Call {
     let image = &replay.replayed().image;
     let looks = mix.create + mix.write + mix.delete + mix.undo;
     let pick = rng.below(looks + mix.look);

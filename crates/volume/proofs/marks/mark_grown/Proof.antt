@@ -3,44 +3,31 @@ use mathlib.Core.Path.{_≡_, sym, _∙_}
 use Rattle.volume.proofs.Walks.WriteNamed.{grown-none, grown-first, grown-behind}
 use Rattle.volume.proofs.marks.mark_grown.Statement.{statement}
 use Rattle.volume.proofs.marks.mark_grown.Tie as tie
-use Rattle.volume.proofs.marks.mark_grown.Reads as reads
-use Rattle.volume.proofs.marks.mark_grown.Lts as lts
-use Rattle.volume.proofs.marks.mark.Reads as mark-reads
-use Rattle.volume.proofs.marks.mark_free.Reads as mark-free-reads
 
--- src/marks.rt:101:9
 returns : tie.Need-returns
 returns c = sym (grown-none _ _ _ _ (c .if1 .taken))
 
--- src/marks.rt:103:5
 mark-requires : tie.Need-mark-requires
 mark-requires c κs = search needs
 
--- src/marks.rt:104:5
 mark-free-requires : tie.Need-mark-free-requires
 mark-free-requires c κs = search needs
 
--- src/marks.rt:106:9
 same-length : tie.Need-same-length
 same-length c = search needs
 
--- src/marks.rt:106:9
 returns-2 : tie.Need-returns-2
 returns-2 c = c .before .before .before .mark-free .ensures ∙ rw (c .before .before .before .before .before .before .before .mark .ensures) (grown-first _ _ _ _ (c .before .before .before .before .before .before .before .before .before .before .before .before .pre .2) (c .before .before .before .before .before .before .before .before .before .if1 .left) (c .if2 .taken))
 
--- src/marks.rt:108:17
 add-mark : tie.Need-add-mark
 add-mark c = search needs
 
--- src/marks.rt:108:5
 mark-requires-2 : tie.Need-mark-requires-2
 mark-requires-2 c κs = search needs
 
--- src/marks.rt:96:1
 same-length-2 : tie.Need-same-length-2
 same-length-2 c = search needs
 
--- src/marks.rt:96:1
 returns-3 : tie.Need-returns-3
 returns-3 c = c .before .before .mark2 .ensures ∙ rw (c .before .before .before .before .before .before .before .mark-free .ensures, c .before .before .before .before .before .before .before .before .before .before .before .mark .ensures) (grown-behind _ _ _ _ (c .before .before .before .before .before .before .before .before .before .before .before .before .before .before .before .before .pre .2) (c .before .before .before .before .before .before .before .before .before .before .before .before .before .if1 .left) (c .before .before .before .before .if2 .left))
 

@@ -6,36 +6,26 @@ use mathlib.Core.List.{List, _++_}
 use borrow.Author.Needs.{needs}
 use Rattle.volume.proofs.number.put64.Statement.{statement}
 use Rattle.volume.proofs.number.put64.Tie as tie
-use Rattle.volume.proofs.number.put64.Reads as reads
-use Rattle.volume.proofs.number.put64.Lts as lts
-use Rattle.volume.proofs.number.put32.Reads as put32-reads
 use Rattle.layout.proofs.Laws.Bytes.{bytes4-low, splice-append}
 
--- src/lib.rt:43:18
 cast-put32 : tie.Need-cast-put32
 cast-put32 c = search needs
 
--- src/lib.rt:43:5
 put32-requires : tie.Need-put32-requires
 put32-requires c κs = search needs
 
--- src/lib.rt:44:15
 add-low : tie.Need-add-low
 add-low c = search needs
 
--- src/lib.rt:45:19
 cast-put32-2 : tie.Need-cast-put32-2
 cast-put32-2 c = search needs
 
--- src/lib.rt:45:5
 put32-requires-2 : tie.Need-put32-requires-2
 put32-requires-2 c κs = search needs
 
--- src/lib.rt:39:1
 same-length : tie.Need-same-length
 same-length c = search needs
 
--- src/lib.rt:39:1
 returns : tie.Need-returns
 unfolding bytes8 bytes4
 returns c =

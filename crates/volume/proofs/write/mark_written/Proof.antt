@@ -4,31 +4,22 @@ use Rattle.volume.specs.Walks.Marks.{marked}
 use Rattle.volume.proofs.Walks.WriteNamed.{written-none, written-some}
 use Rattle.volume.proofs.write.mark_written.Statement.{statement}
 use Rattle.volume.proofs.write.mark_written.Tie as tie
-use Rattle.volume.proofs.write.mark_written.Reads as reads
-use Rattle.volume.proofs.write.mark_written.Lts as lts
-use Rattle.volume.proofs.marks.mark_part.Reads as mark-part-reads
 
--- src/write.rt:71:9
 returns : tie.Need-returns
 returns c = sym (written-none _ _ _ _ (c .if1 .taken))
 
--- src/write.rt:73:64
 add-mark-part : tie.Need-add-mark-part
 add-mark-part c = search needs
 
--- src/write.rt:73:64
 add-mark-part-2 : tie.Need-add-mark-part-2
 add-mark-part-2 c = search needs
 
--- src/write.rt:73:5
 mark-part-requires : tie.Need-mark-part-requires
 mark-part-requires c κs = search needs
 
--- src/write.rt:66:1
 same-length : tie.Need-same-length
 same-length c = search needs
 
--- src/write.rt:66:1
 returns-2 : tie.Need-returns-2
 returns-2 c = c .before .before .mark-part .ensures ∙ ap (marked _) (written-some _ _ _ (c .before .before .before .before .if1 .left))
 

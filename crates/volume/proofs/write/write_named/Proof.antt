@@ -6,46 +6,30 @@ use Rattle.volume.proofs.Walks.WriteNamed.{write-name, write-needs, las
 use Rattle.layout.proofs.Walks.Shapes.{sound-shape}
 use Rattle.volume.proofs.write.write_named.Statement.{statement}
 use Rattle.volume.proofs.write.write_named.Tie as tie
-use Rattle.volume.proofs.write.write_named.Reads as reads
-use Rattle.volume.proofs.write.write_named.Lts as lts
-use Rattle.volume.proofs.file.locate.Reads as locate-reads
-use Rattle.volume.proofs.marks.mark.Reads as mark-reads
-use Rattle.volume.proofs.marks.mark_grown.Reads as mark-grown-reads
-use Rattle.volume.proofs.write.last_block.Reads as last-block-reads
-use Rattle.volume.proofs.write.mark_written.Reads as mark-written-reads
-use Rattle.volume.proofs.write.needed.Reads as needed-reads
 
--- src/write.rt:81:9
 locate-requires : tie.Need-locate-requires
 locate-requires c κs = (c .before .before .before .pre .0, write-name _ _ _ _ (c .before .before .before .pre .1))
 
--- src/write.rt:87:9
 last-block-requires : tie.Need-last-block-requires
 last-block-requires c κs = opened-run (c .locate .ensures) (write-name _ _ _ _ (c .before .before .before .before .pre .1)) (c .before .before .before .before .pre .0)
 
--- src/write.rt:88:9
 needed-requires : tie.Need-needed-requires
 needed-requires c κs = write-needs (c .before .locate .ensures) (c .before .before .before .before .before .pre .0) _ _ (c .before .before .before .before .before .pre .1)
 
--- src/write.rt:89:5
 mark-requires : tie.Need-mark-requires
 mark-requires c κs =
     let h = sound-shape (c .before .before .before .before .before .before .before .args .image .now) (c .before .before .before .before .before .before .before .pre .0) in
     omega (arith, c .before .before .before .locate .ensures .inside, c .before .before .before .before .before .before .before .pre .2)
 
--- src/write.rt:90:5
 mark-written-requires : tie.Need-mark-written-requires
 mark-written-requires c κs = (opened-run (c .before .before .before .before .before .before .before .locate .ensures) (write-name _ _ _ _ (c .before .before .before .before .before .before .before .before .before .before .before .pre .1)) (c .before .before .before .before .before .before .before .before .before .before .before .pre .0), write-needs (c .before .before .before .before .before .before .before .locate .ensures) (c .before .before .before .before .before .before .before .before .before .before .before .pre .0) _ _ (c .before .before .before .before .before .before .before .before .before .before .before .pre .1) .2, omega (arith, c .before .before .before .before .before .before .before .before .before .before .before .pre .2))
 
--- src/write.rt:91:5
 mark-grown-requires : tie.Need-mark-grown-requires
 mark-grown-requires c κs = (sound-shape _ (c .before .before .before .before .before .before .before .before .before .before .before .before .before .before .before .pre .0), rw (c .before .before .before .before .before .before .before .before .before .before .last-block .ensures) (last-under (opened-run (c .before .before .before .before .before .before .before .before .before .before .before .locate .ensures) (write-name _ _ _ _ (c .before .before .before .before .before .before .before .before .before .before .before .before .before .before .before .pre .1)) (c .before .before .before .before .before .before .before .before .before .before .before .before .before .before .before .pre .0))), write-room (c .before .before .before .before .before .before .before .before .before .before .before .locate .ensures) (c .before .before .before .before .before .before .before .before .before .before .before .before .before .before .before .pre .0) _ _ (c .before .before .before .before .before .before .before .before .before .before .before .before .before .before .before .pre .1) _ (c .before .before .before .before .before .before .before .before .before .needed .ensures), omega (arith, c .before .before .before .before .before .before .before .before .before .before .before .before .before .before .before .pre .2))
 
--- src/write.rt:77:1
 same-length : tie.Need-same-length
 same-length c = search needs
 
--- src/write.rt:77:1
 returns : tie.Need-returns
 returns c = c .before .before .mark-grown .ensures ∙ rw (c .before .before .before .before .before .before .mark-written .ensures, c .before .before .before .before .before .before .before .before .before .before .mark .ensures) (write-named (c .before .before .before .before .before .before .before .before .before .before .before .before .before .before .locate .ensures) (c .before .before .before .before .before .before .before .before .before .before .before .before .before .before .before .before .before .before .pre .0) _ _ (c .before .before .before .before .before .before .before .before .before .before .before .before .before .before .before .before .before .before .pre .1) _ (c .before .before .before .before .before .before .before .before .before .before .before .before .needed .ensures) _ _ (c .before .before .before .before .before .before .before .before .before .before .before .before .before .last-block .ensures))
 

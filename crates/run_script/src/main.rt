@@ -1,0 +1,43 @@
+// Runs a script on a fresh volume: reads it from standard input, formats 16 blocks with a root of two, starts a journal, and writes the runner's
+// number as one byte, then image, journal and answers. For tests: everything that it shows is made by `journal::runner::run`.
+const INPUT: usize = 65536;
+
+const IMAGE: usize = 8192;
+
+const JOURNAL: usize = 16384;
+
+const ANSWERS: usize = 16384;
+
+fn input_buffer() -> [u8; INPUT] {
+    [0; INPUT]
+}
+
+fn image_buffer() -> [u8; IMAGE] {
+    [0; IMAGE]
+}
+
+fn journal_buffer() -> [u8; JOURNAL] {
+    [0; JOURNAL]
+}
+
+fn answers_buffer() -> [u8; ANSWERS] {
+    [0; ANSWERS]
+}
+
+fn main() {
+    let mut script = input_buffer();
+    let got = io::read_full(libc::STDIN_FILENO, &mut script);
+    let mut image = image_buffer();
+    let mut journal = journal_buffer();
+    let mut answers = answers_buffer();
+    let label = [0u8; 128];
+    let uuid = [0u8; 16];
+    volume::format::format(&mut image, 2, 0, uuid, &label);
+    journal::start::start(&mut journal);
+    let number = journal::runner::run(&script[..got], &mut image, &mut journal, &mut answers);
+    let told = [(number % 256) as u8];
+    io::write_all(libc::STDOUT_FILENO, &told);
+    io::write_all(libc::STDOUT_FILENO, &image);
+    io::write_all(libc::STDOUT_FILENO, &journal);
+    io::write_all(libc::STDOUT_FILENO, &answers);
+}
