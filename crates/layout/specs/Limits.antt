@@ -12,6 +12,10 @@ maxBlocks = 4096
 abbrev pub maxDirectory : ℕ
 maxDirectory = 64
 
+-- "four in a block"
+abbrev pub maxSlots : ℕ
+maxSlots = 256
+
 -- "a name is 1 to 79 non-zero bytes"
 abbrev pub maxName : ℕ
 maxName = 79

@@ -6,3 +6,4 @@ pub mod Entries
 pub mod Slots
 pub mod Stages
 pub mod Looks
+pub mod Names

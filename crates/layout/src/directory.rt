@@ -191,78 +191,6 @@ pub fn slots_ok(image: &[u8], n: usize, first: usize, d: usize) -> bool
     type_at(image, b, k) == 0xFF
 }
 
-// Whether one of the `left` slots from k on, the first of them in block b, is a file of the name in a field.
-pub fn taken(
-    image: &[u8],
-    n: usize,
-    first: usize,
-    d: usize,
-    field: &[u8],
-    b: usize,
-    k: usize,
-    left: usize,
-) -> bool
-    requires { ⌜ (DirectoryAt (now image) n first d) × (Place (chain (next (now image)) first d) d b k left) × (length (now field) ≡ 80) ⌝ }
-    ensures { λ r. ⌜ r ≡ nameIn (now (image .entry)) (chain (next (now (image .entry))) first d) (unpadded (now (field .entry))) k left ⌝ }
-{
-    let mut c = b;
-    let mut i = k;
-    let mut rest = left;
-    while 0 < rest {
-        if named_at(image, c, i, field) {
-            return true;
-        }
-        i = i + 1;
-        c = following(image, c, i);
-        rest = rest - 1;
-    }
-    false
-}
-
-// Whether slot k, in block b, is no file, or none of the `left` − 1 slots after it is a file of its name.
-pub fn alone(
-    image: &[u8],
-    n: usize,
-    first: usize,
-    d: usize,
-    b: usize,
-    k: usize,
-    left: usize,
-) -> bool
-    requires { ⌜ (DirectoryAt (now image) n first d) × (Place (chain (next (now image)) first d) d b k left) × (0 < left) ⌝ }
-    ensures { λ r. ⌜ r ≡ not (isFile (typeOf (now (image .entry)) (entryAt b k)))
-        || not (nameIn (now (image .entry)) (chain (next (now (image .entry))) first d) (nameOf (now (image .entry)) (entryAt b k)) (k + 1) (left - 1)) ⌝ }
-{
-    if !is_file(type_at(image, b, k)) {
-        return true;
-    }
-    let a = 512 * b + 128 * (k % 4) + 48;
-    let e = a + NAME_FIELD;
-    let i = k + 1;
-    let c = following(image, b, i);
-    let rest = left - 1;
-    !taken(image, n, first, d, &image[a..e], c, i, rest)
-}
-
-// Whether no two files of a directory have the same name.
-pub fn names_apart(image: &[u8], n: usize, first: usize, d: usize) -> bool
-    requires { ⌜ DirectoryAt (now image) n first d ⌝ }
-    ensures { λ r. ⌜ r ≡ namesApart (now (image .entry)) (chain (next (now (image .entry))) first d) 1 (4 * d - 2) ⌝ }
-{
-    let mut b = first;
-    let mut k = 1;
-    let mut left = 4 * d - 2;
-    while 0 < left {
-        if !alone(image, n, first, d, b, k, left) {
-            return false;
-        }
-        k = k + 1;
-        b = following(image, b, k);
-        left = left - 1;
-    }
-    true
-}
-
 // Whether the entries of a directory are right.
 pub fn entries_ok(image: &[u8], n: usize, first: usize, d: usize) -> bool
     requires { ⌜ DirectoryAt (now image) n first d ⌝ }
@@ -271,7 +199,7 @@ pub fn entries_ok(image: &[u8], n: usize, first: usize, d: usize) -> bool
     if !slots_ok(image, n, first, d) {
         return false;
     }
-    names_apart(image, n, first, d)
+    super::names::names_apart(image, n, first, d)
 }
 
 // Follows the chain of the file in slot k, which is in block b, if there is one, and marks its blocks.

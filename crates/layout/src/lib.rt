@@ -5,6 +5,7 @@ pub mod check;
 pub mod content;
 pub mod directory;
 pub mod limits;
+pub mod names;
 pub mod number;
 pub mod reading;
 pub mod table;

@@ -8,6 +8,9 @@ pub const MAX_BLOCKS: usize = 4096;
 // A directory has 1 to 64 blocks.
 pub const MAX_DIRECTORY: u32 = 64;
 
+// With four slots in a block.
+pub const MAX_SLOTS: usize = 256;
+
 // A name has 1 to 79 bytes, in a field of 80.
 pub const MAX_NAME: usize = 79;
 

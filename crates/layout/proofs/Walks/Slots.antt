@@ -8,9 +8,9 @@ use lib.Dec.{eqb}
 use lib.ListN.{length, getD}
 use borrow.Author.Tests.{eqb-false, eqb-true, eq-eqb, ne-eqb}
 use Rattle.layout.specs.Lists.{range, has, distinct, same, keep, select, joined}
-use Rattle.layout.specs.Bytes.{be32, part}
+use Rattle.layout.specs.Bytes.{be32}
 use Rattle.layout.specs.Table.{next, chain}
-use Rattle.layout.specs.Directory.{slotAt, typeOf, blocksOf, isFile, unpadded, nameOf, files, fileSlot, freeSlot}
+use Rattle.layout.specs.Directory.{slotAt, typeOf, blocksOf, isFile, nameOf, files, fileSlot, freeSlot}
 use Rattle.layout.specs.Check.{slotOk, entriesOk, fileChains}
 use Rattle.layout.specs.Walks.Chains.{Walk, walked, follow, followAll}
 use Rattle.layout.specs.Walks.Entries.{selfOk}
@@ -73,10 +73,9 @@ module _ (s ds : List ℕ) (e k j ty : ℕ) (et : ty ≡ typeOf s e) where
   pub alone-other : false ≡ isFile ty → true ≡ not (isFile (typeOf s e)) || not (nameIn s ds (nameOf s e) k j)
   alone-other h = rw (← et, ← h)
 
-  pub alone-file : true ≡ isFile ty → (r : Bool) (x : ℕ) → r ≡ nameIn s ds (unpadded (part s (e + 48) x)) k j → x ≡ 80
+  pub alone-file : true ≡ isFile ty → (r : Bool) (e′ j′ : ℕ) → r ≡ nameIn s ds (nameOf s e′) k j′ → e ≡ e′ → j ≡ j′
       → not r ≡ not (isFile (typeOf s e)) || not (nameIn s ds (nameOf s e) k j)
-  unfolding nameOf
-  alone-file h r x er ex = rw (← et, ← h, er, ex)
+  alone-file h r e′ j′ er ee ej = rw (← et, ← h, er, ee, ej)
 
 -- a directory's self entry and chain
 module _ (s : List ℕ) (n b parent : ℕ) (m : List ℕ) where

@@ -2,6 +2,7 @@ use mathlib.Core.Bool.{true, false}
 use mathlib.Core.Path.{_≡_, sym, _∙_}
 use borrow.Author.Needs.{needs}
 use borrow.Author.Tests.{not-true, not-false}
+use Rattle.layout.proofs.Laws.Tests.{and-split}
 use Rattle.layout.proofs.Walks.Slots.{entriesOk-bad, entriesOk-good}
 use Rattle.layout.proofs.directory.entries_ok.Statement.{statement}
 use Rattle.layout.proofs.directory.entries_ok.Tie as tie
@@ -15,7 +16,9 @@ returns c =
     sym (entriesOk-bad _ _ (c .before .before .before .args .d) (c .before .before .before .pre .blocks .size) (sym t ∙ c .before .slots-ok .ensures))
 
 names-apart-requires : tie.Need-names-apart-requires
-names-apart-requires c κs = search needs
+names-apart-requires c κs =
+    let t : c .before .slots-ok .result ≡ true = not-false _ (c .if1 .left) in
+    (c .before .before .before .pre, and-split _ _ (sym (sym t ∙ c .before .slots-ok .ensures)) .0)
 
 returns-2 : tie.Need-returns-2
 returns-2 c =

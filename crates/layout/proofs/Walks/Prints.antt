@@ -1,0 +1,127 @@
+-- Prints of names: the loops that take and compare them, and that different prints mean different names.
+use Prim.Native.Nat.{ℕ, zero, suc, _+_, _-_, _*_, _/_, _≤_, _<_}
+use mathlib.Core.Bool.{Bool, true, false, _&&_, false≢true}
+use mathlib.Core.List.{List}
+use mathlib.Core.Path.{_≡_, refl, sym, ap, _∙_}
+use mathlib.Core.Logic.{⊎-elim}
+use native.Mathlib.Nat.{add-zero, sub-zero, eq-or-lt-of-le}
+use native.Mathlib.Numerals.{add-one}
+use native.Mathlib.Omega.{arith}
+use lib.ListN.{length, getD, set}
+use lib.Seq.{getD-set-same, getD-set-other}
+use borrow.Author.Tests.{not-true}
+use Rattle.layout.specs.Lists.{same}
+use Rattle.layout.specs.Bytes.{be32, part}
+use Rattle.layout.specs.Table.{next, chain}
+use Rattle.layout.specs.Directory.{slotAt, typeOf, isFile, goodName, unpadded, padded, nameOf, nameOk}
+use Rattle.layout.specs.Check.{slotOk, fileOk}
+use Rattle.layout.specs.Walks.Shapes.{DirectoryAt}
+use Rattle.layout.specs.Walks.Slots.{entryAt, nameIn, slotsOk}
+use Rattle.layout.specs.Walks.Names.{sums, print, Prints, Printed, Nearest}
+use Rattle.layout.proofs.Laws.Lists.{every-range}
+use Rattle.layout.proofs.Laws.Names.{same-eq}
+use Rattle.layout.proofs.Laws.Sound.{slotOk-split}
+use Rattle.layout.proofs.Laws.Tests.{and-split, is-false, true-not-false}
+use Rattle.layout.proofs.Walks.Slots.{nameIn-next}
+
+-- the sums of a field
+module _ (f : List ℕ) (i k a b : ℕ) where
+  pub sums-end : k ≡ 0 → sums f i k a b ≡ 16777216 * a + b
+  unfolding sums
+  sums-end e = rw e
+
+  pub sums-next : 0 < k → sums f i k a b ≡ sums f (i + 1) (k - 1) (a + be32 f (4 * i)) (b + (a + be32 f (4 * i)))
+  unfolding sums
+  sums-next h =
+      let e : k ≡ suc (k - 1) = omega arith in
+      ap (λ (j : ℕ). sums f i j a b) e
+
+pub print-start : (f : List ℕ) → print f ≡ sums f 0 20 0 0
+unfolding print
+print-start f = refl
+
+-- what did not stand before i, and not at i, does not stand before i + 1
+pub not-yet : (ps : List ℕ) (p from i : ℕ) → ((j : ℕ) → from ≤ j → j < i → getD ps j 0 ≡ p → ⊥) → (getD ps i 0 ≡ p → ⊥)
+    → (j : ℕ) → from ≤ j → j < i + 1 → getD ps j 0 ≡ p → ⊥
+not-yet ps p from i f g j h l e =
+    let k : j ≤ i = omega arith in
+    ⊎-elim (λ q. g (ap (λ (x : ℕ). getD ps x 0) (sym q) ∙ e)) (λ z. f j h z e) (eq-or-lt-of-le k)
+
+-- the block of a slot lies in the image
+pub slot-inside : (s : List ℕ) (n first d b k : ℕ) → DirectoryAt s n first d → k < 4 * d → b ≡ getD (chain (next s) first d) (k / 4) 0
+    → 512 * b + 512 ≤ length s
+slot-inside s n first d b k at h e =
+    let l = at .blocks .below (k / 4) (omega arith) in
+    let w = at .shape .whole in
+    omega arith
+
+-- the names of two slots, by their blocks b and c
+pub names-compared : (s ds : List ℕ) (b c k i x : ℕ) → b ≡ getD ds (k / 4) 0 → c ≡ getD ds (i / 4) 0 → x ≡ 80
+    → (isFile (typeOf s (entryAt c i)) && same (unpadded (part s (entryAt b k + 48) x)) (nameOf s (entryAt c i)))
+    ≡ (isFile (typeOf s (slotAt ds i)) && same (nameOf s (slotAt ds k)) (nameOf s (slotAt ds i)))
+unfolding slotAt nameOf
+names-compared s ds b c k i x eb ec ex = rw (← eb, ← ec, ex)
+
+-- the field of a good file is its name and zeros
+field-padded : (s : List ℕ) (e : ℕ) → slotOk s e ≡ true → isFile (typeOf s e) ≡ true → part s (e + 48) 80 ≡ padded (nameOf s e)
+unfolding fileOk nameOk
+field-padded s e ok file =
+    ⊎-elim (λ free. absurd (true-not-false file (ap isFile free)))
+    (λ f. same-eq _ _ (and-split (goodName (nameOf s e)) (same (part s (e + 48) 80) (padded (nameOf s e))) (and-split (nameOk s e) _ (f .1) .0) .1)) (slotOk-split s e ok)
+
+-- different prints, different names
+module _ (s : List ℕ) (e e′ : ℕ) (ok : slotOk s e ≡ true) (file : isFile (typeOf s e) ≡ true) (ok′ : slotOk s e′ ≡ true)
+    (differ : print (part s (e + 48) 80) ≡ print (part s (e′ + 48) 80) → ⊥)
+  where
+    pub prints-apart : (isFile (typeOf s e′) && same (nameOf s e) (nameOf s e′)) ≡ false
+    prints-apart = is-false _ (λ h.
+        let w = and-split (isFile (typeOf s e′)) (same (nameOf s e) (nameOf s e′)) h in
+        let f : part s (e + 48) 80 ≡ part s (e′ + 48) 80
+        = field-padded s e ok file ∙ ap padded {x = nameOf s e} {y = nameOf s e′} (same-eq _ _ (w .1)) ∙ sym (field-padded s e′ ok′ (w .0)) in
+        differ (ap print f))
+
+-- slots that are no file of a name are passed over
+pub nameIn-skip : (s ds name : List ℕ) (m k j : ℕ) → m ≤ j
+    → ((x : ℕ) → k ≤ x → x < k + m → (isFile (typeOf s (slotAt ds x)) && same name (nameOf s (slotAt ds x))) ≡ false)
+    → nameIn s ds name k j ≡ nameIn s ds name (k + m) (j - m)
+nameIn-skip s ds name zero k j h f = rw (add-zero k, sub-zero j)
+nameIn-skip s ds name (suc m) k j h f =
+    let step = nameIn-next s ds k j name (slotAt ds k) refl (omega arith) (sym (f k (omega arith) (omega arith))) in
+    let rest = nameIn-skip s ds name m (k + 1) (j - 1) (omega arith) (λ x l g. f x (omega arith) (omega arith)) in
+    let p : k + 1 + m ≡ k + suc m = omega arith in
+    let q : j - 1 - m ≡ j - suc m = omega arith in
+    step ∙ rest ∙ rw (p, q)
+
+-- from one slot to the next whose print is that of slot k
+module _ (s : List ℕ) (n first d : ℕ) (ps : List ℕ) (p : Printed s n first d ps) (k : ℕ) (low : 1 ≤ k) (high : k + 1 < 4 * d)
+    (file : isFile (typeOf s (slotAt (chain (next s) first d) k)) ≡ true)
+  where
+    abbrev ds : List ℕ
+    ds = chain (next s) first d
+
+    good-slot : (x : ℕ) → 1 ≤ x → x + 1 < 4 * d → slotOk s (slotAt ds x) ≡ true
+    unfolding slotsOk
+    good-slot x h g = every-range (λ y. slotOk s (slotAt ds y)) 1 (4 * d - 2) (p .good) x h (omega arith)
+
+    pub nameIn-nearest : (q x r j j′ : ℕ) → q ≡ getD ps k 0 → k < x → x + j + 1 ≡ 4 * d → r + j′ + 1 ≡ 4 * d → Nearest ps q x (4 * d - 1) r
+        → nameIn s ds (nameOf s (slotAt ds k)) x j ≡ nameIn s ds (nameOf s (slotAt ds k)) r j′
+    nameIn-nearest q x r j j′ eq h ej ej′ near =
+        let a : x + (r - x) ≡ r = omega arith in
+        let b : j - (r - x) ≡ j′ = omega arith in
+        nameIn-skip s ds (nameOf s (slotAt ds k)) (r - x) x j (omega arith) (λ y l g.
+        prints-apart s (slotAt ds k) (slotAt ds y) (good-slot k low high) file (good-slot y (omega arith) (omega arith))
+        (λ z. near .before y l (omega arith) (p .prints .each y (omega arith) (omega arith) ∙ sym z ∙ sym (p .prints .each k low high) ∙ sym eq)))
+        ∙ rw (a, b)
+
+-- the prints of the slots from 1 to k − 1
+abbrev pub Taken : List ℕ → List ℕ → List ℕ → ℕ → Type 0
+Taken s ds ps k = (i : ℕ) → 1 ≤ i → i < k → getD ps i 0 ≡ print (part s (slotAt ds i + 48) 80)
+
+pub taken-none : (s ds ps : List ℕ) → Taken s ds ps 1
+taken-none s ds ps i h g = absurd (omega arith)
+
+pub taken-more : (s ds ps : List ℕ) (b k v : ℕ) → k < length ps → entryAt b k ≡ slotAt ds k → v ≡ print (part s (entryAt b k + 48) 80) → Taken s ds ps k
+    → Taken s ds (set ps k v) (k + 1)
+taken-more s ds ps b k v room e ev f i h g =
+    let m : i ≤ k = omega arith in
+    ⊎-elim (λ q. ap (λ (x : ℕ). getD (set ps k v) x 0) q ∙ getD-set-same ps k v 0 room ∙ ev ∙ rw (e, q)) (λ l. getD-set-other ps k i v 0 (λ z. absurd (omega arith)) ∙ f i h l) (eq-or-lt-of-le m)
