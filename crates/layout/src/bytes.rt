@@ -98,17 +98,22 @@ pub fn good_name(name: &[u8]) -> bool
     true
 }
 
-// Whether a field of 80 bytes holds a good name.
+// Whether a field of 80 bytes holds a good name. It looks from the end, where names of one kind differ most.
 pub fn holds_name(field: &[u8], name: &[u8]) -> bool
     requires { ⌜ (length (now field) ≡ 80) × (goodName (now name) ≡ true) × (length (now name) ≤ maxName) ⌝ }
     ensures { λ r. ⌜ r ≡ same (unpadded (now (field .entry))) (now (name .entry)) ⌝ }
 {
-    for i in 0..name.len() {
+    let mut i = name.len();
+    if field[i] != 0 {
+        return false;
+    }
+    while 0 < i {
+        i = i - 1;
         if field[i] != name[i] {
             return false;
         }
     }
-    field[name.len()] == 0
+    true
 }
 
 // Sets every byte to 0.

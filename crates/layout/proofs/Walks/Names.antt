@@ -1,9 +1,10 @@
 -- The loops over bytes and over the field of a name, at index i.
 use Prim.Native.Nat.{ℕ, zero, suc, _+_, _-_, _≤_, _<_}
-use mathlib.Core.Bool.{true, false, _&&_, and-false}
+use mathlib.Core.Bool.{true, false, _&&_, and-false, false≢true}
 use mathlib.Core.List.{List, [], _∷_}
+use mathlib.Core.Logic.{⊎-elim}
 use mathlib.Core.Path.{_≡_, refl, sym, ap, _∙_}
-use native.Mathlib.Nat.{suc-ne-zero}
+use native.Mathlib.Nat.{eq-or-lt-of-le, le-of-suc-le-suc, not-suc-le-zero, suc-ne-zero}
 use native.Mathlib.Numerals.{add-one}
 use native.Mathlib.Omega.{arith}
 use lib.Dec.{eqb}
@@ -15,7 +16,8 @@ use Rattle.layout.specs.Lists.{every, same}
 use Rattle.layout.specs.Bytes.{zeros}
 use Rattle.layout.specs.Directory.{nameByte, goodName, unpadded}
 use Rattle.layout.specs.Walks.Entries.{fieldOk, allZero}
-use Rattle.layout.proofs.Laws.Names.{same-refl, same-append, take-unpadded, unpadded-bytes}
+use Rattle.layout.proofs.Laws.Names.{same-eq, same-refl, same-append, take-unpadded, unpadded-bytes, goodName-split}
+use Rattle.layout.proofs.Laws.Tests.{and-split, is-false}
 
 pub same-lengths : (a b : List ℕ) → (length a ≡ length b → ⊥) → same a b ≡ false
 same-lengths [] [] h = absurd (h refl)
@@ -119,28 +121,47 @@ module _ (name : List ℕ) where
   pub nameBytes-end : (i : ℕ) → i ≡ length name → every nameByte (drop i name) ≡ true
   nameBytes-end i e = rw (e, drop-length name)
 
--- a field and a good name
-start-differs : (x y : ℕ) (xs ys : List ℕ) → (x ≡ y → ⊥) → same (unpadded (x ∷ xs)) (y ∷ ys) ≡ false
-start-differs zero y xs ys h = refl
-start-differs (suc x) y xs ys h = rw (ne-eqb (suc x) y h)
+-- a field and a good name, compared from the end
+unpadded-byte : (f : List ℕ) (j : ℕ) → j < length (unpadded f) → getD f j 0 ≡ getD (unpadded f) j 0
+unpadded-byte [] j h = absurd (not-suc-le-zero h)
+unpadded-byte (zero ∷ xs) j h = absurd (not-suc-le-zero h)
+unpadded-byte (suc x ∷ xs) zero h = refl
+unpadded-byte (suc x ∷ xs) (suc j) h = unpadded-byte xs j (le-of-suc-le-suc h)
 
-start-agrees : (x : ℕ) (xs ys : List ℕ) → (x ≡ 0 → ⊥) → same (unpadded (x ∷ xs)) (x ∷ ys) ≡ same (unpadded xs) ys
-start-agrees zero xs ys h = absurd (h refl)
-start-agrees (suc x) xs ys h = rw (eq-eqb (suc x) (suc x) refl)
+unpadded-stop : (f : List ℕ) → getD f (length (unpadded f)) 0 ≡ 0
+unpadded-stop [] = refl
+unpadded-stop (zero ∷ xs) = refl
+unpadded-stop (suc x ∷ xs) = unpadded-stop xs
 
-start-ends : (x : ℕ) (xs : List ℕ) → same (unpadded (x ∷ xs)) [] ≡ eqb x 0
-start-ends zero xs = refl
-start-ends (suc x) xs = sym (ne-eqb (suc x) 0 (suc-ne-zero x))
+module _ (f name : List ℕ) where
+  pub holds-longer : (getD f (length name) 0 ≡ 0 → ⊥) → same (unpadded f) name ≡ false
+  holds-longer h = is-false _ (λ t.
+      let e : unpadded f ≡ name = same-eq (unpadded f) name t in
+      h (ap (λ (l : List ℕ). getD f (length l) 0) (sym e) ∙ unpadded-stop f))
 
-module _ (f name : List ℕ) (i : ℕ) (hf : i < length f) where
-  pub holds-differ : i < length name → (getD f i 0 ≡ getD name i 0 → ⊥) → same (unpadded (drop i f)) (drop i name) ≡ false
-  holds-differ hn h = rw (drop-cons f i 0 hf, drop-cons name i 0 hn) (start-differs (getD f i 0) (getD name i 0) (drop (suc i) f) (drop (suc i) name) h)
+  pub holds-differ : (j : ℕ) → j < length name → (getD f j 0 ≡ getD name j 0 → ⊥) → same (unpadded f) name ≡ false
+  holds-differ j l h = is-false _ (λ t.
+      let e : unpadded f ≡ name = same-eq (unpadded f) name t in
+      h (unpadded-byte f j (rw e l) ∙ ap (λ (x : List ℕ). getD x j 0) e))
 
-  pub holds-next : i < length name → getD f i 0 ≡ getD name i 0 → (getD name i 0 ≡ 0 → ⊥)
-      → same (unpadded (drop i f)) (drop i name) ≡ same (unpadded (drop (i + 1) f)) (drop (i + 1) name)
-  holds-next hn e z = rw (drop-cons f i 0 hf, drop-cons name i 0 hn, e, add-one) (start-agrees (getD name i 0) (drop (suc i) f) (drop (suc i) name) z)
+holds-bytes : (f name : List ℕ) → every nameByte name ≡ true → ((j : ℕ) → j < length name → getD f j 0 ≡ getD name j 0) → getD f (length name) 0 ≡ 0
+    → unpadded f ≡ name
+holds-bytes [] [] good bytes stop = refl
+holds-bytes (zero ∷ xs) [] good bytes stop = refl
+holds-bytes (suc x ∷ xs) [] good bytes stop = absurd (suc-ne-zero x stop)
+holds-bytes f (zero ∷ ys) good bytes stop = absurd (false≢true good)
+holds-bytes [] (suc y ∷ ys) good bytes stop = absurd (suc-ne-zero y (sym (bytes 0 (omega arith))))
+holds-bytes (x ∷ xs) (suc y ∷ ys) good bytes stop =
+    let e : x ≡ suc y = bytes 0 (omega arith) in
+    let r = holds-bytes xs ys (and-split (nameByte (suc y)) (every nameByte ys) good .1) (λ j h. bytes (suc j) (omega arith)) stop in
+    rw (e, r)
 
-  pub holds-end : i ≡ length name → same (unpadded (drop i f)) (drop i name) ≡ eqb (getD f i 0) 0
-  holds-end e =
-      let d : drop i name ≡ [] = ap (λ (j : ℕ). drop j name) e ∙ drop-length name in
-      rw (drop-cons f i 0 hf, d) (start-ends (getD f i 0) (drop (suc i) f))
+pub holds-all : (f name : List ℕ) → goodName name ≡ true → ((j : ℕ) → j < length name → getD f j 0 ≡ getD name j 0) → getD f (length name) 0 ≡ 0
+    → same (unpadded f) name ≡ true
+holds-all f name good bytes stop = rw (holds-bytes f name (goodName-split name good .2) bytes stop) (same-refl name)
+
+-- what agrees from i on, and at i − 1
+pub agrees-more : (f name : List ℕ) (i : ℕ) → ((j : ℕ) → i ≤ j → j < length name → getD f j 0 ≡ getD name j 0) → getD f (i - 1) 0 ≡ getD name (i - 1) 0
+    → (j : ℕ) → i - 1 ≤ j → j < length name → getD f j 0 ≡ getD name j 0
+agrees-more f name i g e j h l =
+    ⊎-elim (λ q. ap (λ (x : ℕ). getD f x 0) (sym q) ∙ e ∙ ap (λ (x : ℕ). getD name x 0) q) (λ z. g j (omega arith) l) (eq-or-lt-of-le h)

@@ -1,59 +1,57 @@
-use Prim.Native.Nat.{_≤_, _-_}
-use mathlib.Core.Path.{_≡_, refl, sym, _∙_}
+use Prim.Native.Nat.{ℕ, _≤_, _<_}
+use mathlib.Core.Path.{_≡_, sym}
 use native.Mathlib.Omega.{arith}
-use lib.ListN.{length, drop}
-use Rattle.layout.specs.Lists.{same}
-use Rattle.layout.specs.Directory.{unpadded}
-use Rattle.layout.proofs.Laws.Names.{goodName-byte}
-use Rattle.layout.proofs.Walks.Names.{holds-differ, holds-next, holds-end}
+use lib.ListN.{length, getD}
+use Rattle.layout.proofs.Walks.Names.{holds-longer, holds-differ, holds-all, agrees-more}
 use Rattle.layout.proofs.bytes.holds_name.Statement.{statement}
 use Rattle.layout.proofs.bytes.holds_name.Tie as tie
 
 abbrev Inv-loop : tie.InvT-loop
-Inv-loop field name i₀ i-end i = (i ≤ i-end) × (i-end ≡ length name) × (same (unpadded field) name ≡ same (unpadded (drop i field)) (drop i name))
+Inv-loop field name i₀ i = (i ≤ length name) × ((j : ℕ) → i ≤ j → j < length name → getD field j 0 ≡ getD name j 0)
 
 abbrev μ-loop : tie.MeasureT-loop
-μ-loop field name i₀ i-end i = i-end - i
-
-loop-holds : tie.Need-loop-holds Inv-loop μ-loop
-loop-holds c = (omega arith, refl, refl)
+μ-loop field name i₀ i = i
 
 shared-slice-read-if1 : tie.Need-shared-slice-read-if1 Inv-loop μ-loop
 shared-slice-read-if1 c = omega arith
 
-shared-slice-read-if1-2 : tie.Need-shared-slice-read-if1-2 Inv-loop μ-loop
-shared-slice-read-if1-2 c = omega arith
-
 returns : tie.Need-returns Inv-loop μ-loop
 returns c =
-    let l = c .before .before .before .before .loop in
-    sym (l .inv .2 ∙ holds-differ (c .before .before .before .before .before .args .field .now) (c .before .before .before .before .before .args .name .now)
-    (l .i) (omega arith) (omega arith) (c .if1 .taken))
+    let a = c .before .before .args in
+    sym (holds-longer (a .field .now) (a .name .now) (c .if1 .taken))
 
-add-i : tie.Need-add-i Inv-loop μ-loop
-add-i c = omega arith
+loop-holds : tie.Need-loop-holds Inv-loop μ-loop
+loop-holds c = (omega arith, λ j h g. absurd (omega arith))
+
+sub-i : tie.Need-sub-i Inv-loop μ-loop
+sub-i c = omega arith
+
+shared-slice-read-if2 : tie.Need-shared-slice-read-if2 Inv-loop μ-loop
+shared-slice-read-if2 c = omega arith
+
+shared-slice-read-if2-2 : tie.Need-shared-slice-read-if2-2 Inv-loop μ-loop
+shared-slice-read-if2-2 c = omega arith
+
+returns-2 : tie.Need-returns-2 Inv-loop μ-loop
+returns-2 c =
+    let a = c .before .before .before .before .before .before .before .args in
+    sym (holds-differ (a .field .now) (a .name .now) _ (omega arith) (c .if2 .taken))
 
 loop-less : tie.Need-loop-less Inv-loop μ-loop
 loop-less c = omega arith
 
 loop-again : tie.Need-loop-again Inv-loop μ-loop
 loop-again c =
-    let l = c .before .before .before .before .loop in (
-      omega arith,
-      refl,
-      l .inv .2 ∙ holds-next (c .before .before .before .before .before .args .field .now)
-          (c .before .before .before .before .before .args .name .now) (l .i) (omega arith) (omega arith) (c .if1 .left)
-          (goodName-byte (c .before .before .before .before .before .args .name .now) (l .i) (c .before .before .before .before .before .pre .1) (omega arith)),
-    )
+    let l = c .before .before .before .before .loop in
+    let a = c .before .before .before .before .before .before .before .args in
+    (omega arith, agrees-more (a .field .now) (a .name .now) (l .i) (l .inv .1) (c .if2 .left))
 
-shared-slice-read-result : tie.Need-shared-slice-read-result Inv-loop μ-loop
-shared-slice-read-result c = omega arith
-
-returns-2 : tie.Need-returns-2 Inv-loop μ-loop
-returns-2 c =
-    let l = c .before .before .loop in
-    let e : l .i ≡ length (c .before .before .before .args .name .now) = omega arith in
-    rw (← e) (sym (l .inv .2 ∙ holds-end (c .before .before .before .args .field .now) (c .before .before .before .args .name .now) (l .i) (omega arith) e))
+returns-3 : tie.Need-returns-3 Inv-loop μ-loop
+returns-3 c =
+    let l = c .before .loop in
+    let a = c .before .before .before .before .args in
+    let p = c .before .before .before .before .pre in
+    sym (holds-all (a .field .now) (a .name .now) (p .1) (λ j h. l .inv .1 j (omega arith) h) (c .before .before .if1 .left))
 
 pub holds-name-spec : {M : Type 1} → statement M
 holds-name-spec =
@@ -61,12 +59,13 @@ holds-name-spec =
     (tie.spec
     Inv-loop
     μ-loop
-    loop-holds
     shared-slice-read-if1
-    shared-slice-read-if1-2
     returns
-    add-i
+    loop-holds
+    sub-i
+    shared-slice-read-if2
+    shared-slice-read-if2-2
+    returns-2
     loop-less
     loop-again
-    shared-slice-read-result
-    returns-2)
+    returns-3)
