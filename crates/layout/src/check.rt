@@ -6,7 +6,7 @@ ghost use Rattle.layout.specs.Limits.{maxBlocks};
 ghost use Rattle.layout.specs.Table.{next, chain};
 ghost use Rattle.layout.specs.Check.{check, stage1, stage2, stage7};
 ghost use Rattle.layout.specs.Walks.Shapes.{Shape, Room, DirectoryAt};
-ghost use Rattle.layout.specs.Walks.Stages.{headerOk, countsOk, followTable, headStage, bodyStage};
+ghost use Rattle.layout.specs.Walks.Stages.{headerOk, countsOk, followTable, headStage, filesStage, bodyStage, RootMarked};
 use super::limits::MAX_BLOCKS;
 use super::limits::MIN_BLOCKS;
 use super::number::get32;
@@ -107,6 +107,25 @@ fn counts_ok(image: &[u8], n: usize) -> bool
     counted(&image[a..e], n, used)
 }
 
+// Stages 5 to 7, when the root's blocks are marked.
+fn files(image: &[u8], n: usize, d: usize, marks: &mut [u8]) -> u32
+    requires { ⌜ RootMarked (now image) n d (now marks) ⌝ }
+    ensures { λ r. ⌜ r ≡ filesStage (now (image .entry)) ⌝ }
+{
+    let t = (n + 127) / 128;
+    let root = t + 1;
+    if !super::directory::entries_ok(image, n, root, d) {
+        return 5;
+    }
+    if !table_ok(image, t, n, root, d, marks) {
+        return 6;
+    }
+    if !counts_ok(image, n) {
+        return 7;
+    }
+    0
+}
+
 // Stages 4 to 7, with room for a mark for each block.
 fn body(image: &[u8], n: usize, marks: &mut [u8]) -> u32
     requires { ⌜ (Shape (now image) n) × (length (now marks) ≡ maxBlocks) ⌝ }
@@ -119,16 +138,7 @@ fn body(image: &[u8], n: usize, marks: &mut [u8]) -> u32
         return 4;
     }
     let d = super::directory::number_at(image, root, 0, 12);
-    if !super::directory::entries_ok(image, n, root, d) {
-        return 5;
-    }
-    if !table_ok(image, t, n, root, d, marks) {
-        return 6;
-    }
-    if !counts_ok(image, n) {
-        return 7;
-    }
-    0
+    files(image, n, d, marks)
 }
 
 fn check_with(image: &[u8], marks: &mut [u8]) -> u32

@@ -5,20 +5,21 @@ use mathlib.Core.List.{List, [], _∷_, _++_}
 use mathlib.Core.Path.{_≡_, refl, sym, ap, _∙_}
 use native.Mathlib.Omega.{arith}
 use lib.Dec.{eqb, leb}
-use lib.ListN.{length, getD, replicate, length-replicate}
+use lib.ListN.{length, getD, replicate}
 use borrow.Author.Tests.{leb-true}
 use Rattle.layout.specs.Limits.{maxBlocks, maxDirectory}
 use Rattle.layout.specs.Lists.{within, range, every, has, distinct, select, joined}
-use Rattle.layout.specs.Bytes.{be32}
+use Rattle.layout.specs.Bytes.{be32, zeros}
 use Rattle.layout.specs.Geometry.{blockCount, tableBlocks, rootBlock}
 use Rattle.layout.specs.Table.{next, chain, chainOk}
 use Rattle.layout.specs.Directory.{slotAt, typeOf, blocksOf, selfOf, parentOf, isFile, files, root}
 use Rattle.layout.specs.Check.{directoryOk, stage4, entriesOk, stage5, fileChains, chains, owned, tableOk, stage6}
 use Rattle.layout.specs.Walks.Chains.{Walk, walked, follow, followAll, allOnes, restFree}
 use Rattle.layout.specs.Walks.Entries.{selfOk}
-use Rattle.layout.specs.Walks.Shapes.{Shape, DirectoryAt}
+use Rattle.layout.specs.Walks.Shapes.{Shape, Room, DirectoryAt}
 use Rattle.layout.specs.Walks.Slots.{entryAt}
-use Rattle.layout.specs.Walks.Stages.{followFiles, followDirectory, followTable}
+use Rattle.layout.specs.Walks.Stages.{followFiles, followDirectory, followTable, RootMarked}
+use Rattle.layout.proofs.Laws.Bytes.{length-zeros}
 use Rattle.layout.proofs.Laws.Chains.{length-chain, chain-below}
 use Rattle.layout.proofs.Laws.Lists.{getD-in, every-same}
 use Rattle.layout.proofs.Laws.Tests.{and-split}
@@ -107,16 +108,22 @@ followTable-tied s n b d m h some ok once g =
         rw (e, p .0, p .1, r)
     go false e = rw e (none all (distinct eqb os) (ones && rest) (sym (tied .ok) ∙ e))
 
--- the root directory, when no block was marked before
-module _ (s : List ℕ) (n : ℕ) (m₀ : List ℕ) (shape : Shape s n) (fresh : m₀ ≡ replicate maxBlocks 0) where
-  size₀ : length m₀ ≡ maxBlocks
-  size₀ = ap length fresh ∙ length-replicate {A = ℕ} maxBlocks 0
+-- the marks, cleared
+pub cleared : (m m₀ : List ℕ) → m₀ ≡ replicate (length m) 0 → length m ≡ maxBlocks → m₀ ≡ zeros maxBlocks
+unfolding zeros
+cleared m m₀ e h = e ∙ ap (λ (k : ℕ). replicate k 0) h
 
-  none : Marked m₀ []
-  none = rw fresh (marked-none maxBlocks)
+-- the root directory, when no block was marked before
+module _ (s : List ℕ) (n : ℕ) (shape : Shape s n) where
+  abbrev m₀ : List ℕ
+  m₀ = zeros maxBlocks
+
+  fresh : Marked m₀ []
+  unfolding zeros
+  fresh = marked-none maxBlocks
 
   tied : (b d : ℕ) → Tied (follow (next s) n d b m₀) (chainOk (next s) n b d && distinct eqb (chain (next s) b d)) (chain (next s) b d) (length m₀)
-  tied b d = follow-tied (next s) n d b m₀ [] (omega (arith, size₀)) none refl
+  tied b d = follow-tied (next s) n d b m₀ [] (omega (arith, length-zeros maxBlocks)) fresh refl
 
   stage4-walk : followDirectory s n (rootBlock n) (rootBlock n) m₀ .ok ≡ stage4 s
   unfolding followDirectory stage4
@@ -128,78 +135,81 @@ module _ (s : List ℕ) (n : ℕ) (m₀ : List ℕ) (shape : Shape s n) (fresh :
       ∙ sym (directory-parts s n b b)
       ∙ ap (λ (k : ℕ). directoryOk s k (rootBlock k) (rootBlock k)) (sym z)
 
-  pub stage4-false : (m₁ : List ℕ) → walked false m₁ ≡ followDirectory s n (rootBlock n) (rootBlock n) m₀ → false ≡ stage4 s
-  stage4-false m₁ e = ap (λ (w : Walk). w .ok) e ∙ stage4-walk
+  pub stage4-walked : (r : Bool) (m₁ : List ℕ) → walked r m₁ ≡ followDirectory s n (rootBlock n) (rootBlock n) m₀ → r ≡ stage4 s
+  stage4-walked r m₁ e = ap (λ (w : Walk). w .ok) e ∙ stage4-walk
 
-  module _ (m₁ : List ℕ) (e : walked true m₁ ≡ followDirectory s n (rootBlock n) (rootBlock n) m₀) where
-    pub stage4-true : true ≡ stage4 s
-    stage4-true = ap (λ (w : Walk). w .ok) e ∙ stage4-walk
+-- what the walk of the root says
+module _ (s : List ℕ) (n d : ℕ) (m₁ : List ℕ) (given : RootMarked s n d m₁) where
+  count : d ≡ blocksOf s (512 * rootBlock n)
+  count = given .size ∙ ap (λ (j : ℕ). be32 s j) (omega arith)
 
-    -- what the walk of the root says
-    record Root (d : ℕ) : Type 0 where
-      self : selfOk s (512 * rootBlock n) (rootBlock n) (rootBlock n) ≡ true
-      chased : walked true m₁ ≡ follow (next s) n d (rootBlock n) m₀
+  record Root : Type 0 where
+    self : selfOk s (512 * rootBlock n) (rootBlock n) (rootBlock n) ≡ true
+    chased : walked true m₁ ≡ follow (next s) n d (rootBlock n) (zeros maxBlocks)
 
-    rooted : (d : ℕ) → d ≡ blocksOf s (512 * rootBlock n) → Root d
-    unfolding followDirectory
-    rooted d ed = go (selfOk s (512 * rootBlock n) (rootBlock n) (rootBlock n)) refl
-      where
-        go : (t : Bool) → selfOk s (512 * rootBlock n) (rootBlock n) (rootBlock n) ≡ t → Root d
-        go true q = record { self = q; chased = rw (q, ← ed) at e }
-        go false q = absurd (false≢true (sym (ap (λ (w : Walk). w .ok) (rw q at e))))
+  rooted : Root
+  unfolding followDirectory
+  rooted = go (selfOk s (512 * rootBlock n) (rootBlock n) (rootBlock n)) refl
+    where
+      go : (t : Bool) → selfOk s (512 * rootBlock n) (rootBlock n) (rootBlock n) ≡ t → Root
+      go true q = record { self = q; chased = rw (q, ← count) at (given .marked) }
+      go false q = absurd (false≢true (sym (ap (λ (w : Walk). w .ok) (rw q at (given .marked)))))
 
-    module _ (d : ℕ) (ed : d ≡ be32 s (entryAt (rootBlock n) 0 + 12)) where
-      count : d ≡ blocksOf s (512 * rootBlock n)
-      count = ed ∙ ap (λ (j : ℕ). be32 s j) (omega arith)
+  tie : Tied (follow (next s) n d (rootBlock n) (zeros maxBlocks)) (chainOk (next s) n (rootBlock n) d && distinct eqb (chain (next s) (rootBlock n) d))
+      (chain (next s) (rootBlock n) d) (length (zeros maxBlocks))
+  tie = tied s n (given .shape) (rootBlock n) d
 
-      right : (chainOk (next s) n (rootBlock n) d ≡ true) × (distinct eqb (chain (next s) (rootBlock n) d) ≡ true)
-      right = and-split (chainOk (next s) n (rootBlock n) d) _ (sym (tied (rootBlock n) d .ok) ∙ sym (ap (λ (w : Walk). w .ok) (rooted d count .chased)))
+  right : (chainOk (next s) n (rootBlock n) d ≡ true) × (distinct eqb (chain (next s) (rootBlock n) d) ≡ true)
+  right = and-split (chainOk (next s) n (rootBlock n) d) _ (sym (tie .ok) ∙ sym (ap (λ (w : Walk). w .ok) (rooted .chased)))
 
-      marked : Marked m₁ (chain (next s) (rootBlock n) d)
-      marked = rw (← rooted d count .chased) at (tied (rootBlock n) d .marks) refl
+  marked : Marked m₁ (chain (next s) (rootBlock n) d)
+  marked = rw (← rooted .chased) at (tie .marks) refl
 
-      long : length m₁ ≡ maxBlocks
-      long = ap (λ (w : Walk). length (w .marks)) (rooted d count .chased) ∙ tied (rootBlock n) d .sized ∙ size₀
+  long : length m₁ ≡ maxBlocks
+  long = ap (λ (w : Walk). length (w .marks)) (rooted .chased) ∙ tie .sized ∙ length-zeros maxBlocks
 
-      limits : (1 ≤ d) × (d ≤ maxDirectory)
-      unfolding selfOk
-      limits =
-          let b : ℕ = rootBlock n in
-          let f : ℕ = 512 * b in
-          let a₁ = and-split (eqb (typeOf s f) 1) _ (rooted d count .self) in
-          let a₂ = and-split (eqb (selfOf s f) b) _ (a₁ .1) in
-          let a₃ = and-split (eqb (parentOf s f) b) _ (a₂ .1) in
-          let a₄ = and-split (leb 1 (blocksOf s f)) (leb (blocksOf s f) maxDirectory) (a₃ .1) in
-          (rw count (leb-true 1 (blocksOf s f) (a₄ .0)), rw count (leb-true (blocksOf s f) maxDirectory (a₄ .1)))
+  pub root-room : Room s (tableBlocks n) n m₁
+  root-room = record { shape = given .shape; table = refl; marks = long }
 
-      pub root-directory : DirectoryAt s n (rootBlock n) d
-      root-directory =
-          let ds : List ℕ = chain (next s) (rootBlock n) d in
-          let l : length ds ≡ d = length-chain (next s) (rootBlock n) d in
-          record {
-            shape = shape;
-            blocks = record {
-              some = limits .0;
-              few = limits .1;
-              size = l;
-              below = λ i h. chain-below (next s) n (rootBlock n) d (getD ds i 0) (right .0) (getD-in ds i 0 (omega arith));
-            };
-          }
+  limits : (1 ≤ d) × (d ≤ maxDirectory)
+  unfolding selfOk
+  limits =
+      let b : ℕ = rootBlock n in
+      let f : ℕ = 512 * b in
+      let a₁ = and-split (eqb (typeOf s f) 1) _ (rooted .self) in
+      let a₂ = and-split (eqb (selfOf s f) b) _ (a₁ .1) in
+      let a₃ = and-split (eqb (parentOf s f) b) _ (a₂ .1) in
+      let a₄ = and-split (leb 1 (blocksOf s f)) (leb (blocksOf s f) maxDirectory) (a₃ .1) in
+      (rw count (leb-true 1 (blocksOf s f) (a₄ .0)), rw count (leb-true (blocksOf s f) maxDirectory (a₄ .1)))
 
-      root-is : chain (next s) (rootBlock n) d ≡ root s
-      unfolding root
-      root-is =
-          let z : blockCount s ≡ n = shape-blockCount s n shape in
-          rw (z, ← count)
+  pub root-directory : DirectoryAt s n (rootBlock n) d
+  root-directory =
+      let ds : List ℕ = chain (next s) (rootBlock n) d in
+      let l : length ds ≡ d = length-chain (next s) (rootBlock n) d in
+      record {
+        shape = given .shape;
+        blocks = record {
+          some = limits .0;
+          few = limits .1;
+          size = l;
+          below = λ i h. chain-below (next s) n (rootBlock n) d (getD ds i 0) (right .0) (getD-in ds i 0 (omega arith));
+        };
+      }
 
-      pub stage5-entries : entriesOk s (chain (next s) (rootBlock n) d) ≡ stage5 s
-      unfolding stage5
-      stage5-entries = ap (λ (ds : List ℕ). entriesOk s ds) root-is
+  root-is : chain (next s) (rootBlock n) d ≡ root s
+  unfolding root
+  root-is =
+      let z : blockCount s ≡ n = shape-blockCount s n (given .shape) in
+      rw (z, ← count)
 
-      pub stage6-table : followTable s (tableBlocks n) n (chain (next s) (rootBlock n) d) d m₁ ≡ stage6 s
-      unfolding stage6
-      stage6-table =
-          let z : blockCount s ≡ n = shape-blockCount s n shape in
-          followTable-tied s n (rootBlock n) d m₁ (omega (arith, long)) (limits .0) (right .0) (right .1) marked
-          ∙ ap (λ (ds : List ℕ). tableOk (next s) n (chains s ds)) root-is
-          ∙ ap (λ (k : ℕ). tableOk (next s) k (chains s (root s))) (sym z)
+  pub stage5-entries : entriesOk s (chain (next s) (rootBlock n) d) ≡ stage5 s
+  unfolding stage5
+  stage5-entries = ap (λ (ds : List ℕ). entriesOk s ds) root-is
+
+  pub stage6-table : followTable s (tableBlocks n) n (chain (next s) (rootBlock n) d) d m₁ ≡ stage6 s
+  unfolding stage6
+  stage6-table =
+      let z : blockCount s ≡ n = shape-blockCount s n (given .shape) in
+      followTable-tied s n (rootBlock n) d m₁ (omega (arith, long)) (limits .0) (right .0) (right .1) marked
+      ∙ ap (λ (ds : List ℕ). tableOk (next s) n (chains s ds)) root-is
+      ∙ ap (λ (k : ℕ). tableOk (next s) k (chains s (root s))) (sym z)

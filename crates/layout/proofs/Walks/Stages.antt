@@ -17,7 +17,7 @@ use Rattle.layout.specs.Table.{next, occupied}
 use Rattle.layout.specs.Check.{stage1, stage2, stage3, stage4, stage5, stage6, stage7, check}
 use Rattle.layout.specs.Walks.Chains.{walked, allOnes, restFree, countUsed}
 use Rattle.layout.specs.Walks.Shapes.{Shape}
-use Rattle.layout.specs.Walks.Stages.{followFiles, followTable, headerOk, countsOk, headStage, bodyStage}
+use Rattle.layout.specs.Walks.Stages.{followFiles, followTable, headerOk, countsOk, headStage, filesStage, bodyStage}
 use Rattle.layout.proofs.Laws.Bytes.{be32-part}
 use Rattle.layout.proofs.Laws.Tests.{and-split}
 use Rattle.layout.proofs.Walks.Shapes.{shape-blockCount}
@@ -134,7 +134,7 @@ module _ (s : List ℕ) where
       go false b c z = refl
 
   pub check-body : headStage s ≡ 0 → (check s ≡ bodyStage s) × (true ≡ stage1 s)
-  unfolding check headStage bodyStage
+  unfolding check headStage filesStage bodyStage
   check-body e = go (stage1 s) (stage2 s) (stage3 s) refl refl refl e
     where
       go : (a b c : Bool) → stage1 s ≡ a → stage2 s ≡ b → stage3 s ≡ c → require a 1 (require b 2 (require c 3 0)) ≡ 0
@@ -150,21 +150,24 @@ module _ (s : List ℕ) where
   unfolding bodyStage
   bodyStage-4 h = rw (← h)
 
-  module _ (h₄ : true ≡ stage4 s) where
-    pub bodyStage-5 : false ≡ stage5 s → bodyStage s ≡ 5
-    unfolding bodyStage
-    bodyStage-5 h = rw (← h₄, ← h)
+  pub bodyStage-files : true ≡ stage4 s → bodyStage s ≡ filesStage s
+  unfolding bodyStage
+  bodyStage-files h = rw (← h)
 
-    module _ (h₅ : true ≡ stage5 s) where
-      pub bodyStage-6 : false ≡ stage6 s → bodyStage s ≡ 6
-      unfolding bodyStage
-      bodyStage-6 h = rw (← h₄, ← h₅, ← h)
+  pub filesStage-5 : false ≡ stage5 s → filesStage s ≡ 5
+  unfolding filesStage
+  filesStage-5 h = rw (← h)
 
-      module _ (h₆ : true ≡ stage6 s) where
-        pub bodyStage-7 : false ≡ stage7 s → bodyStage s ≡ 7
-        unfolding bodyStage
-        bodyStage-7 h = rw (← h₄, ← h₅, ← h₆, ← h)
+  module _ (h₅ : true ≡ stage5 s) where
+    pub filesStage-6 : false ≡ stage6 s → filesStage s ≡ 6
+    unfolding filesStage
+    filesStage-6 h = rw (← h₅, ← h)
 
-        pub bodyStage-0 : true ≡ stage7 s → bodyStage s ≡ 0
-        unfolding bodyStage
-        bodyStage-0 h = rw (← h₄, ← h₅, ← h₆, ← h)
+    module _ (h₆ : true ≡ stage6 s) where
+      pub filesStage-7 : false ≡ stage7 s → filesStage s ≡ 7
+      unfolding filesStage
+      filesStage-7 h = rw (← h₅, ← h₆, ← h)
+
+      pub filesStage-0 : true ≡ stage7 s → filesStage s ≡ 0
+      unfolding filesStage
+      filesStage-0 h = rw (← h₅, ← h₆, ← h)

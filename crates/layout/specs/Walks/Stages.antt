@@ -1,17 +1,21 @@
--- The stages of the check, as the code takes them: chains with marks, the header by itself, and two halves.
+-- The stages of the check, as the code takes them: chains with marks, the header by itself, and the stages in parts.
 use Prim.Native.Nat.{ℕ, _+_, _-_, _*_}
 use mathlib.Core.Bool.{Bool, true, false, cond, _&&_}
 use mathlib.Core.List.{List}
+use mathlib.Core.Path.{_≡_}
 use lib.Dec.{eqb}
+use Rattle.layout.specs.Limits.{maxBlocks}
 use Rattle.layout.specs.Lists.{range, select, joined}
 use Rattle.layout.specs.Refusals.{require}
-use Rattle.layout.specs.Bytes.{be32}
+use Rattle.layout.specs.Bytes.{be32, zeros}
 use Rattle.layout.specs.Geometry.{tableBlocks, rootBlock}
 use Rattle.layout.specs.Table.{next}
 use Rattle.layout.specs.Directory.{slotAt, typeOf, firstBlock, blocksOf, isFile}
 use Rattle.layout.specs.Check.{stage1, stage2, stage3, stage4, stage5, fileChains, stage6, stage7}
 use Rattle.layout.specs.Walks.Chains.{Walk, walked, follow, followAll, allOnes, restFree}
 use Rattle.layout.specs.Walks.Entries.{selfOk}
+use Rattle.layout.specs.Walks.Shapes.{Shape}
+use Rattle.layout.specs.Walks.Slots.{entryAt}
 
 -- the file of one slot: its chain, if it is one
 unfoldable pub followSlot : List ℕ → ℕ → ℕ → List ℕ → Walk
@@ -37,9 +41,18 @@ headerOk h n = eqb (be32 h 12) n && (eqb (be32 h 16) (tableBlocks n) && eqb (be3
 unfoldable pub countsOk : List ℕ → ℕ → ℕ → Bool
 countsOk h n used = eqb (be32 h 20) used && eqb (be32 h 24) (n - used)
 
--- the check in two halves: what the image's length and header say, and what its table and root say
+-- the check in parts: what the image's length and header say, what its root's files and its counts say, and all that comes after the header
 unfoldable pub headStage : List ℕ → ℕ
 headStage s = require (stage1 s) 1 (require (stage2 s) 2 (require (stage3 s) 3 0))
 
+unfoldable pub filesStage : List ℕ → ℕ
+filesStage s = require (stage5 s) 5 (require (stage6 s) 6 (require (stage7 s) 7 0))
+
 unfoldable pub bodyStage : List ℕ → ℕ
-bodyStage s = require (stage4 s) 4 (require (stage5 s) 5 (require (stage6 s) 6 (require (stage7 s) 7 0)))
+bodyStage s = require (stage4 s) 4 (filesStage s)
+
+-- m marks the blocks of the root, which are d; none was marked before
+pub record RootMarked (s : List ℕ) (n d : ℕ) (m : List ℕ) : Type 0 where
+  pub shape : Shape s n
+  pub marked : walked true m ≡ followDirectory s n (rootBlock n) (rootBlock n) (zeros maxBlocks)
+  pub size : d ≡ be32 s (entryAt (rootBlock n) 0 + 12)
