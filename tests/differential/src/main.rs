@@ -17,6 +17,7 @@ mod ffi;
 mod images;
 mod journals;
 mod lent;
+mod library;
 mod report;
 mod rng;
 mod suites;
