@@ -5,24 +5,8 @@ use crate::journals;
 use crate::rng::Rng;
 use crate::tester::Tester;
 use reference::journal::MAX_LENGTH;
-use reference::{Change, Create, Delete, State, Write};
-
-fn create(name: &[u8]) -> Change {
-    let name = name.to_vec();
-    Change::Create(Create {
-        name,
-        kind: 0x60,
-        user: 1,
-        group: 2,
-        permissions: 3,
-        flags: 4,
-        time: 8,
-    })
-}
-
-fn write(name: &[u8], offset: u64, data: &[u8]) -> Change {
-    Change::Write(Write { name: name.to_vec(), offset, data: data.to_vec(), time: 9 })
-}
+use reference::worked::{create, delete, fresh, write};
+use reference::State;
 
 /// The worked numbers of the rules. The reference's own tests tie the
 /// reference to them; here the library follows the same steps.
@@ -32,8 +16,7 @@ pub fn numbers(_: &mut Rng, _: u64, t: &mut Tester) {
         t.report.about(format!("format n {n} d {d}"));
         t.format(&vec![0xEE; 512 * n], d, 7, [3; 16], &name);
     }
-    let image = reference::format(512 * 16, 2, 7, [3; 16], &name).unwrap();
-    let mut state = State { image, journal: reference::start(65_536).unwrap() };
+    let mut state = fresh(16, 2);
     t.report.about("worked run");
     for (change, number) in [
         (create(b"A"), 0),
@@ -47,7 +30,7 @@ pub fn numbers(_: &mut Rng, _: u64, t: &mut Tester) {
         (write(b"SN10", 0, b"z"), 10),
         (write(b"SN1", 0, &[1; 4096]), 0),
         (write(b"SN1", 0, &[1; 4097]), 9),
-        (Change::Delete(Delete { name: b"A".to_vec() }), 0),
+        (delete(b"A"), 0),
     ] {
         let got = t.change(&state, &change);
         t.report.agree("plan", got, number);
@@ -88,7 +71,7 @@ fn every_journaled_call(t: &mut Tester, state: &State) {
     };
     t.change(state, &create(b"\x01new\x02"));
     t.change(state, &write(&name, 0, b"bytes"));
-    t.change(state, &Change::Delete(Delete { name }));
+    t.change(state, &delete(&name));
     t.undo(state);
 }
 
