@@ -3,6 +3,7 @@
 mod broken;
 mod fixed;
 mod lister;
+mod names;
 mod order;
 mod runs;
 mod scripts;
@@ -27,7 +28,9 @@ pub const SUITES: &[Suite] = &[
     Suite { name: "edges", rounds: |_| 1, run: fixed::edges },
     Suite { name: "format", rounds: |n| 5 * n, run: sound::format },
     Suite { name: "sound", rounds: |n| 4 * n, run: sound::calls },
+    Suite { name: "names", rounds: |n| names::ROUNDS * n.div_ceil(500), run: names::run },
     Suite { name: "damage", rounds: |n| n.div_ceil(10), run: broken::clauses },
+    Suite { name: "largest", rounds: |n| 2 * n.div_ceil(100), run: broken::largest },
     Suite { name: "double", rounds: |n| 2 * n, run: broken::two_clauses },
     Suite { name: "noise", rounds: |n| 5 * n, run: broken::noise },
     Suite { name: "journals", rounds: |n| n.div_ceil(4), run: broken::journals },
