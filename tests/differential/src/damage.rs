@@ -375,6 +375,12 @@ pub const CHAINS: &[Clause] = &[
         resize(i, &f, r.pick(&[u32::MAX, u32::MAX - 511, 0x8000_0000, 4096 * 512, 4097 * 512]));
         Some(())
     } },
+    Clause { stage: 6, what: "size in blocks right in its low bits", make: |r, i| {
+        let f = file_with_blocks(r, i)?;
+        let more = r.pick(&[1 << 8, 1 << 12, 1 << 16, 1 << 20, 1 << 22]);
+        resize(i, &f, f.size + 512 * more);
+        Some(())
+    } },
     Clause { stage: 6, what: "huge size on a loop", make: |r, i| {
         let f = file_with_blocks(r, i)?;
         let last = last_of(i, &f);

@@ -128,6 +128,7 @@ pub fn with_names(rng: &mut Rng, n: usize, d: usize, names: &[Vec<u8>]) -> Vec<u
         let size = any_size(rng, pool.len() * BLOCK);
         put_file(rng, &mut image, slots[s], name, size, &mut pool);
     }
+    put_stray_names(rng, &mut image);
     put_header(&mut image);
     assert_eq!(reference::check(&image), 0, "the builder makes sound images");
     image
