@@ -32,6 +32,11 @@ impl Lent {
         Lent { bytes, at, len: content.len() }
     }
 
+    /// Puts other content of the same length at the same place.
+    pub fn put(&mut self, content: &[u8]) {
+        self.bytes[self.at..self.at + self.len].copy_from_slice(content);
+    }
+
     pub fn content(&self) -> &[u8] {
         &self.bytes[self.at..self.at + self.len]
     }

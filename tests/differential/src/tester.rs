@@ -35,7 +35,12 @@ impl Tester {
 
     pub fn check(&mut self, image: &[u8]) {
         let lent = self.lend(image);
-        let got = library::check(&lent);
+        self.check_in(&lent, image);
+    }
+
+    /// The check of an image that is lent already.
+    pub fn check_in(&mut self, lent: &Lent, image: &[u8]) {
+        let got = library::check(lent);
         let expected = reference::check(image);
         let troubles = [unequal(got, expected), lent.trouble("image", image)];
         self.report.call(Entry::Check, expected, troubles);
@@ -118,7 +123,12 @@ impl Tester {
     /// Create, write or delete. Gives the reference's number.
     pub fn change(&mut self, state: &State, change: &Change) -> u32 {
         let mut pair = self.lend_pair(state);
-        let (entry, got, mut troubles) = self.make(&mut pair, change);
+        self.change_in(&mut pair, state, change)
+    }
+
+    /// The same on an image and a journal that are lent already.
+    pub fn change_in(&mut self, pair: &mut Pair, state: &State, change: &Change) -> u32 {
+        let (entry, got, mut troubles) = self.make(pair, change);
         let result = reference::apply(state, change);
         let number = number_of(&result);
         let (slot, record) = result.as_ref().map_or((0, 0), |a| (a.slot, a.record));
@@ -132,6 +142,10 @@ impl Tester {
     /// Undo. Gives the reference's number.
     pub fn undo(&mut self, state: &State) -> u32 {
         let mut pair = self.lend_pair(state);
+        self.undo_in(&mut pair, state)
+    }
+
+    pub fn undo_in(&mut self, pair: &mut Pair, state: &State) -> u32 {
         let got = pair.undo();
         let result = reference::undo(state);
         let number = number_of(&result);

@@ -1,5 +1,6 @@
 //! Fixed cases: the worked numbers, and the edges of lengths.
 
+use crate::damage::join;
 use crate::images::{build, put_file, put_header, Fill};
 use crate::journals;
 use crate::rng::Rng;
@@ -170,4 +171,11 @@ fn widest_changes(rng: &mut Rng, t: &mut Tester) {
     }
     t.report.about("the largest file");
     t.look(&state.image, b"large", 0, &rng.bytes(size + 3), (size / BLOCK) as u64);
+    let large = &files(&state.image)[1];
+    for owned in [spread[4], root_chain(&state.image)[1]] {
+        let mut image = state.image.clone();
+        join(&mut image, large, owned);
+        t.report.agree("plan", reference::check(&image), 6);
+        t.check(&image);
+    }
 }

@@ -2,6 +2,7 @@
 
 mod broken;
 mod fixed;
+mod kept;
 mod lister;
 mod names;
 mod order;
@@ -35,6 +36,7 @@ pub const SUITES: &[Suite] = &[
     Suite { name: "noise", rounds: |n| 5 * n, run: broken::noise },
     Suite { name: "journals", rounds: |n| n.div_ceil(4), run: broken::journals },
     Suite { name: "order", rounds: |n| n.div_ceil(10), run: order::all },
+    Suite { name: "kept", rounds: |n| n.div_ceil(5), run: kept::run },
     Suite { name: "runs", rounds: |n| n, run: runs::run },
     Suite { name: "long", rounds: |n| n.div_ceil(250), run: runs::long },
     Suite { name: "large", rounds: |n| n.div_ceil(50), run: runs::large },
