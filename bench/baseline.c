@@ -22,17 +22,24 @@ uint32_t ENTRY(check)(const uint8_t *image, size_t image_len)
     return check(image, image_len, &v);
 }
 
+/* Weighs 9 and 10 on a sound image; on success fills the slot. */
+static uint32_t find_file(const uint8_t *image, const volume *v, const uint8_t *name,
+                          size_t name_len, uint32_t *slot)
+{
+    if (!good_name(name, name_len))
+        return BULGEFS_BAD_ARGUMENT;
+    *slot = find(image, v, name, name_len);
+    return *slot == 0 ? BULGEFS_NOT_FOUND : BULGEFS_OK;
+}
+
 /* Weighs 1 to 7, 9 and 10; on success fills the volume and the slot. */
 static uint32_t look(const uint8_t *image, size_t image_len, const uint8_t *name,
                      size_t name_len, volume *v, uint32_t *slot)
 {
     uint32_t number = check(image, image_len, v);
-    if (number != BULGEFS_OK)
-        return number;
-    if (!good_name(name, name_len))
-        return BULGEFS_BAD_ARGUMENT;
-    *slot = find(image, v, name, name_len);
-    return *slot == 0 ? BULGEFS_NOT_FOUND : BULGEFS_OK;
+    if (number == BULGEFS_OK)
+        number = find_file(image, v, name, name_len, slot);
+    return number;
 }
 
 bulgefs_found ENTRY(lookup)(const uint8_t *image, size_t image_len,
@@ -47,22 +54,39 @@ bulgefs_found ENTRY(lookup)(const uint8_t *image, size_t image_len,
     return (bulgefs_found){BULGEFS_OK, slot, get32(entry + SIZE), get32(entry + BLOCKS)};
 }
 
+/* A place in a chain: a block, and an offset in it. */
+typedef struct { uint32_t b, at; } place;
+
+/* The place of byte at of the chain that starts with block b. */
+static place seek(const uint8_t *image, uint32_t b, uint32_t at)
+{
+    for (; at >= BLOCK; at -= BLOCK)
+        b = next_of(image, b);
+    return (place){b, at};
+}
+
+/*
+ * Steps over those of len bytes that lie in the place's block, on to the next
+ * block.  Gives their count, and where they start in the image.
+ */
+static size_t step(const uint8_t *image, place *p, size_t len, size_t *start)
+{
+    size_t piece = BLOCK - p->at;
+    *start = (size_t)p->b * BLOCK + p->at;
+    p->b = next_of(image, p->b);
+    p->at = 0;
+    return piece < len ? piece : len;
+}
+
 /* Copies len bytes of the chain that starts with block b, from offset at on. */
 static void gather(const uint8_t *image, uint32_t b, uint32_t at, uint8_t *to, size_t len)
 {
-    if (len == 0)
-        return;
-    for (; at >= BLOCK; at -= BLOCK)
-        b = next_of(image, b);
+    place p = seek(image, b, at);
     while (len > 0) {
-        size_t piece = BLOCK - at;
-        if (piece > len)
-            piece = len;
-        memcpy(to, image + (size_t)b * BLOCK + at, piece);
+        size_t start, piece = step(image, &p, len, &start);
+        memcpy(to, image + start, piece);
         to += piece;
         len -= piece;
-        at = 0;
-        b = next_of(image, b);
     }
 }
 
@@ -228,19 +252,12 @@ static void grow(uint8_t *image, uint8_t *entry, uint32_t last, const uint32_t *
 /* Copies data into the chain that starts with block b, from offset at on. */
 static void scatter(uint8_t *image, uint32_t b, uint32_t at, const uint8_t *data, size_t len)
 {
-    if (len == 0)
-        return;
-    for (; at >= BLOCK; at -= BLOCK)
-        b = next_of(image, b);
+    place p = seek(image, b, at);
     while (len > 0) {
-        size_t piece = BLOCK - at;
-        if (piece > len)
-            piece = len;
-        memcpy(image + (size_t)b * BLOCK + at, data, piece);
+        size_t start, piece = step(image, &p, len, &start);
+        memcpy(image + start, data, piece);
         data += piece;
         len -= piece;
-        at = 0;
-        b = next_of(image, b);
     }
 }
 
@@ -286,14 +303,14 @@ bulgefs_changed ENTRY(write)(uint8_t *image, size_t image_len,
                              uint64_t time)
 {
     volume v;
+    uint32_t slot;
     uint32_t number = check_both(image, image_len, journal, journal_len, &v);
+    if (number == BULGEFS_OK && data_len > BULGEFS_MAX_DATA)
+        number = BULGEFS_BAD_ARGUMENT;
+    if (number == BULGEFS_OK)
+        number = find_file(image, &v, name, name_len, &slot);
     if (number != BULGEFS_OK)
         return (bulgefs_changed){number, 0};
-    if (!good_name(name, name_len) || data_len > BULGEFS_MAX_DATA)
-        return (bulgefs_changed){BULGEFS_BAD_ARGUMENT, 0};
-    uint32_t slot = find(image, &v, name, name_len);
-    if (slot == 0)
-        return (bulgefs_changed){BULGEFS_NOT_FOUND, 0};
     uint8_t *entry = image + slot_at(&v, slot);
     uint32_t size = get32(entry + SIZE);
     if (offset > size)
@@ -328,14 +345,12 @@ bulgefs_changed ENTRY(delete)(uint8_t *image, size_t image_len,
                               const uint8_t *name, size_t name_len)
 {
     volume v;
+    uint32_t slot;
     uint32_t number = check_both(image, image_len, journal, journal_len, &v);
+    if (number == BULGEFS_OK)
+        number = find_file(image, &v, name, name_len, &slot);
     if (number != BULGEFS_OK)
         return (bulgefs_changed){number, 0};
-    if (!good_name(name, name_len))
-        return (bulgefs_changed){BULGEFS_BAD_ARGUMENT, 0};
-    uint32_t slot = find(image, &v, name, name_len);
-    if (slot == 0)
-        return (bulgefs_changed){BULGEFS_NOT_FOUND, 0};
     uint8_t *entry = image + slot_at(&v, slot);
     uint32_t blocks = get32(entry + BLOCKS);
     block_set named = {{0}};

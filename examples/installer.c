@@ -6,6 +6,7 @@
  */
 #include "bulgefs.h"
 
+#include <assert.h>
 #include <stdbool.h>
 #include <stdio.h>
 #include <stdlib.h>
@@ -61,19 +62,27 @@ static const uint8_t *bytes(const char *text)
     return (const uint8_t *)text;
 }
 
-static void print_change(const char *what, const char *name, uint32_t record)
+/* ---- changes ---- */
+
+/* The changes that stand, the last one last, as the journal has them. */
+static struct { const char *what, *name; } made[16];
+static size_t made_count;
+
+static void note_change(const char *what, const char *name, uint32_t record)
 {
+    assert(made_count < sizeof made / sizeof made[0]);
+    made[made_count].what = what;
+    made[made_count].name = name;
+    made_count++;
     printf("  %-7s %-7s record of %4u bytes\n", what, name, (unsigned)record);
 }
-
-/* ---- changes ---- */
 
 static void create(const char *name, uint64_t time)
 {
     bulgefs_created c = bulgefs_create(image, sizeof image, journal, sizeof journal, bytes(name),
                                        strlen(name), FILE_TYPE, 0, 0, 0, 0, time);
     require(c.number, "create", name);
-    print_change("create", name, c.record);
+    note_change("create", name, c.record);
 }
 
 static void put(const char *name, uint64_t offset, const char *text, uint64_t time)
@@ -81,7 +90,19 @@ static void put(const char *name, uint64_t offset, const char *text, uint64_t ti
     bulgefs_changed c = bulgefs_write(image, sizeof image, journal, sizeof journal, bytes(name),
                                       strlen(name), offset, bytes(text), strlen(text), time);
     require(c.number, "write", name);
-    print_change("write", name, c.record);
+    note_change("write", name, c.record);
+}
+
+/* Puts a value over the one that stands behind a key. */
+static void set(const char *name, const char *key, const char *value, uint64_t time)
+{
+    char text[BULGEFS_BLOCK_SIZE + 1] = "";
+    bulgefs_filled r = bulgefs_read(image, sizeof image, bytes(name), strlen(name), 0,
+                                    (uint8_t *)text, sizeof text - 1);
+    require(r.number, "read", name);
+    const char *found = strstr(text, key);
+    if (found != NULL)
+        put(name, (uint64_t)(found - text) + strlen(key), value, time);
 }
 
 static void append(const char *name, const char *text, uint64_t time)
@@ -96,24 +117,23 @@ static void drop(const char *name)
     bulgefs_changed c = bulgefs_delete(image, sizeof image, journal, sizeof journal, bytes(name),
                                        strlen(name));
     require(c.number, "delete", name);
-    print_change("delete", name, c.record);
+    note_change("delete", name, c.record);
 }
 
 /* ---- what is on the volume ---- */
 
-/* One line: slot, size, blocks, name and the start of the settings. */
+/* One line: slot, size, blocks, name and the start of the settings, which is not copied. */
 static void show(const char *name)
 {
-    char text[33] = "";
+    enum { SHOWN = 32 };
     bulgefs_found f = bulgefs_lookup(image, sizeof image, bytes(name), strlen(name));
     if (f.number == BULGEFS_NOT_FOUND)
         return;
     require(f.number, "look up", name);
-    bulgefs_filled r = bulgefs_read(image, sizeof image, bytes(name), strlen(name), 0,
-                                    (uint8_t *)text, sizeof text - 1);
-    require(r.number, "read", name);
-    printf("  %4u %5u %6u  %-7s %s%s\n", (unsigned)f.slot, (unsigned)f.size, (unsigned)f.blocks,
-           name, text, f.size > r.count ? "..." : "");
+    bulgefs_part p = bulgefs_look_in_place(image, sizeof image, bytes(name), strlen(name), 0);
+    printf("  %4u %5u %6u  %-7s %.*s%s\n", (unsigned)f.slot, (unsigned)f.size, (unsigned)f.blocks,
+           name, p.length < SHOWN ? (int)p.length : SHOWN, (const char *)image + p.start,
+           f.size > SHOWN ? "..." : "");
 }
 
 static void list(const char *title)
@@ -151,25 +171,26 @@ static const char *calibration(void)
     return text;
 }
 
-/* Makes some changes and gives their number. */
-static int change(void)
+static void change(void)
 {
     printf("\nChange\n");
-    put(serials[0], strlen("baud="), "4800", 2001);
+    set(serials[0], "baud=", "4800", 2001);
     append(serials[1], calibration(), 2002);
     drop(serials[2]);
     create(serials[4], 2003);
     put(serials[4], 0, settings[4], 2004);
-    return 5;
 }
 
-static void take_back(int changes)
+/* Takes changes back, the last one first, until so many stand. */
+static void take_back(size_t standing)
 {
     printf("\nUndo\n");
-    for (int i = 0; i < changes; i++) {
+    while (made_count > standing) {
         bulgefs_changed u = bulgefs_undo(image, sizeof image, journal, sizeof journal);
         require(u.number, "undo", "the last change");
-        print_change("undo", "", u.record);
+        made_count--;
+        printf("  undo %-7s %-7s record of %4u bytes\n", made[made_count].what,
+               made[made_count].name, (unsigned)u.record);
     }
 }
 
@@ -200,12 +221,13 @@ int main(void)
     list("Installed");
     memcpy(image_then, image, sizeof image);
     memcpy(journal_then, journal, sizeof journal);
+    size_t standing = made_count;
 
-    int changes = change();
+    change();
     list("Changed");
     try_refusals();
 
-    take_back(changes);
+    take_back(standing);
     list("After undo");
 
     printf("\nBefore the changes and after undo\n");

@@ -7,7 +7,8 @@
  * the last change back, byte for byte.
  *
  * The library keeps nothing between calls: no handles, no allocation, no
- * input or output, no global state.  Link libcapi.a.
+ * input or output, no global state.  Calls on different buffers may run at the
+ * same time.  Link libcapi.a; examples/installer.c shows every call in use.
  *
  * Buffers
  *   The caller owns every buffer and lends it for the length of one call.
@@ -49,8 +50,8 @@ extern "C" {
 #define BULGEFS_MAX_JOURNAL        4194304u  /* bytes in the largest journal           */
 
 /*
- * Length of a journal record that saves k blocks.  A create saves 1 block; a
- * write of BULGEFS_MAX_DATA bytes saves at most 20.
+ * Length of a journal record that saves k blocks.  A create saves 1 block, a
+ * write at most 20, a delete at most 34.
  */
 #define BULGEFS_RECORD_SIZE(k)     (4u + 516u * (k))
 
@@ -141,9 +142,9 @@ bulgefs_filled bulgefs_read(const uint8_t *image, size_t image_len,
                             uint64_t offset, uint8_t *buffer, size_t buffer_len);
 
 /*
- * Tells where in the image a file's block lies, without copying: the file's
- * bytes 512 * index up to 512 * index + length are image[start] up to
- * image[start + length].  index counts from 0; the last block is cut at the
+ * Tells where in the image a file's block lies, without copying: the length
+ * bytes of the file from 512 * index on are those from image[start] on, until
+ * the image is changed.  index counts from 0; the last block is cut at the
  * file's end.  The part is empty, start and length 0, exactly if the image is
  * not sound, the name is bad or not found, or index is not below the file's
  * blocks; bulgefs_lookup tells which.

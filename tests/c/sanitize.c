@@ -3,8 +3,8 @@
  * looks for any step outside them.
  *
  * Each case runs three times: with buffers from exact heap allocations, which
- * AddressSanitizer watches; with buffers that end right before a page nobody
- * may touch; and with buffers that begin right after one.  The pages also
+ * AddressSanitizer watches; with buffers that end right before pages nobody
+ * may touch; and with buffers that begin right after some.  The pages also
  * catch a library that was built without sanitizers, and buffers that a call
  * may only read lie on pages that nobody may write.
  */
@@ -51,6 +51,12 @@ static void fill_random(uint8_t *bytes, size_t len)
 
 enum place { HEAP, PAGE_END, PAGE_START, PLACES };
 
+/*
+ * Bytes on each side of a buffer that nobody may touch: a multiple of any page,
+ * and farther than the table entry of a wrong block number of 16 bits.
+ */
+enum { GUARD = 512 * 1024 };
+
 static enum place place;
 
 typedef struct {
@@ -81,12 +87,10 @@ static buffer lend(const uint8_t *content, size_t len)
         b.at = must_have(malloc(len));
     } else {
         size_t inner = (len + page) / page * page;
-        b.mapped = inner + 2 * page;
-        b.pages = must_have(mmap(NULL, b.mapped, PROT_READ | PROT_WRITE,
-                                 MAP_PRIVATE | MAP_ANONYMOUS, -1, 0));
-        mprotect(b.pages, page, PROT_NONE);
-        mprotect(b.pages + page + inner, page, PROT_NONE);
-        b.at = b.pages + page + (place == PAGE_END ? inner - len : 0);
+        b.mapped = inner + 2 * GUARD;
+        b.pages = must_have(mmap(NULL, b.mapped, PROT_NONE, MAP_PRIVATE | MAP_ANONYMOUS, -1, 0));
+        mprotect(b.pages + GUARD, inner, PROT_READ | PROT_WRITE);
+        b.at = b.pages + GUARD + (place == PAGE_END ? inner - len : 0);
     }
     b.before = must_have(malloc(len + 1));
     if (len > 0) {
@@ -101,8 +105,7 @@ static buffer lend_const(const uint8_t *content, size_t len)
 {
     buffer b = lend(content, len);
     if (b.pages != NULL)
-        mprotect(b.pages + sysconf(_SC_PAGESIZE), b.mapped - 2 * (size_t)sysconf(_SC_PAGESIZE),
-                 PROT_READ);
+        mprotect(b.pages + GUARD, b.mapped - 2 * GUARD, PROT_READ);
     return b;
 }
 
@@ -304,17 +307,70 @@ static void fill_volume(uint8_t *image, size_t n, uint8_t *journal, size_t journ
     expect(bulgefs_check(image, n * 512) == 0, "fill: sound");
 }
 
+static void put_number(uint8_t *at, uint32_t number)
+{
+    for (int i = 0; i < 4; i++)
+        at[i] = (uint8_t)(number >> (24 - 8 * i));
+}
+
+static size_t used_length(const uint8_t *journal)
+{
+    return (size_t)journal[2] << 16 | (size_t)journal[3] << 8 | journal[4];
+}
+
+/* Sound volumes, with names, data and journals of every length. */
+static void sound_volumes(void)
+{
+    static uint8_t image[16 * 512], journal[8192], name[8192], data[8192];
+    memset(name, 'f', sizeof name);
+    fill_volume(image, 16, journal, sizeof journal);
+    for (size_t i = 0; i < LENGTHS; i++)
+        for (size_t k = 0; k < LENGTHS; k++) {
+            material m = {image, journal, name, data, sizeof image, lengths[i], lengths[k],
+                          any_length(), any_offset()};
+            call_all(&m);
+        }
+}
+
+/*
+ * Journals that end with the buffer: within a record, with the used length as
+ * it was and as it is, and a few bytes after the last record.
+ */
+static void cut_journals(void)
+{
+    static const int more[] = {-600, -519, -517, -516, -515, -5, -4, -3, -2, -1, 0, 1, 2, 3, 4, 5};
+    static uint8_t image[16 * 512], journal[16384];
+    fill_volume(image, 16, journal, sizeof journal);
+    size_t used = used_length(journal);
+    for (size_t i = 0; i < sizeof more / sizeof more[0]; i++) {
+        size_t length = used + (size_t)more[i];
+        material m = {image, journal, (const uint8_t *)"f3", image, sizeof image, length, 2, 600,
+                      100};
+        call_all(&m);
+        put_number(journal + 1, (uint32_t)length);
+        call_all(&m);
+        put_number(journal + 1, (uint32_t)used);
+    }
+}
+
 /* Puts a block number of the image's length or more into the last record. */
 static void damage_last_record(uint8_t *journal, size_t n)
 {
     static const uint32_t more[] = {0, 1, 100, 4000, 0x7FFFFFFF};
-    size_t used = (size_t)journal[2] << 16 | (size_t)journal[3] << 8 | journal[4];
-    if (used == 5)
-        return;
-    uint32_t b = (uint32_t)n + more[random_below(5)];
-    uint8_t *number = journal + used - 516;
-    for (int i = 0; i < 4; i++)
-        number[i] = (uint8_t)(b >> (24 - 8 * i));
+    size_t used = used_length(journal);
+    if (used > 5)
+        put_number(journal + used - 516, (uint32_t)n + more[random_below(5)]);
+}
+
+/* Leads a chain out of the image: by a table entry, or by a file's first block. */
+static void damage_chain(uint8_t *image, size_t n)
+{
+    static const uint32_t more[] = {0, 1, 112, 2000, 4000, 65000, 0x7FFFFFFF};
+    size_t root = (n + 127) / 128 + 1;
+    size_t file = root * 512 + 128 * (1 + random_below(6));
+    size_t entry = 512 + 4 * (root + random_below((uint32_t)(n - root)));
+    put_number(image + (random_below(2) && file + 8 <= n * 512 ? file + 4 : entry),
+               (uint32_t)n + more[random_below(7)]);
 }
 
 /* Good volumes, and volumes and journals with a few bytes changed. */
@@ -324,8 +380,8 @@ static void damaged_volumes(void)
     static uint8_t image[MOST], journal[MOST], saved[MOST], saved_journal[MOST], data[4097];
     for (size_t i = 0; i < 7; i++) {
         size_t n = blocks[i];
-        size_t journal_len = 600 + random_below(20000);
-        fill_volume(image, n, journal, journal_len);
+        fill_volume(image, n, journal, sizeof journal);
+        size_t journal_len = used_length(journal) + random_below(3000);
         memcpy(saved, image, n * 512);
         memcpy(saved_journal, journal, journal_len);
         for (int round = 0; round < 60; round++) {
@@ -336,6 +392,8 @@ static void damaged_volumes(void)
                 image[random_below((uint32_t)n * 512)] = (uint8_t)random_below(256);
             if (round % 3 == 1)
                 image[512 + random_below((uint32_t)n * 4)] ^= (uint8_t)(1u << random_below(8));
+            if (round % 3 == 2)
+                damage_chain(image, n);
             if (round % 4 == 1)
                 journal[random_below(9)] ^= (uint8_t)(1u << random_below(8));
             if (round % 4 == 2)
@@ -369,6 +427,8 @@ static void largest(void)
 int main(void)
 {
     random_buffers();
+    sound_volumes();
+    cut_journals();
     damaged_volumes();
     largest();
     printf("%lu passed, %lu failed\n", passed, failed);

@@ -35,7 +35,7 @@ pub fn missing_name(rng: &mut Rng, image: &[u8]) -> Vec<u8> {
 }
 
 /// A name one step away from the given one.
-fn altered(rng: &mut Rng, name: &[u8]) -> Vec<u8> {
+pub fn altered(rng: &mut Rng, name: &[u8]) -> Vec<u8> {
     let mut name = name.to_vec();
     match rng.below(5) {
         0 => name.push(rng.nonzero_byte()),

@@ -96,6 +96,13 @@ fn second_owner(image: &mut [u8], first: u32, size: u32) -> Option<()> {
     Some(())
 }
 
+/// Ends a file of two blocks or more with a block that has an owner already.
+pub fn join(image: &mut [u8], file: &File, last: usize) {
+    let chain = file_chain(image, file);
+    set_entry(image, chain[chain.len() - 1], 0);
+    set_entry(image, chain[chain.len() - 2], last as u32);
+}
+
 /// Sets a file's size and its size in blocks to match.
 fn resize(image: &mut [u8], file: &File, size: u32) {
     put_number(image, file.at + slot::SIZE, size);
@@ -375,6 +382,12 @@ pub const CHAINS: &[Clause] = &[
         resize(i, &f, r.pick(&[u32::MAX, u32::MAX - 511, 0x8000_0000, 4096 * 512, 4097 * 512]));
         Some(())
     } },
+    Clause { stage: 6, what: "size in blocks right in its low bits", make: |r, i| {
+        let f = file_with_blocks(r, i)?;
+        let more = r.pick(&[1 << 8, 1 << 12, 1 << 16, 1 << 20, 1 << 22]);
+        resize(i, &f, f.size + 512 * more);
+        Some(())
+    } },
     Clause { stage: 6, what: "huge size on a loop", make: |r, i| {
         let f = file_with_blocks(r, i)?;
         let last = last_of(i, &f);
@@ -390,6 +403,21 @@ pub const CHAINS: &[Clause] = &[
         let f = file_with_blocks(r, i)?;
         let last = last_of(i, &f);
         second_owner(i, last as u32, r.between(1, 512) as u32)
+    } },
+    Clause { stage: 6, what: "two files with one end", make: |r, i| {
+        let f = long_file(r, i)?;
+        let mut others = files(i);
+        others.retain(|g| g.blocks >= 1 && g.slot != f.slot);
+        if others.is_empty() { return None; }
+        let last = last_of(i, &r.pick(&others));
+        join(i, &f, last);
+        Some(())
+    } },
+    Clause { stage: 6, what: "a file with the root's end", make: |r, i| {
+        let f = long_file(r, i)?;
+        let last = *root_chain(i).last().unwrap();
+        join(i, &f, last);
+        Some(())
     } },
     Clause { stage: 6, what: "a file on the root's last block", make: |_, i| {
         let last = *root_chain(i).last().unwrap();

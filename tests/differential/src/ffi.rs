@@ -44,78 +44,44 @@ pub struct Changed {
     pub record: u32,
 }
 
+// Laid out line by line as in the header.
+#[rustfmt::skip]
 extern "C" {
     pub fn bulgefs_check(image: *const u8, image_len: usize) -> u32;
-    pub fn bulgefs_format(
-        image: *mut u8,
-        image_len: usize,
-        root_blocks: u32,
-        time: u64,
-        uuid: Uuid,
-        volume_name: *const u8,
-        volume_name_len: usize,
-    ) -> u32;
-    pub fn bulgefs_lookup(
-        image: *const u8,
-        image_len: usize,
-        name: *const u8,
-        name_len: usize,
-    ) -> Found;
-    pub fn bulgefs_read(
-        image: *const u8,
-        image_len: usize,
-        name: *const u8,
-        name_len: usize,
-        offset: u64,
-        buffer: *mut u8,
-        buffer_len: usize,
-    ) -> Filled;
-    pub fn bulgefs_look_in_place(
-        image: *const u8,
-        image_len: usize,
-        name: *const u8,
-        name_len: usize,
-        index: u64,
-    ) -> Part;
+
+    pub fn bulgefs_format(image: *mut u8, image_len: usize,
+                          root_blocks: u32, time: u64, uuid: Uuid,
+                          volume_name: *const u8, volume_name_len: usize) -> u32;
+
+    pub fn bulgefs_lookup(image: *const u8, image_len: usize,
+                          name: *const u8, name_len: usize) -> Found;
+
+    pub fn bulgefs_read(image: *const u8, image_len: usize,
+                        name: *const u8, name_len: usize,
+                        offset: u64, buffer: *mut u8, buffer_len: usize) -> Filled;
+
+    pub fn bulgefs_look_in_place(image: *const u8, image_len: usize,
+                                 name: *const u8, name_len: usize,
+                                 index: u64) -> Part;
+
     pub fn bulgefs_journal_start(journal: *mut u8, journal_len: usize) -> u32;
-    pub fn bulgefs_create(
-        image: *mut u8,
-        image_len: usize,
-        journal: *mut u8,
-        journal_len: usize,
-        name: *const u8,
-        name_len: usize,
-        kind: u8,
-        user: u8,
-        group: u8,
-        permissions: u8,
-        flags: u32,
-        time: u64,
-    ) -> Created;
-    pub fn bulgefs_write(
-        image: *mut u8,
-        image_len: usize,
-        journal: *mut u8,
-        journal_len: usize,
-        name: *const u8,
-        name_len: usize,
-        offset: u64,
-        data: *const u8,
-        data_len: usize,
-        time: u64,
-    ) -> Changed;
-    pub fn bulgefs_delete(
-        image: *mut u8,
-        image_len: usize,
-        journal: *mut u8,
-        journal_len: usize,
-        name: *const u8,
-        name_len: usize,
-    ) -> Changed;
-    pub fn bulgefs_undo(
-        image: *mut u8,
-        image_len: usize,
-        journal: *mut u8,
-        journal_len: usize,
-    ) -> Changed;
+
+    pub fn bulgefs_create(image: *mut u8, image_len: usize,
+                          journal: *mut u8, journal_len: usize,
+                          name: *const u8, name_len: usize,
+                          kind: u8, user: u8, group: u8,
+                          permissions: u8, flags: u32, time: u64) -> Created;
+
+    pub fn bulgefs_write(image: *mut u8, image_len: usize,
+                         journal: *mut u8, journal_len: usize,
+                         name: *const u8, name_len: usize,
+                         offset: u64, data: *const u8, data_len: usize,
+                         time: u64) -> Changed;
+
+    pub fn bulgefs_delete(image: *mut u8, image_len: usize,
+                          journal: *mut u8, journal_len: usize,
+                          name: *const u8, name_len: usize) -> Changed;
+
+    pub fn bulgefs_undo(image: *mut u8, image_len: usize,
+                        journal: *mut u8, journal_len: usize) -> Changed;
 }

@@ -116,6 +116,24 @@ fn put_files(rng: &mut Rng, image: &mut [u8], root: &[usize], pool: &mut Vec<usi
     }
 }
 
+/// A sound image with a file of each name, in any slot.
+pub fn with_names(rng: &mut Rng, n: usize, d: usize, names: &[Vec<u8>]) -> Vec<u8> {
+    let mut image = build(rng, n, d, Fill::Empty);
+    let slots = slot_offsets(&image);
+    let mut pool = free_blocks(&image);
+    rng.shuffle(&mut pool);
+    let mut chosen: Vec<usize> = (1..slots.len() - 1).collect();
+    rng.shuffle(&mut chosen);
+    for (name, s) in names.iter().zip(chosen) {
+        let size = any_size(rng, pool.len() * BLOCK);
+        put_file(rng, &mut image, slots[s], name, size, &mut pool);
+    }
+    put_stray_names(rng, &mut image);
+    put_header(&mut image);
+    assert_eq!(reference::check(&image), 0, "the builder makes sound images");
+    image
+}
+
 /// Puts names into some slots that are no files: of files, and new ones. They
 /// must neither be found nor count as taken.
 fn put_stray_names(rng: &mut Rng, image: &mut [u8]) {

@@ -93,7 +93,7 @@ fn with_used(mut journal: Vec<u8>, used: u32) -> Vec<u8> {
 }
 
 /// A record of these block numbers, whatever they are.
-fn record_of(rng: &mut Rng, numbers: &[u32]) -> Vec<u8> {
+pub fn record_of(rng: &mut Rng, numbers: &[u32]) -> Vec<u8> {
     let mut record = ((4 + SAVED * numbers.len()) as u32).to_be_bytes().to_vec();
     for b in numbers {
         record.extend(b.to_be_bytes());
@@ -211,6 +211,15 @@ pub const FAULTS: &[Fault] = &[
             let mut bad = record(rng, image, 3);
             let more = rng.between(1, 515);
             bad.extend(rng.bytes(more));
+            let length = bad.len() as u32;
+            ending_in(rng, image, with_length(bad, length))
+        },
+    },
+    Fault {
+        what: "record whose last block is cut short",
+        make: |rng, image| {
+            let mut bad = record_of(rng, &[0, block_count(image) as u32 - 1]);
+            bad.truncate(bad.len() - rng.between(1, BLOCK));
             let length = bad.len() as u32;
             ending_in(rng, image, with_length(bad, length))
         },

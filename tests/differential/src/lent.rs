@@ -1,6 +1,9 @@
 //! Buffers lent to the library, with guard bytes on both sides.
 
-const GUARD: usize = 64;
+/// More than a block, so that a step one block too far meets a guard.
+const GUARD: usize = 1024;
+
+const GUARD_BYTES: [u8; GUARD] = guard_bytes();
 
 pub struct Lent {
     bytes: Vec<u8>,
@@ -8,19 +11,30 @@ pub struct Lent {
     len: usize,
 }
 
-fn guard_byte(i: usize) -> u8 {
-    0xA5 ^ (i as u8).wrapping_mul(29)
+const fn guard_bytes() -> [u8; GUARD] {
+    let mut bytes = [0; GUARD];
+    let mut i = 0;
+    while i < GUARD {
+        bytes[i] = 0xA5 ^ (i as u8).wrapping_mul(29) ^ (i >> 8) as u8;
+        i += 1;
+    }
+    bytes
 }
 
 impl Lent {
     /// A guarded copy of the content. `shift` moves it off any alignment.
     pub fn new(content: &[u8], shift: usize) -> Lent {
-        let at = GUARD + shift % 16;
+        let at = GUARD - shift % 16;
         let mut bytes = Vec::with_capacity(at + content.len() + GUARD);
-        bytes.extend((0..at).map(guard_byte));
+        bytes.extend_from_slice(&GUARD_BYTES[..at]);
         bytes.extend_from_slice(content);
-        bytes.extend((0..GUARD).map(guard_byte));
+        bytes.extend_from_slice(&GUARD_BYTES);
         Lent { bytes, at, len: content.len() }
+    }
+
+    /// Puts other content of the same length at the same place.
+    pub fn put(&mut self, content: &[u8]) {
+        self.bytes[self.at..self.at + self.len].copy_from_slice(content);
     }
 
     pub fn content(&self) -> &[u8] {
@@ -54,26 +68,30 @@ impl Lent {
 
     /// What is wrong with the guards or the content, if anything.
     pub fn trouble(&self, what: &str, expected: &[u8]) -> Option<String> {
-        let end = self.at + self.len;
-        let before = (0..self.at).find(|&i| self.bytes[i] != guard_byte(i));
-        let after = (0..GUARD).find(|&i| self.bytes[end + i] != guard_byte(i));
-        if let Some(i) = before {
+        let (before, after) = (&self.bytes[..self.at], &self.bytes[self.at + self.len..]);
+        if let Some(i) = first_difference(before, &GUARD_BYTES[..self.at]) {
             return Some(format!("{what}: byte {} before it was written", self.at - i));
         }
-        if let Some(i) = after {
+        if let Some(i) = first_difference(after, &GUARD_BYTES) {
             return Some(format!("{what}: byte {i} after its end was written"));
         }
         difference(what, self.content(), expected)
     }
 }
 
-/// The first difference between two runs of bytes of one length.
-pub fn difference(what: &str, got: &[u8], expected: &[u8]) -> Option<String> {
+/// Where two runs of bytes of one length differ first.
+fn first_difference(got: &[u8], expected: &[u8]) -> Option<usize> {
+    assert_eq!(got.len(), expected.len());
     if got == expected {
         return None;
     }
+    got.iter().zip(expected).position(|(g, e)| g != e)
+}
+
+/// The same in words.
+pub fn difference(what: &str, got: &[u8], expected: &[u8]) -> Option<String> {
+    let at = first_difference(got, expected)?;
     let count = got.iter().zip(expected).filter(|(g, e)| g != e).count();
-    let at = got.iter().zip(expected).position(|(g, e)| g != e)?;
     Some(format!(
         "{what}: {count} of {} bytes differ, the first at {at} (block {}, offset {}): got {:#04x}, expected {:#04x}",
         got.len(), at / 512, at % 512, got[at], expected[at]

@@ -17,6 +17,7 @@ mod ffi;
 mod images;
 mod journals;
 mod lent;
+mod library;
 mod report;
 mod rng;
 mod suites;
@@ -54,8 +55,10 @@ fn main() -> ExitCode {
             SCRIPTS => options.scripts.is_some(),
             _ => true,
         };
-        if wanted && possible {
-            run_suite(suite, &options, &mut tester);
+        match (wanted, possible) {
+            (true, true) => run_suite(suite, &options, &mut tester),
+            (true, false) => println!("{:<8} not run: no program was given", suite.name),
+            (false, _) => {}
         }
     }
     let whole = options.suite.is_none() && options.round.is_none();

@@ -2,6 +2,7 @@
 
 use crate::ffi;
 use crate::lent::Lent;
+use crate::library::{self, Pair};
 use crate::report::{Entry, Report};
 use reference::{Change, State};
 
@@ -34,7 +35,12 @@ impl Tester {
 
     pub fn check(&mut self, image: &[u8]) {
         let lent = self.lend(image);
-        let got = unsafe { ffi::bulgefs_check(lent.ptr(), lent.len()) };
+        self.check_in(&lent, image);
+    }
+
+    /// The check of an image that is lent already.
+    pub fn check_in(&mut self, lent: &Lent, image: &[u8]) {
+        let got = library::check(lent);
         let expected = reference::check(image);
         let troubles = [unequal(got, expected), lent.trouble("image", image)];
         self.report.call(Entry::Check, expected, troubles);
@@ -43,11 +49,7 @@ impl Tester {
     pub fn format(&mut self, image: &[u8], d: u32, time: u64, uuid: [u8; 16], volume_name: &[u8]) {
         let mut lent = self.lend(image);
         let name = self.lend(volume_name);
-        let bytes = ffi::Uuid { bytes: uuid };
-        let len = lent.len();
-        let got = unsafe {
-            ffi::bulgefs_format(lent.mut_ptr(), len, d, time, bytes, name.ptr(), name.len())
-        };
+        let got = library::format(&mut lent, d, time, uuid, &name);
         let expected = reference::format(image.len(), d, time, uuid, volume_name);
         let number = number_of(&expected);
         let after = expected.unwrap_or_else(|_| image.to_vec());
@@ -60,34 +62,21 @@ impl Tester {
     }
 
     pub fn lookup(&mut self, image: &[u8], name: &[u8]) {
-        let lent = self.lend(image);
-        let lent_name = self.lend(name);
-        let got = unsafe {
-            ffi::bulgefs_lookup(lent.ptr(), lent.len(), lent_name.ptr(), lent_name.len())
-        };
+        let (lent, lent_name) = (self.lend(image), self.lend(name));
+        let got = library::lookup(&lent, &lent_name);
         let result = reference::lookup(image, name);
-        let number = number_of(&result);
-        let expected = found(&result);
-        let troubles =
-            [unequal(got, expected), lent.trouble("image", image), lent_name.trouble("name", name)];
-        self.report.call(Entry::Lookup, number, troubles);
+        let troubles = [
+            unequal(got, found(&result)),
+            lent.trouble("image", image),
+            lent_name.trouble("name", name),
+        ];
+        self.report.call(Entry::Lookup, number_of(&result), troubles);
     }
 
     pub fn read(&mut self, image: &[u8], name: &[u8], offset: u64, buffer: &[u8]) {
-        let lent = self.lend(image);
-        let lent_name = self.lend(name);
+        let (lent, lent_name) = (self.lend(image), self.lend(name));
         let mut lent_buffer = self.lend(buffer);
-        let got = unsafe {
-            ffi::bulgefs_read(
-                lent.ptr(),
-                lent.len(),
-                lent_name.ptr(),
-                lent_name.len(),
-                offset,
-                lent_buffer.mut_ptr(),
-                buffer.len(),
-            )
-        };
+        let got = library::read(&lent, &lent_name, offset, &mut lent_buffer);
         let result = reference::read(image, name, offset, buffer.len());
         let number = number_of(&result);
         let bytes = result.unwrap_or_default();
@@ -103,17 +92,8 @@ impl Tester {
     }
 
     pub fn look_in_place(&mut self, image: &[u8], name: &[u8], index: u64) {
-        let lent = self.lend(image);
-        let lent_name = self.lend(name);
-        let got = unsafe {
-            ffi::bulgefs_look_in_place(
-                lent.ptr(),
-                lent.len(),
-                lent_name.ptr(),
-                lent_name.len(),
-                index,
-            )
-        };
+        let (lent, lent_name) = (self.lend(image), self.lend(name));
+        let got = library::look_in_place(&lent, &lent_name, index);
         let range = reference::look_in_place(image, name, index);
         let expected = ffi::Part { start: range.start as u32, length: range.len() as u32 };
         let number = number_of(&reference::lookup(image, name));
@@ -132,7 +112,7 @@ impl Tester {
 
     pub fn start(&mut self, journal: &[u8]) {
         let mut lent = self.lend(journal);
-        let got = unsafe { ffi::bulgefs_journal_start(lent.mut_ptr(), journal.len()) };
+        let got = library::start(&mut lent);
         let expected = reference::start(journal.len());
         let number = number_of(&expected);
         let after = expected.unwrap_or_else(|_| journal.to_vec());
@@ -143,7 +123,12 @@ impl Tester {
     /// Create, write or delete. Gives the reference's number.
     pub fn change(&mut self, state: &State, change: &Change) -> u32 {
         let mut pair = self.lend_pair(state);
-        let (entry, got, mut troubles) = self.make(&mut pair, change);
+        self.change_in(&mut pair, state, change)
+    }
+
+    /// The same on an image and a journal that are lent already.
+    pub fn change_in(&mut self, pair: &mut Pair, state: &State, change: &Change) -> u32 {
+        let (entry, got, mut troubles) = self.make(pair, change);
         let result = reference::apply(state, change);
         let number = number_of(&result);
         let (slot, record) = result.as_ref().map_or((0, 0), |a| (a.slot, a.record));
@@ -157,6 +142,10 @@ impl Tester {
     /// Undo. Gives the reference's number.
     pub fn undo(&mut self, state: &State) -> u32 {
         let mut pair = self.lend_pair(state);
+        self.undo_in(&mut pair, state)
+    }
+
+    pub fn undo_in(&mut self, pair: &mut Pair, state: &State) -> u32 {
         let got = pair.undo();
         let result = reference::undo(state);
         let number = number_of(&result);
@@ -211,76 +200,4 @@ pub fn found(result: &Result<reference::Found, u32>) -> ffi::Found {
 
 fn without_slot(changed: ffi::Changed) -> ffi::Created {
     ffi::Created { number: changed.number, slot: 0, record: changed.record }
-}
-
-/// An image and a journal that are lent together.
-pub struct Pair {
-    pub image: Lent,
-    pub journal: Lent,
-}
-
-impl Pair {
-    pub fn troubles(&self, after: &State) -> [Option<String>; 2] {
-        [self.image.trouble("image", &after.image), self.journal.trouble("journal", &after.journal)]
-    }
-
-    fn create(&mut self, name: &Lent, c: &reference::Create) -> ffi::Created {
-        unsafe {
-            ffi::bulgefs_create(
-                self.image.mut_ptr(),
-                self.image.len(),
-                self.journal.mut_ptr(),
-                self.journal.len(),
-                name.ptr(),
-                name.len(),
-                c.kind,
-                c.user,
-                c.group,
-                c.permissions,
-                c.flags,
-                c.time,
-            )
-        }
-    }
-
-    fn write(&mut self, name: &Lent, offset: u64, data: &Lent, time: u64) -> ffi::Changed {
-        unsafe {
-            ffi::bulgefs_write(
-                self.image.mut_ptr(),
-                self.image.len(),
-                self.journal.mut_ptr(),
-                self.journal.len(),
-                name.ptr(),
-                name.len(),
-                offset,
-                data.ptr(),
-                data.len(),
-                time,
-            )
-        }
-    }
-
-    fn delete(&mut self, name: &Lent) -> ffi::Changed {
-        unsafe {
-            ffi::bulgefs_delete(
-                self.image.mut_ptr(),
-                self.image.len(),
-                self.journal.mut_ptr(),
-                self.journal.len(),
-                name.ptr(),
-                name.len(),
-            )
-        }
-    }
-
-    pub fn undo(&mut self) -> ffi::Changed {
-        unsafe {
-            ffi::bulgefs_undo(
-                self.image.mut_ptr(),
-                self.image.len(),
-                self.journal.mut_ptr(),
-                self.journal.len(),
-            )
-        }
-    }
 }

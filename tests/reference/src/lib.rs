@@ -11,6 +11,7 @@ pub mod layout;
 pub mod listing;
 pub mod replay;
 pub mod volume;
+pub mod worked;
 
 pub use check::check;
 pub use journal::{apply, start, undo, Applied, State, Undone};

@@ -1,6 +1,7 @@
 //! Damaged images and journals that are not well formed.
 
 use crate::arguments::*;
+use crate::damage::Clause;
 use crate::rng::Rng;
 use crate::tester::Tester;
 use crate::{damage, images, journals};
@@ -27,23 +28,32 @@ fn every_call(rng: &mut Rng, t: &mut Tester, sound: &[u8], image: &[u8]) {
 pub fn clauses(rng: &mut Rng, _: u64, t: &mut Tester) {
     for clause in damage::clauses() {
         for _ in 0..3 {
-            let (sound, image) = damaged(rng, clause);
-            t.report.about(format!("stage {}: {}", clause.stage, clause.what));
-            t.report.agree("plan", reference::check(&image), clause.stage);
-            every_call(rng, t, &sound, &image);
+            while !damaged(rng, t, clause, images::small_n) {}
         }
     }
 }
 
-fn damaged(rng: &mut Rng, clause: &damage::Clause) -> (Vec<u8>, Vec<u8>) {
-    loop {
-        let n = images::small_n(rng);
-        let sound = images::of(rng, n);
-        let mut image = sound.clone();
-        if (clause.make)(rng, &mut image).is_some() {
-            return (sound, image);
-        }
+/// The same on images of the greatest lengths, where a clause has three tries.
+pub fn largest(rng: &mut Rng, round: u64, t: &mut Tester) {
+    let n: fn(&mut Rng) -> usize = if round % 2 == 0 { |_| 4096 } else { |_| 4095 };
+    for clause in damage::clauses() {
+        let _ = (0..3).any(|_| damaged(rng, t, clause, n));
     }
+}
+
+/// Makes every call on an image damaged so; false if a random image does not
+/// have what it takes.
+fn damaged(rng: &mut Rng, t: &mut Tester, clause: &Clause, n: fn(&mut Rng) -> usize) -> bool {
+    let n = n(rng);
+    let sound = images::of(rng, n);
+    let mut image = sound.clone();
+    if (clause.make)(rng, &mut image).is_none() {
+        return false;
+    }
+    t.report.about(format!("n {n}, stage {}: {}", clause.stage, clause.what));
+    t.report.agree("plan", reference::check(&image), clause.stage);
+    every_call(rng, t, &sound, &image);
+    true
 }
 
 /// Two clauses at once: the lower stage must win. The stages before the

@@ -1,28 +1,14 @@
 //! Fixed cases: the worked numbers, and the edges of lengths.
 
-use crate::images::{build, Fill};
+use crate::damage::join;
+use crate::images::{build, put_file, put_header, Fill};
 use crate::journals;
 use crate::rng::Rng;
 use crate::tester::Tester;
 use reference::journal::MAX_LENGTH;
-use reference::{Change, Create, Delete, State, Write};
-
-fn create(name: &[u8]) -> Change {
-    let name = name.to_vec();
-    Change::Create(Create {
-        name,
-        kind: 0x60,
-        user: 1,
-        group: 2,
-        permissions: 3,
-        flags: 4,
-        time: 8,
-    })
-}
-
-fn write(name: &[u8], offset: u64, data: &[u8]) -> Change {
-    Change::Write(Write { name: name.to_vec(), offset, data: data.to_vec(), time: 9 })
-}
+use reference::layout::*;
+use reference::worked::{create, delete, fresh, write};
+use reference::State;
 
 /// The worked numbers of the rules. The reference's own tests tie the
 /// reference to them; here the library follows the same steps.
@@ -32,8 +18,7 @@ pub fn numbers(_: &mut Rng, _: u64, t: &mut Tester) {
         t.report.about(format!("format n {n} d {d}"));
         t.format(&vec![0xEE; 512 * n], d, 7, [3; 16], &name);
     }
-    let image = reference::format(512 * 16, 2, 7, [3; 16], &name).unwrap();
-    let mut state = State { image, journal: reference::start(65_536).unwrap() };
+    let mut state = fresh(16, 2);
     t.report.about("worked run");
     for (change, number) in [
         (create(b"A"), 0),
@@ -47,7 +32,7 @@ pub fn numbers(_: &mut Rng, _: u64, t: &mut Tester) {
         (write(b"SN10", 0, b"z"), 10),
         (write(b"SN1", 0, &[1; 4096]), 0),
         (write(b"SN1", 0, &[1; 4097]), 9),
-        (Change::Delete(Delete { name: b"A".to_vec() }), 0),
+        (delete(b"A"), 0),
     ] {
         let got = t.change(&state, &change);
         t.report.agree("plan", got, number);
@@ -71,6 +56,9 @@ pub fn edges(rng: &mut Rng, _: u64, t: &mut Tester) {
         every_journaled_call(t, &State { image, journal });
     }
     longest_journals(rng, t);
+    most_records(rng, t);
+    largest_record(rng, t);
+    widest_changes(rng, t);
     for len in [0, 1, 511, 512, 1024, 1535, 1536, 1537, 2_097_152, 2_097_153, 2_097_664] {
         t.report.about(format!("image of {len} bytes"));
         let image = rng.bytes(len);
@@ -88,7 +76,7 @@ fn every_journaled_call(t: &mut Tester, state: &State) {
     };
     t.change(state, &create(b"\x01new\x02"));
     t.change(state, &write(&name, 0, b"bytes"));
-    t.change(state, &Change::Delete(Delete { name }));
+    t.change(state, &delete(&name));
     t.undo(state);
 }
 
@@ -116,5 +104,78 @@ fn longest_journals(rng: &mut Rng, t: &mut Tester) {
         let end = reference::journal::used(&bad.journal);
         bad.journal[end - 516] = 1;
         every_journaled_call(t, &bad);
+    }
+}
+
+/// The longest journal with as many records as it can have: all good, and one
+/// of them bad.
+fn most_records(rng: &mut Rng, t: &mut Tester) {
+    let image = build(rng, 20, 2, Fill::Some);
+    let count = (MAX_LENGTH - 5) / 520;
+    let records: Vec<_> = (0..count).map(|i| journals::record_of(rng, &[i as u32 % 20])).collect();
+    for bad in [None, Some(0), Some(count / 2), Some(count - 1)] {
+        t.report.about(format!("{count} records, bad {bad:?}"));
+        let mut records = records.clone();
+        if let Some(i) = bad {
+            put_number(&mut records[i], 4, 20);
+        }
+        let journal = journals::of_records(rng, &records, MAX_LENGTH - 5 - 520 * count);
+        every_journaled_call(t, &State { image: image.clone(), journal });
+    }
+}
+
+/// One record of every block of the largest image.
+fn largest_record(rng: &mut Rng, t: &mut Tester) {
+    let image = build(rng, MAX_BLOCKS, MAX_ROOT_BLOCKS, Fill::Slots);
+    let numbers: Vec<u32> = (0..MAX_BLOCKS as u32).collect();
+    let record = journals::record_of(rng, &numbers);
+    for wrong in [None, Some(1), Some(3000), Some(MAX_BLOCKS - 1)] {
+        t.report.about(format!("a record of all blocks, wrong {wrong:?}"));
+        let mut record = record.clone();
+        if let Some(i) = wrong {
+            put_number(&mut record, 4 + 516 * i, i as u32 - 1);
+        }
+        let journal = journals::of_records(rng, &[record], 20_000);
+        every_journaled_call(t, &State { image: image.clone(), journal });
+    }
+}
+
+/// The write that names the most blocks: it reaches from the file's last block
+/// over eight more, and the entries of the nine lie in nine table blocks. And
+/// a delete with entries in every table block.
+fn widest_changes(rng: &mut Rng, t: &mut Tester) {
+    let mut image = build(rng, MAX_BLOCKS, 2, Fill::Empty);
+    let slots = slot_offsets(&image);
+    let mut pool = free_blocks(&image);
+    rng.shuffle(&mut pool);
+    let in_table = |table| pool.iter().copied().find(|&b| table_block_of(b) == table);
+    let spread: Vec<usize> = (20..29).filter_map(in_table).collect();
+    pool.retain(|b| !spread.contains(b));
+    let size = pool.len() * BLOCK - 3;
+    put_file(rng, &mut image, slots[1], b"small", 1, &mut vec![spread[4]]);
+    put_file(rng, &mut image, slots[2], b"large", size, &mut pool);
+    put_header(&mut image);
+
+    let state = State { image, journal: reference::start(40_000).unwrap() };
+    let data = rng.bytes(MAX_DATA);
+    for (change, blocks) in [
+        (write(b"small", 1, &data), 1 + 1 + 9 + 9),
+        (write(b"large", size as u64 + 3 - MAX_DATA as u64, &data), 1 + 8),
+        (delete(b"large"), 1 + 1 + 32),
+    ] {
+        t.report.about(format!("a change of {blocks} blocks"));
+        t.change(&state, &change);
+        let after = reference::apply(&state, &change).unwrap();
+        t.report.agree("record", after.record, 4 + 516 * blocks);
+        t.undo(&after.state);
+    }
+    t.report.about("the largest file");
+    t.look(&state.image, b"large", 0, &rng.bytes(size + 3), (size / BLOCK) as u64);
+    let large = &files(&state.image)[1];
+    for owned in [spread[4], root_chain(&state.image)[1]] {
+        let mut image = state.image.clone();
+        join(&mut image, large, owned);
+        t.report.agree("plan", reference::check(&image), 6);
+        t.check(&image);
     }
 }

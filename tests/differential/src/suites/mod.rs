@@ -2,7 +2,9 @@
 
 mod broken;
 mod fixed;
+mod kept;
 mod lister;
+mod names;
 mod order;
 mod runs;
 mod scripts;
@@ -27,11 +29,14 @@ pub const SUITES: &[Suite] = &[
     Suite { name: "edges", rounds: |_| 1, run: fixed::edges },
     Suite { name: "format", rounds: |n| 5 * n, run: sound::format },
     Suite { name: "sound", rounds: |n| 4 * n, run: sound::calls },
+    Suite { name: "names", rounds: |n| names::ROUNDS * n.div_ceil(500), run: names::run },
     Suite { name: "damage", rounds: |n| n.div_ceil(10), run: broken::clauses },
+    Suite { name: "largest", rounds: |n| 2 * n.div_ceil(100), run: broken::largest },
     Suite { name: "double", rounds: |n| 2 * n, run: broken::two_clauses },
     Suite { name: "noise", rounds: |n| 5 * n, run: broken::noise },
     Suite { name: "journals", rounds: |n| n.div_ceil(4), run: broken::journals },
     Suite { name: "order", rounds: |n| n.div_ceil(10), run: order::all },
+    Suite { name: "kept", rounds: |n| n.div_ceil(5), run: kept::run },
     Suite { name: "runs", rounds: |n| n, run: runs::run },
     Suite { name: "long", rounds: |n| n.div_ceil(250), run: runs::long },
     Suite { name: "large", rounds: |n| n.div_ceil(50), run: runs::large },

@@ -5,9 +5,10 @@ use crate::arguments::*;
 use crate::ffi;
 use crate::images::{self, build, Fill};
 use crate::lent::{difference, Lent};
+use crate::library::{self, Pair};
 use crate::report::Entry;
 use crate::rng::Rng;
-use crate::tester::{found, Pair, Tester};
+use crate::tester::{found, Tester};
 use reference::{Answer, Call, Replay, State};
 
 /// How often a run makes which calls, out of their sum.
@@ -180,24 +181,16 @@ fn call_library(
 }
 
 fn look_with_library(image: &Lent, call: &Call) -> (Entry, Answer, Vec<Option<String>>) {
-    let (at, len) = (image.ptr(), image.len());
     match call {
-        Call::Check => {
-            let got = unsafe { ffi::bulgefs_check(at, len) };
-            (Entry::Check, Answer::Checked(got), vec![])
-        }
+        Call::Check => (Entry::Check, Answer::Checked(library::check(image)), vec![]),
         Call::Lookup { name } => {
             let lent = Lent::new(name, 3);
-            let got = unsafe { ffi::bulgefs_lookup(at, len, lent.ptr(), lent.len()) };
-            let (answer, zeros) = found_answer(got);
+            let (answer, zeros) = found_answer(library::lookup(image, &lent));
             (Entry::Lookup, answer, vec![lent.trouble("name", name), zeros])
         }
         Call::Read { name, offset, buffer } => {
             let (lent, mut lent_buffer) = (Lent::new(name, 5), Lent::new(buffer, 6));
-            let got = unsafe {
-                let into = lent_buffer.mut_ptr();
-                ffi::bulgefs_read(at, len, lent.ptr(), lent.len(), *offset, into, buffer.len())
-            };
+            let got = library::read(image, &lent, *offset, &mut lent_buffer);
             let after = lent_buffer.content().to_vec();
             let troubles = vec![lent.trouble("name", name), lent_buffer.trouble("buffer", &after)];
             let answer = Answer::Read { number: got.number, count: got.count, buffer: after };
@@ -205,8 +198,7 @@ fn look_with_library(image: &Lent, call: &Call) -> (Entry, Answer, Vec<Option<St
         }
         Call::LookInPlace { name, index } => {
             let lent = Lent::new(name, 8);
-            let got =
-                unsafe { ffi::bulgefs_look_in_place(at, len, lent.ptr(), lent.len(), *index) };
+            let got = library::look_in_place(image, &lent, *index);
             let range = got.start as usize..got.start as usize + got.length as usize;
             let bytes = image.content().get(range.clone()).map_or(vec![], |part| part.to_vec());
             (Entry::LookInPlace, Answer::Part { range, bytes }, vec![lent.trouble("name", name)])

@@ -1,0 +1,77 @@
+//! The library's calls, on lent buffers. Nothing else calls an entry point.
+
+use crate::ffi::{self, Changed, Created, Filled, Found, Part, Uuid};
+use crate::lent::Lent;
+use reference::{Create, State};
+
+pub fn check(image: &Lent) -> u32 {
+    unsafe { ffi::bulgefs_check(image.ptr(), image.len()) }
+}
+
+pub fn format(image: &mut Lent, d: u32, time: u64, uuid: [u8; 16], name: &Lent) -> u32 {
+    let (at, len, uuid) = (image.mut_ptr(), image.len(), Uuid { bytes: uuid });
+    unsafe { ffi::bulgefs_format(at, len, d, time, uuid, name.ptr(), name.len()) }
+}
+
+pub fn lookup(image: &Lent, name: &Lent) -> Found {
+    unsafe { ffi::bulgefs_lookup(image.ptr(), image.len(), name.ptr(), name.len()) }
+}
+
+pub fn read(image: &Lent, name: &Lent, offset: u64, buffer: &mut Lent) -> Filled {
+    let (at, len, into) = (image.ptr(), image.len(), buffer.mut_ptr());
+    unsafe { ffi::bulgefs_read(at, len, name.ptr(), name.len(), offset, into, buffer.len()) }
+}
+
+pub fn look_in_place(image: &Lent, name: &Lent, index: u64) -> Part {
+    unsafe { ffi::bulgefs_look_in_place(image.ptr(), image.len(), name.ptr(), name.len(), index) }
+}
+
+pub fn start(journal: &mut Lent) -> u32 {
+    unsafe { ffi::bulgefs_journal_start(journal.mut_ptr(), journal.len()) }
+}
+
+/// An image and a journal that are lent together.
+pub struct Pair {
+    pub image: Lent,
+    pub journal: Lent,
+}
+
+#[rustfmt::skip]
+impl Pair {
+    pub fn create(&mut self, name: &Lent, c: &Create) -> Created {
+        let (image, image_len, journal, journal_len) = self.lent();
+        unsafe {
+            ffi::bulgefs_create(image, image_len, journal, journal_len, name.ptr(), name.len(),
+                                c.kind, c.user, c.group, c.permissions, c.flags, c.time)
+        }
+    }
+
+    pub fn write(&mut self, name: &Lent, offset: u64, data: &Lent, time: u64) -> Changed {
+        let (image, image_len, journal, journal_len) = self.lent();
+        unsafe {
+            ffi::bulgefs_write(image, image_len, journal, journal_len, name.ptr(), name.len(),
+                               offset, data.ptr(), data.len(), time)
+        }
+    }
+
+    pub fn delete(&mut self, name: &Lent) -> Changed {
+        let (image, image_len, journal, journal_len) = self.lent();
+        unsafe {
+            ffi::bulgefs_delete(image, image_len, journal, journal_len, name.ptr(), name.len())
+        }
+    }
+
+    pub fn undo(&mut self) -> Changed {
+        let (image, image_len, journal, journal_len) = self.lent();
+        unsafe { ffi::bulgefs_undo(image, image_len, journal, journal_len) }
+    }
+
+    fn lent(&mut self) -> (*mut u8, usize, *mut u8, usize) {
+        (self.image.mut_ptr(), self.image.len(), self.journal.mut_ptr(), self.journal.len())
+    }
+
+    /// What is wrong with the two after a call, if anything.
+    pub fn troubles(&self, after: &State) -> [Option<String>; 2] {
+        [self.image.trouble("image", &after.image), self.journal.trouble("journal", &after.journal)]
+    }
+}

@@ -1,0 +1,189 @@
+//! Directories full of names that are easily taken for one another, and the
+//! same directories with one name twice.
+
+use crate::images;
+use crate::rng::Rng;
+use crate::tester::Tester;
+use reference::layout::*;
+use reference::worked::create;
+use reference::State;
+use std::collections::{BTreeSet, HashMap};
+
+/// File slots of the largest root.
+const PLACES: usize = SLOTS_PER_BLOCK * MAX_ROOT_BLOCKS - 2;
+
+/// A kind of names, and how to make PLACES different ones.
+struct Kind {
+    what: &'static str,
+    make: fn(&mut Rng) -> Vec<Vec<u8>>,
+}
+
+const KINDS: &[Kind] = &[
+    Kind { what: "other last byte", make: |rng| one_byte_apart(rng, |name| name.len() - 1) },
+    Kind { what: "other first byte", make: |rng| one_byte_apart(rng, |_| 0) },
+    Kind { what: "other byte within", make: |rng| one_byte_apart(rng, |name| name.len() / 2) },
+    Kind { what: "prefixes of one another", make: |_| prefixes() },
+    Kind { what: "79 bytes", make: |rng| different(|| any_bytes(rng, MAX_NAME)) },
+    Kind { what: "79 bytes, other last byte", make: last_of_79 },
+    Kind { what: "permutations", make: permutations },
+    Kind { what: "one byte", make: |_| (1..=PLACES).map(|b| vec![b as u8]).collect() },
+    Kind { what: "one print in all", make: one_print },
+    Kind { what: "a print for every two", make: equal_prints },
+    Kind { what: "any", make: |rng| different(|| images::good_name(rng)) },
+];
+
+pub const ROUNDS: u64 = KINDS.len() as u64;
+
+/// One kind of names: all calls that search them, then each with a name twice.
+pub fn run(rng: &mut Rng, round: u64, t: &mut Tester) {
+    let kind = &KINDS[round as usize % KINDS.len()];
+    t.report.about(format!("names: {}", kind.what));
+    let mut names = (kind.make)(rng);
+    t.report.agree("different names", names.iter().collect::<BTreeSet<_>>().len(), PLACES);
+    rng.shuffle(&mut names);
+    let n = rng.pick(&[66, 67, 127, 128, 129, 300]);
+    let image = images::with_names(rng, n, MAX_ROOT_BLOCKS, &names);
+    t.check(&image);
+    search(rng, t, &image);
+    with_free_slots(rng, t, n, &names);
+    for distance in 1..PLACES {
+        for _ in 0..2 {
+            twice(rng, t, &image, distance);
+        }
+    }
+}
+
+/// Every name, and names one step away from each.
+fn search(rng: &mut Rng, t: &mut Tester, image: &[u8]) {
+    for file in files(image) {
+        t.lookup(image, &file.name);
+        if rng.once_in(4) {
+            t.lookup(image, &crate::arguments::altered(rng, &file.name));
+        }
+    }
+}
+
+/// 250 files: names that are taken, and the four that are left.
+fn with_free_slots(rng: &mut Rng, t: &mut Tester, n: usize, names: &[Vec<u8>]) {
+    let (taken, left) = names.split_at(250);
+    let image = images::with_names(rng, n, MAX_ROOT_BLOCKS, taken);
+    let state = State { image, journal: reference::start(2000).unwrap() };
+    t.check(&state.image);
+    for name in left {
+        t.lookup(&state.image, name);
+        let number = t.change(&state, &create(name));
+        t.report.agree("plan", number, 0);
+    }
+    for _ in 0..8 {
+        let number = t.change(&state, &create(&rng.pick(taken)));
+        t.report.agree("plan", number, 11);
+    }
+}
+
+/// The name of one slot also in another, so many slots behind or before it.
+fn twice(rng: &mut Rng, t: &mut Tester, image: &[u8], distance: usize) {
+    let last = PLACES - distance;
+    let low = match rng.below(4) {
+        0 => 1,
+        1 => last,
+        _ => rng.between(1, last),
+    };
+    let (from, to) = if rng.once_in(2) { (low, low + distance) } else { (low + distance, low) };
+    let slots = slot_offsets(image);
+    let mut both = image.to_vec();
+    both.copy_within(slots[from] + slot::NAME..slots[from] + SLOT, slots[to] + slot::NAME);
+    t.report.about(format!("the name of slot {from} also in slot {to}"));
+    t.report.agree("plan", reference::check(&both), 5);
+    t.check(&both);
+}
+
+/// So many different names as there are places.
+fn different(mut name: impl FnMut() -> Vec<u8>) -> Vec<Vec<u8>> {
+    let mut names = BTreeSet::new();
+    while names.len() < PLACES {
+        names.insert(name());
+    }
+    names.into_iter().collect()
+}
+
+fn any_bytes(rng: &mut Rng, len: usize) -> Vec<u8> {
+    (0..len).map(|_| rng.nonzero_byte()).collect()
+}
+
+/// Names of one length that differ in one byte, at the given place.
+fn one_byte_apart(rng: &mut Rng, place: fn(&[u8]) -> usize) -> Vec<Vec<u8>> {
+    let len = rng.between(2, MAX_NAME);
+    let mut name = any_bytes(rng, len);
+    let at = place(&name);
+    let with = |byte| {
+        name[at] = byte;
+        name.clone()
+    };
+    (1..=PLACES as u8).map(with).collect()
+}
+
+/// Names of 79 bytes that differ in the last.
+fn last_of_79(rng: &mut Rng) -> Vec<Vec<u8>> {
+    let start = any_bytes(rng, MAX_NAME - 1);
+    (1..=PLACES as u8).map(|byte| [&start[..], &[byte]].concat()).collect()
+}
+
+/// Four names of 79 bytes, each with most of its prefixes.
+fn prefixes() -> Vec<Vec<u8>> {
+    let all = (1..=MAX_NAME).rev().flat_map(|len| b"abcd".map(|byte| vec![byte; len]));
+    all.take(PLACES).collect()
+}
+
+/// The same bytes in any order.
+fn permutations(rng: &mut Rng) -> Vec<Vec<u8>> {
+    let len = rng.between(7, MAX_NAME);
+    let mut name: Vec<u8> = (1..=len as u8).collect();
+    different(|| {
+        rng.shuffle(&mut name);
+        name.clone()
+    })
+}
+
+/// A print of names: the usual sum with a multiplier, cut to 24 bits. A check
+/// that compares prints first must not stop there.
+fn print_of(name: &[u8]) -> u32 {
+    name.iter().fold(0, |sum, &byte| (sum * 251 + u32::from(byte)) % (1 << 24))
+}
+
+/// Names that have one print in all, cut to whatever number of bits. Of two
+/// neighbouring bytes the first may be one more and the second 251 less; each
+/// of eight such pairs is there in both forms.
+fn one_print(rng: &mut Rng) -> Vec<Vec<u8>> {
+    let start = any_bytes(rng, 5);
+    let pairs: Vec<(u8, u8)> =
+        (0..8).map(|_| (rng.between(1, 254) as u8, rng.between(252, 255) as u8)).collect();
+    let form = |choice: usize| {
+        let bytes = pairs.iter().enumerate().flat_map(|(i, &(a, b))| {
+            if choice >> i & 1 == 0 {
+                [a, b]
+            } else {
+                [a + 1, b - 251]
+            }
+        });
+        [&start[..], &bytes.collect::<Vec<u8>>()].concat()
+    };
+    let names: Vec<Vec<u8>> = (0..PLACES).map(form).collect();
+    assert!(names.iter().all(|name| print_of(name) == print_of(&names[0])));
+    names
+}
+
+/// Names of six bytes, each of which shares its print with one other.
+fn equal_prints(rng: &mut Rng) -> Vec<Vec<u8>> {
+    let mut seen: HashMap<u32, Vec<u8>> = HashMap::new();
+    let mut names = BTreeSet::new();
+    while names.len() < PLACES {
+        let name = any_bytes(rng, 6);
+        match seen.remove(&print_of(&name)) {
+            Some(other) if other != name => names.extend([name, other]),
+            _ => {
+                seen.insert(print_of(&name), name);
+            }
+        }
+    }
+    names.into_iter().collect()
+}
