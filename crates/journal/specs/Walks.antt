@@ -6,7 +6,7 @@ use mathlib.Core.Bool.{Bool, true, not, _&&_}
 use lib.ListN.{length, getD}
 use lib.Dec.{eqb, leb, ltb}
 use Rattle.layout.specs.Lists.{within, range, every, select}
-use Rattle.layout.specs.Limits.{minJournal, maxJournal}
+use Rattle.layout.specs.Limits.{maxBlocks, minJournal, maxJournal}
 use Rattle.layout.specs.Refusals.{require, firstOf, accept}
 use Rattle.layout.specs.Geometry.{blockCount}
 use Rattle.layout.specs.Check.{check}
@@ -22,8 +22,8 @@ pub record Headed (j : List ℕ) (u n : ℕ) : Type 0 where
   pub used-is : u ≡ used j
   pub low : 5 ≤ u
   pub high : u ≤ length j
-  pub short : length j ≤ 4194304
-  pub blocks : n ≤ 4096
+  pub short : length j ≤ maxJournal
+  pub blocks : n ≤ maxBlocks
 
 -- of the record at an offset, the numbers of the k blocks from the i-th on: they rise from lo on and are below n
 unfoldable pub numbersOk : List ℕ → ℕ → ℕ → ℕ → ℕ → ℕ → Bool
@@ -43,13 +43,13 @@ markedFrom m a k = select (λ b. not (eqb (getD m b 0) 0)) (range a k)
 -- an image of n blocks, with a mark for each block
 pub record Marks (s m : List ℕ) (n : ℕ) : Type 0 where
   pub whole : length s ≡ 512 * n
-  pub blocks : n ≤ 4096
-  pub marks : length m ≡ 4096
+  pub blocks : n ≤ maxBlocks
+  pub marks : length m ≡ maxBlocks
 
 -- a record at an offset, of k blocks of an image
 pub record Saved (s j : List ℕ) (n at k : ℕ) : Type 0 where
   pub whole : length s ≡ 512 * n
-  pub blocks : n ≤ 4096
+  pub blocks : n ≤ maxBlocks
   pub inside : at + 4 + 516 * k ≤ length j
   pub below : every (λ b. ltb b n) (map (blockAt j at) (range 0 k)) ≡ true
 
