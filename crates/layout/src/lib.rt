@@ -7,4 +7,5 @@ pub mod directory;
 pub mod limits;
 pub mod number;
 pub mod reading;
+pub mod root;
 pub mod table;

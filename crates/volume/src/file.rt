@@ -30,7 +30,7 @@ pub fn name_refusal(image: &[u8], name: &[u8]) -> u32
     if !layout::bytes::good_name(name) {
         return 9;
     }
-    let f = layout::reading::find_file(image, name);
+    let f = layout::root::find_file(image, name);
     if f.slot == 0 {
         return 10;
     }
@@ -42,7 +42,7 @@ pub fn locate(image: &[u8], name: &[u8]) -> File
     requires { ⌜ (check (now image) ≡ 0) × (nameRefusal (now image) (now name) ≡ 0) ⌝ }
     ensures { λ r. ⌜ Opened (now (image .entry)) (now (name .entry)) (r .slot) (r .block) (r .first) (r .size) (r .blocks) ⌝ }
 {
-    let f = layout::reading::find_file(image, name);
+    let f = layout::root::find_file(image, name);
     let k = f.slot;
     let b = f.block;
     let first = number_at(image, b, k, 4);
