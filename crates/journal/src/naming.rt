@@ -8,7 +8,7 @@ ghost use Rattle.layout.specs.Looks.{nameRefusal, entryOf};
 ghost use Rattle.volume.specs.Create.{createNamed};
 ghost use Rattle.volume.specs.Write.{writeRefusal, writeNamed};
 ghost use Rattle.volume.specs.Delete.{deleteNamed};
-ghost use Rattle.journal.specs.Walks.{Ready, Recorded, recordNamed};
+ghost use Rattle.journal.specs.Walks.Changes.{Ready, Recorded, recordNamed};
 use super::recording::record_marked;
 use layout::limits::MAX_BLOCKS;
 

@@ -7,7 +7,8 @@ ghost use Rattle.layout.specs.Limits.{maxBlocks, maxJournal};
 ghost use Rattle.layout.specs.Lists.{joined};
 ghost use Rattle.layout.specs.Bytes.{bytes4, block, splice, zeros};
 ghost use Rattle.journal.specs.Journal.{used, recordBytes, added};
-ghost use Rattle.journal.specs.Walks.{Marks, markedFrom, Ready, Recorded, recordNamed};
+ghost use Rattle.journal.specs.Walks.Saves.{Marks, markedFrom};
+ghost use Rattle.journal.specs.Walks.Changes.{Ready, Recorded, recordNamed};
 ghost use Rattle.volume.specs.Walks.Marks.{marked};
 
 // The length of the record of the marked blocks below n.

@@ -6,7 +6,7 @@ ghost use Rattle.layout.specs.Limits.{maxJournal};
 ghost use Rattle.layout.specs.Lists.{range};
 ghost use Rattle.layout.specs.Bytes.{be32, bytes4, zeros, splice};
 ghost use Rattle.journal.specs.Journal.{restored, undoneImage, undoneJournal, lastRecord};
-ghost use Rattle.journal.specs.Walks.{Saved, Last};
+ghost use Rattle.journal.specs.Walks.Undoing.{Saved, Last};
 
 // Puts back the bytes of the k blocks of the record at `at`, all below n.
 pub fn restore(image: &mut [u8], journal: &[u8], n: usize, at: usize, k: usize)

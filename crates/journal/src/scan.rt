@@ -5,7 +5,7 @@ ghost use lib.ListN.{length};
 ghost use Rattle.layout.specs.Limits.{maxBlocks};
 ghost use Rattle.layout.specs.Lists.{every};
 ghost use Rattle.journal.specs.Journal.{recordOk, records, wellFormed};
-ghost use Rattle.journal.specs.Walks.{Headed, Scans, headOk, numbersOk};
+ghost use Rattle.journal.specs.Walks.Scanning.{Headed, Scans, headOk, numbersOk};
 use layout::limits::MAX_JOURNAL;
 use layout::limits::MIN_JOURNAL;
 
