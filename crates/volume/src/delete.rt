@@ -12,7 +12,8 @@ pub fn delete_refusal(image: &[u8], name: &[u8]) -> u32
     requires { ⌜ check (now image) ≡ 0 ⌝ }
     ensures { λ r. ⌜ r ≡ nameRefusal (now (image .entry)) (now (name .entry)) ⌝ }
 {
-    super::file::name_refusal(image, name)
+    let f = layout::root::open_file(image, name);
+    f.number
 }
 
 // Marks the blocks that an accepted delete names.

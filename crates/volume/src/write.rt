@@ -39,13 +39,13 @@ pub fn write_refusal(image: &[u8], name: &[u8], offset: usize, count: usize) -> 
     if MAX_DATA < count {
         return 9;
     }
-    let refusal = super::file::name_refusal(image, name);
+    let f = layout::root::open_file(image, name);
+    let refusal = f.number;
+    let size = f.size;
+    let blocks = f.blocks;
     if refusal != 0 {
         return refusal;
     }
-    let f = super::file::locate(image, name);
-    let size = f.size;
-    let blocks = f.blocks;
     if size < offset {
         return 12;
     }
