@@ -12,8 +12,7 @@ use Rattle.layout.specs.Answers.{readAnswer}
 use Rattle.layout.specs.Refusals.{accept}
 use Rattle.volume.specs.Change.{Change, slotGiven}
 use Rattle.journal.specs.Run.{State, Answer, changed, changeRefusal, changeAnswer, recordOf}
-use Rattle.journal.specs.Changed.{changedAnswer}
-use Rattle.journal.specs.Undone.{undoneAnswer}
+use Rattle.journal.specs.Answers.{changedAnswer, undoneAnswer}
 use Rattle.journal.specs.declared.calls.Changed.{Changed}
 use Rattle.journal.specs.declared.calls.Undone.{Undone}
 use Rattle.layout.specs.declared.reading.Filled.{Filled}

@@ -3,9 +3,8 @@ ghost use mathlib.Core.Path.{_≡_};
 ghost use lib.ListN.{length};
 ghost use Rattle.volume.specs.Change.{create, write, delete};
 ghost use Rattle.journal.specs.Run.{afterUndo, undoAnswer, afterChange, changeAnswer, state};
-ghost use Rattle.journal.specs.Walks.{readyRefusal};
-ghost use Rattle.journal.specs.Changed.{changedAnswer};
-ghost use Rattle.journal.specs.Undone.{undoneAnswer};
+ghost use Rattle.journal.specs.Walks.Changes.{readyRefusal};
+ghost use Rattle.journal.specs.Answers.{changedAnswer, undoneAnswer};
 
 // What undo gives: the length of the record taken back, or the number of the refusal.
 pub enum Undone {

@@ -3,15 +3,17 @@ ghost use mathlib.Core.Path.{_≡_};
 ghost use mathlib.Core.List.{List, _++_};
 ghost use Prim.Native.Nat.{ℕ, _+_, _*_, _≤_, _<_};
 ghost use lib.ListN.{length};
+ghost use Rattle.layout.specs.Limits.{maxBlocks, maxJournal};
 ghost use Rattle.layout.specs.Lists.{joined};
 ghost use Rattle.layout.specs.Bytes.{bytes4, block, splice, zeros};
 ghost use Rattle.journal.specs.Journal.{used, recordBytes, added};
-ghost use Rattle.journal.specs.Walks.{Marks, markedFrom, Ready, Recorded, recordNamed};
+ghost use Rattle.journal.specs.Walks.Saves.{Marks, markedFrom};
+ghost use Rattle.journal.specs.Walks.Changes.{Ready, Recorded, recordNamed};
 ghost use Rattle.volume.specs.Walks.Marks.{marked};
 
 // The length of the record of the marked blocks below n.
 pub fn record_size(marks: &[u8], n: usize) -> usize
-    requires { ⌜ (length (now marks) ≡ 4096) × (n ≤ 4096) ⌝ }
+    requires { ⌜ (length (now marks) ≡ maxBlocks) × (n ≤ maxBlocks) ⌝ }
     ensures { λ r. ⌜ r ≡ 4 + 516 * length (markedFrom (now (marks .entry)) 0 n) ⌝ }
 {
     let mut size: usize = 4;
@@ -26,7 +28,7 @@ pub fn record_size(marks: &[u8], n: usize) -> usize
 
 // Writes a block's number and its bytes over the 516 bytes of a record that are theirs.
 fn save_block(block: &[u8], b: usize, piece: &mut [u8])
-    requires { ⌜ (length (now block) ≡ 512) × (length (now piece) ≡ 516) × (b < 4096) ⌝ }
+    requires { ⌜ (length (now block) ≡ 512) × (length (now piece) ≡ 516) × (b < maxBlocks) ⌝ }
     ensures { λ _. ⌜ now (piece .exit) ≡ bytes4 b ++ now (block .entry) ⌝ }
 {
     volume::number::put32(piece, 0, b as u32);
@@ -56,7 +58,7 @@ fn save_blocks(image: &[u8], journal: &mut [u8], marks: &[u8], n: usize, at: usi
 // Adds the record of the marked blocks below n, of `size` bytes, which the journal has room for.
 pub fn add_record(image: &[u8], journal: &mut [u8], marks: &[u8], n: usize, size: usize)
     requires { ⌜ (Marks (now image) (now marks) n) × (size ≡ 4 + 516 * length (markedFrom (now marks) 0 n)) ⌝ }
-    requires { ⌜ (5 ≤ used (now journal)) × (used (now journal) + size ≤ length (now journal)) × (length (now journal) ≤ 4194304) ⌝ }
+    requires { ⌜ (5 ≤ used (now journal)) × (used (now journal) + size ≤ length (now journal)) × (length (now journal) ≤ maxJournal) ⌝ }
     ensures { λ _. ⌜ now (journal .exit) ≡ added (now (journal .entry)) (recordBytes (now (image .entry)) (markedFrom (now (marks .entry)) 0 n)) ⌝ }
 {
     let at = layout::number::get32(journal, 1) as usize;
@@ -68,8 +70,8 @@ pub fn add_record(image: &[u8], journal: &mut [u8], marks: &[u8], n: usize, size
 
 // Adds the record of the marked blocks, which a change names; gives its length, or 0 if the journal has no room for it.
 pub fn record_marked(image: &[u8], journal: &mut [u8], marks: &[u8]) -> u32
-    requires { ⌜ (Ready (now image) (now journal)) × (length (now marks) ≡ 4096) ⌝ }
-    ensures { λ r. ⌜ ((named : List ℕ) → now (marks .entry) ≡ marked (zeros 4096) named → Recorded (now (journal .entry)) (recordNamed (now (image .entry)) named) r (now (journal .exit))) ⌝ }
+    requires { ⌜ (Ready (now image) (now journal)) × (length (now marks) ≡ maxBlocks) ⌝ }
+    ensures { λ r. ⌜ ((named : List ℕ) → now (marks .entry) ≡ marked (zeros maxBlocks) named → Recorded (now (journal .entry)) (recordNamed (now (image .entry)) named) r (now (journal .exit))) ⌝ }
 {
     let n = image.len() / 512;
     let size = record_size(marks, n);

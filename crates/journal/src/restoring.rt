@@ -2,10 +2,11 @@
 ghost use mathlib.Core.Path.{_≡_};
 ghost use Prim.Native.Nat.{_+_, _*_, _≤_, _<_};
 ghost use lib.ListN.{length};
+ghost use Rattle.layout.specs.Limits.{maxJournal};
 ghost use Rattle.layout.specs.Lists.{range};
 ghost use Rattle.layout.specs.Bytes.{be32, bytes4, zeros, splice};
 ghost use Rattle.journal.specs.Journal.{restored, undoneImage, undoneJournal, lastRecord};
-ghost use Rattle.journal.specs.Walks.{Saved, Last};
+ghost use Rattle.journal.specs.Walks.Undoing.{Saved, Last};
 
 // Puts back the bytes of the k blocks of the record at `at`, all below n.
 pub fn restore(image: &mut [u8], journal: &[u8], n: usize, at: usize, k: usize)
@@ -24,7 +25,7 @@ pub fn restore(image: &mut [u8], journal: &[u8], n: usize, at: usize, k: usize)
 
 // Zeroes the last record, which has `size` bytes, and lowers the used length to where it began.
 pub fn drop_record(journal: &mut [u8], at: usize, size: usize)
-    requires { ⌜ (5 ≤ length (now journal)) × (at + size ≤ length (now journal)) × (length (now journal) ≤ 4194304) ⌝ }
+    requires { ⌜ (5 ≤ length (now journal)) × (at + size ≤ length (now journal)) × (length (now journal) ≤ maxJournal) ⌝ }
     ensures { λ _. ⌜ now (journal .exit) ≡ splice (splice (now (journal .entry)) at (zeros size)) 1 (bytes4 at) ⌝ }
 {
     let e = at + size;

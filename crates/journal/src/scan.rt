@@ -2,9 +2,12 @@
 ghost use mathlib.Core.Path.{_≡_};
 ghost use Prim.Native.Nat.{_+_, _*_, _≤_, _<_};
 ghost use lib.ListN.{length};
+ghost use Rattle.layout.specs.Limits.{maxBlocks};
 ghost use Rattle.layout.specs.Lists.{every};
 ghost use Rattle.journal.specs.Journal.{recordOk, records, wellFormed};
-ghost use Rattle.journal.specs.Walks.{Headed, Scans, headOk, numbersOk};
+ghost use Rattle.journal.specs.Walks.Scanning.{Headed, Scans, headOk, numbersOk};
+use layout::limits::MAX_JOURNAL;
+use layout::limits::MIN_JOURNAL;
 
 // What a scan finds: whether the journal is well formed, and then the offset of its last record, or 0 if it has none.
 pub struct Scanned {
@@ -14,7 +17,7 @@ pub struct Scanned {
 
 // Whether the numbers of the k blocks of the record at `at` rise strictly and are below n.
 fn numbers_ok(journal: &[u8], n: usize, at: usize, k: usize) -> bool
-    requires { ⌜ (at + 4 + 516 * k ≤ length (now journal)) × (n ≤ 4096) ⌝ }
+    requires { ⌜ (at + 4 + 516 * k ≤ length (now journal)) × (n ≤ maxBlocks) ⌝ }
     ensures { λ r. ⌜ r ≡ numbersOk (now (journal .entry)) n at 0 0 k ⌝ }
 {
     let mut low = 0;
@@ -77,10 +80,10 @@ fn scan_records(journal: &[u8], used: usize, n: usize) -> Scanned
 fn head_ok(journal: &[u8]) -> bool
     ensures { λ r. ⌜ r ≡ headOk (now (journal .entry)) ⌝ }
 {
-    if journal.len() < 5 {
+    if journal.len() < MIN_JOURNAL {
         return false;
     }
-    if 4194304 < journal.len() {
+    if MAX_JOURNAL < journal.len() {
         return false;
     }
     if journal[0] != 1 {
@@ -95,7 +98,7 @@ fn head_ok(journal: &[u8]) -> bool
 
 // The scan of a journal that is lent with an image of n blocks.
 pub fn scan(journal: &[u8], n: usize) -> Scanned
-    requires { ⌜ n ≤ 4096 ⌝ }
+    requires { ⌜ n ≤ maxBlocks ⌝ }
     ensures { λ r. ⌜ Scans (now (journal .entry)) (wellFormed (now (journal .entry)) n) (r .ok) (r .last) ⌝ }
 {
     if !head_ok(journal) {

@@ -8,4 +8,5 @@ pub mod limits;
 pub mod names;
 pub mod number;
 pub mod reading;
+pub mod root;
 pub mod table;

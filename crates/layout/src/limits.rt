@@ -1,4 +1,4 @@
-// The limits of the layout, each named once. The definitions have them in specs/Limits.antt.
+// The limits, each named once, of the crates above too. The definitions have them in specs/Limits.antt.
 
 // An image has 3 to 4,096 blocks.
 pub const MIN_BLOCKS: usize = 3;
@@ -15,3 +15,11 @@ pub const MAX_SLOTS: usize = 256;
 pub const MAX_NAME: usize = 79;
 
 pub const NAME_FIELD: usize = 80;
+
+// One write takes at most 4,096 bytes of data.
+pub const MAX_DATA: usize = 4096;
+
+// A journal has 5 to 4,194,304 bytes.
+pub const MIN_JOURNAL: usize = 5;
+
+pub const MAX_JOURNAL: usize = 4194304;

@@ -1,16 +1,10 @@
 // The calls that only look.
 ghost use Prim.Native.Nat.{_+_, _*_, _/_, _≤_, _<_, min};
-ghost use mathlib.Core.Bool.{true};
 ghost use mathlib.Core.Path.{_≡_};
 ghost use lib.ListN.{length};
-ghost use Rattle.layout.specs.Limits.{maxName};
-ghost use Rattle.layout.specs.Geometry.{blockCount};
-ghost use Rattle.layout.specs.Directory.{goodName, fileSlot, freeSlot, root};
-ghost use Rattle.layout.specs.Check.{check};
-ghost use Rattle.layout.specs.Looks.{lookup, extentOf, lookInPlace, read};
+ghost use Rattle.layout.specs.Looks.{lookupRefusal, lookup, extentOf, lookInPlace, read};
 ghost use Rattle.layout.specs.Answers.{lookupAnswer, readAnswer};
 ghost use Rattle.layout.specs.Walks.Looks.{Opens};
-ghost use Rattle.layout.specs.Walks.Slots.{Stands};
 
 // What looking up gives.
 pub enum Found {
@@ -18,101 +12,33 @@ pub enum Found {
     Refused(u32),
 }
 
-// The file of a good name in the root of a sound image.
-pub fn find_file(image: &[u8], name: &[u8]) -> super::directory::Entry
-    requires { ⌜ (check (now image) ≡ 0) × (goodName (now name) ≡ true) × (length (now name) ≤ maxName) ⌝ }
-    ensures { λ r. ⌜ Stands (root (now (image .entry))) (blockCount (now (image .entry))) (fileSlot (now (image .entry)) (root (now (image .entry))) (now (name .entry))) (r .slot) (r .block) ⌝ }
+// The file of a name, or the refusal, 1 to 7, 9 or 10.
+fn open_file(image: &[u8], name: &[u8]) -> super::root::File
+    ensures { λ r. ⌜ Opens (now (image .entry)) (now (name .entry)) (lookupRefusal (now (image .entry)) (now (name .entry))) (r .number) (r .slot) (r .block) (r .first) (r .size) (r .blocks) ⌝ }
 {
-    let n = image.len() / 512;
-    let first = (n + 127) / 128 + 1;
-    let d = super::directory::number_at(image, first, 0, 12);
-    super::directory::find(image, n, first, d, name)
-}
-
-// The lowest free slot in the root of a sound image.
-pub fn free_slot(image: &[u8]) -> super::directory::Entry
-    requires { ⌜ check (now image) ≡ 0 ⌝ }
-    ensures { λ r. ⌜ Stands (root (now (image .entry))) (blockCount (now (image .entry))) (freeSlot (now (image .entry)) (root (now (image .entry)))) (r .slot) (r .block) ⌝ }
-{
-    let n = image.len() / 512;
-    let first = (n + 127) / 128 + 1;
-    let d = super::directory::number_at(image, first, 0, 12);
-    super::directory::find_free(image, n, first, d)
+    let refusal = super::check::check(image);
+    if refusal != 0 {
+        return super::root::refused(refusal);
+    }
+    super::root::open_file(image, name)
 }
 
 // Look up: slot, size and blocks of the file of a name.
 pub fn lookup(image: &[u8], name: &[u8]) -> Found
     ensures { λ r. ⌜ lookupAnswer r ≡ lookup (now (image .entry)) (now (name .entry)) ⌝ }
 {
-    let refusal = super::check::check(image);
-    if refusal != 0 {
-        return Found::Refused(refusal);
+    let o = open_file(image, name);
+    let number = o.number;
+    let slot = o.slot;
+    let size = o.size;
+    let blocks = o.blocks;
+    if number != 0 {
+        return Found::Refused(number);
     }
-    if !super::bytes::good_name(name) {
-        return Found::Refused(9);
-    }
-    let f = find_file(image, name);
-    let k = f.slot;
-    let b = f.block;
-    if k == 0 {
-        return Found::Refused(10);
-    }
-    let size = super::directory::word_at(image, b, k, 8);
-    let blocks = super::directory::word_at(image, b, k, 12);
     Found::File {
-        slot: k as u32,
-        size: size,
-        blocks: blocks,
-    }
-}
-
-// A file that was looked for: the number of the refusal, or 0 and its first block, size and blocks.
-pub struct Opened {
-    pub number: u32,
-    pub first: usize,
-    pub size: usize,
-    pub blocks: usize,
-}
-
-pub fn open_file(image: &[u8], name: &[u8]) -> Opened
-    ensures { λ r. ⌜ Opens (now (image .entry)) (now (name .entry)) (r .number) (r .first) (r .size) (r .blocks) ⌝ }
-{
-    let refusal = super::check::check(image);
-    if refusal != 0 {
-        return Opened {
-            number: refusal,
-            first: 0,
-            size: 0,
-            blocks: 0,
-        };
-    }
-    if !super::bytes::good_name(name) {
-        return Opened {
-            number: 9,
-            first: 0,
-            size: 0,
-            blocks: 0,
-        };
-    }
-    let f = find_file(image, name);
-    let k = f.slot;
-    let b = f.block;
-    if k == 0 {
-        return Opened {
-            number: 10,
-            first: 0,
-            size: 0,
-            blocks: 0,
-        };
-    }
-    let first = super::directory::number_at(image, b, k, 4);
-    let size = super::directory::number_at(image, b, k, 8);
-    let blocks = super::directory::number_at(image, b, k, 12);
-    Opened {
-        number: 0,
-        first: first,
-        size: size,
-        blocks: blocks,
+        slot: slot as u32,
+        size: size as u32,
+        blocks: blocks as u32,
     }
 }
 

@@ -15,6 +15,7 @@ ghost use Rattle.layout.specs.Listing.{fileLine, countLine, refusedLine, listin
 ghost use Rattle.lister.specs.Text.{Written, maxListing, entryLine, slotLine, slotLines};
 use super::text;
 use layout::directory::number_at;
+use layout::limits::NAME_FIELD;
 ghost use Rattle.layout.specs.Walks.Shapes.{DirectoryAt};
 ghost use Rattle.layout.specs.Walks.Slots.{entryAt};
 
@@ -32,7 +33,7 @@ fn entry_line(image: &[u8], b: usize, k: usize, out: &mut [u8], at: usize) -> us
     let size = number_at(image, b, k, 8);
     let blocks = number_at(image, b, k, 12);
     let a = 512 * b + 128 * (k % 4) + 48;
-    let e = a + 80;
+    let e = a + NAME_FIELD;
     let p = text::put_decimal(out, at, k);
     let q = text::put_labelled(out, p, b" ", size);
     let r = text::put_labelled(out, q, b" ", blocks);

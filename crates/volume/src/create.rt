@@ -1,6 +1,7 @@
 // Create, on an image that the caller has checked.
 ghost use mathlib.Core.Path.{_≡_};
 ghost use lib.ListN.{length};
+ghost use Rattle.layout.specs.Limits.{maxBlocks};
 ghost use Rattle.layout.specs.Directory.{freeSlot, root};
 ghost use Rattle.layout.specs.Check.{check};
 ghost use Rattle.volume.specs.Create.{createRefusal, createSlot, createImage, createNamed};
@@ -18,11 +19,11 @@ pub fn create_refusal(image: &[u8], name: &[u8], kind: u8) -> u32
     if !layout::directory::is_file(kind) {
         return 9;
     }
-    let f = layout::reading::find_file(image, name);
+    let f = layout::root::find_file(image, name);
     if f.slot != 0 {
         return 11;
     }
-    let g = layout::reading::free_slot(image);
+    let g = layout::root::free_slot(image);
     if g.slot == 0 {
         return 13;
     }
@@ -31,10 +32,10 @@ pub fn create_refusal(image: &[u8], name: &[u8], kind: u8) -> u32
 
 // Marks the block that create changes.
 pub fn create_named(image: &[u8], marks: &mut [u8])
-    requires { ⌜ (check (now image) ≡ 0) × (freeSlot (now image) (root (now image)) ≡ 0 → ⊥) × (length (now marks) ≡ 4096) ⌝ }
+    requires { ⌜ (check (now image) ≡ 0) × (freeSlot (now image) (root (now image)) ≡ 0 → ⊥) × (length (now marks) ≡ maxBlocks) ⌝ }
     ensures { λ _. ⌜ now (marks .exit) ≡ marked (now (marks .entry)) (createNamed (now (image .entry))) ⌝ }
 {
-    let f = layout::reading::free_slot(image);
+    let f = layout::root::free_slot(image);
     let b = f.block;
     marks[b] = 1;
 }
@@ -54,7 +55,7 @@ pub fn create(
     ensures slot { λ r. ⌜ r ≡ createSlot (now (image .entry)) ⌝ }
     ensures bytes { λ r. ⌜ now (image .exit) ≡ createImage (now (image .entry)) (now (name .entry)) kind user group permissions flags time ⌝ }
 {
-    let g = layout::reading::free_slot(image);
+    let g = layout::root::free_slot(image);
     let k = g.slot;
     let b = g.block;
     let f = Fields {

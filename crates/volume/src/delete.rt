@@ -1,6 +1,7 @@
 // Delete, on an image that the caller has checked.
 ghost use mathlib.Core.Path.{_≡_};
 ghost use lib.ListN.{length};
+ghost use Rattle.layout.specs.Limits.{maxBlocks};
 ghost use Rattle.layout.specs.Check.{check};
 ghost use Rattle.layout.specs.Looks.{nameRefusal, entryOf};
 ghost use Rattle.volume.specs.Delete.{deleteAt, deleteNamed};
@@ -11,12 +12,13 @@ pub fn delete_refusal(image: &[u8], name: &[u8]) -> u32
     requires { ⌜ check (now image) ≡ 0 ⌝ }
     ensures { λ r. ⌜ r ≡ nameRefusal (now (image .entry)) (now (name .entry)) ⌝ }
 {
-    super::file::name_refusal(image, name)
+    let f = layout::root::open_file(image, name);
+    f.number
 }
 
 // Marks the blocks that an accepted delete names.
 pub fn delete_named(image: &[u8], name: &[u8], marks: &mut [u8])
-    requires { ⌜ (check (now image) ≡ 0) × (nameRefusal (now image) (now name) ≡ 0) × (length (now marks) ≡ 4096) ⌝ }
+    requires { ⌜ (check (now image) ≡ 0) × (nameRefusal (now image) (now name) ≡ 0) × (length (now marks) ≡ maxBlocks) ⌝ }
     ensures { λ _. ⌜ now (marks .exit) ≡ marked (now (marks .entry)) (deleteNamed (now (image .entry)) (entryOf (now (image .entry)) (now (name .entry)))) ⌝ }
 {
     let f = super::file::locate(image, name);

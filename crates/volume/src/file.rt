@@ -9,52 +9,15 @@ ghost use Rattle.layout.specs.Looks.{nameRefusal};
 ghost use Rattle.volume.specs.Write.{setFile};
 use super::number::put32;
 use super::number::put64;
-use layout::directory::number_at;
-ghost use Rattle.volume.specs.Walks.Files.{Opened};
+ghost use Rattle.layout.specs.Walks.Looks.{Located};
 ghost use Rattle.layout.specs.Walks.Slots.{entryAt};
 
-// Where a file's entry is, and its numbers.
-pub struct File {
-    pub slot: usize,
-    pub block: usize,
-    pub first: usize,
-    pub size: usize,
-    pub blocks: usize,
-}
-
-// The refusal of a name, 9 or 10, or 0.
-pub fn name_refusal(image: &[u8], name: &[u8]) -> u32
-    requires { ⌜ check (now image) ≡ 0 ⌝ }
-    ensures { λ r. ⌜ r ≡ nameRefusal (now (image .entry)) (now (name .entry)) ⌝ }
-{
-    if !layout::bytes::good_name(name) {
-        return 9;
-    }
-    let f = layout::reading::find_file(image, name);
-    if f.slot == 0 {
-        return 10;
-    }
-    0
-}
-
 // The file of a name that is there.
-pub fn locate(image: &[u8], name: &[u8]) -> File
+pub fn locate(image: &[u8], name: &[u8]) -> layout::root::File
     requires { ⌜ (check (now image) ≡ 0) × (nameRefusal (now image) (now name) ≡ 0) ⌝ }
-    ensures { λ r. ⌜ Opened (now (image .entry)) (now (name .entry)) (r .slot) (r .block) (r .first) (r .size) (r .blocks) ⌝ }
+    ensures { λ r. ⌜ Located (now (image .entry)) (now (name .entry)) (r .slot) (r .block) (r .first) (r .size) (r .blocks) ⌝ }
 {
-    let f = layout::reading::find_file(image, name);
-    let k = f.slot;
-    let b = f.block;
-    let first = number_at(image, b, k, 4);
-    let size = number_at(image, b, k, 8);
-    let blocks = number_at(image, b, k, 12);
-    File {
-        slot: k,
-        block: b,
-        first: first,
-        size: size,
-        blocks: blocks,
-    }
+    layout::root::open_file(image, name)
 }
 
 // Zeroes the `count` bytes at `at`.

@@ -3,6 +3,7 @@ ghost use mathlib.Core.Path.{_≡_};
 ghost use mathlib.Core.List.{[], _∷_, _++_, map};
 ghost use Prim.Native.Nat.{_+_, _*_, _≤_, _<_};
 ghost use lib.ListN.{length, take};
+ghost use Rattle.layout.specs.Limits.{maxBlocks};
 ghost use Rattle.layout.specs.Lists.{joined};
 ghost use Rattle.layout.specs.Bytes.{part};
 ghost use Rattle.layout.specs.Table.{next, chain, freeBlocks, tableBlockOf};
@@ -21,7 +22,7 @@ pub fn mark(marks: &mut [u8], b: usize)
 
 // Marks the k blocks of the chain from `first` on.
 pub fn mark_chain(image: &[u8], n: usize, first: usize, k: usize, marks: &mut [u8])
-    requires { ⌜ (ChainBelow (now image) n first k) × (length (now marks) ≡ 4096) ⌝ }
+    requires { ⌜ (ChainBelow (now image) n first k) × (length (now marks) ≡ maxBlocks) ⌝ }
     ensures { λ _. ⌜ now (marks .exit) ≡ marked (now (marks .entry)) (chain (next (now (image .entry))) first k) ⌝ }
 {
     let mut b = first;
@@ -35,7 +36,7 @@ pub fn mark_chain(image: &[u8], n: usize, first: usize, k: usize, marks: &mut [u
 
 // Marks the table blocks of the k blocks from `first` on.
 pub fn mark_tables(image: &[u8], n: usize, first: usize, k: usize, marks: &mut [u8])
-    requires { ⌜ (ChainBelow (now image) n first k) × (length (now marks) ≡ 4096) ⌝ }
+    requires { ⌜ (ChainBelow (now image) n first k) × (length (now marks) ≡ maxBlocks) ⌝ }
     ensures { λ _. ⌜ now (marks .exit) ≡ marked (now (marks .entry)) (map tableBlockOf (chain (next (now (image .entry))) first k)) ⌝ }
 {
     let mut b = first;
@@ -49,7 +50,7 @@ pub fn mark_tables(image: &[u8], n: usize, first: usize, k: usize, marks: &mut [
 
 // Marks what a change of the entries of the k blocks from `first` on names: block 0 and their table blocks.
 pub fn mark_entries(image: &[u8], n: usize, first: usize, k: usize, marks: &mut [u8])
-    requires { ⌜ (ChainBelow (now image) n first k) × (length (now marks) ≡ 4096) ⌝ }
+    requires { ⌜ (ChainBelow (now image) n first k) × (length (now marks) ≡ maxBlocks) ⌝ }
     ensures { λ _. ⌜ now (marks .exit) ≡ marked (now (marks .entry)) (entriesNamed (chain (next (now (image .entry))) first k)) ⌝ }
 {
     if k == 0 {
@@ -61,7 +62,7 @@ pub fn mark_entries(image: &[u8], n: usize, first: usize, k: usize, marks: &mut 
 
 // Marks the `count` lowest free blocks and their table blocks.
 pub fn mark_free(image: &[u8], n: usize, count: usize, marks: &mut [u8])
-    requires { ⌜ (Shape (now image) n) × (count ≤ length (freeBlocks (next (now image)) n)) × (length (now marks) ≡ 4096) ⌝ }
+    requires { ⌜ (Shape (now image) n) × (count ≤ length (freeBlocks (next (now image)) n)) × (length (now marks) ≡ maxBlocks) ⌝ }
     ensures { λ _. ⌜ now (marks .exit) ≡ marked (now (marks .entry)) (joined (λ b. b ∷ tableBlockOf b ∷ []) (take count (freeBlocks (next (now (image .entry))) n))) ⌝ }
 {
     let mut from = 0;
@@ -85,7 +86,7 @@ pub fn mark_part(
     w: usize,
     marks: &mut [u8],
 )
-    requires { ⌜ (ChainBelow (now image) n first k) × (length (now marks) ≡ 4096) ⌝ }
+    requires { ⌜ (ChainBelow (now image) n first k) × (length (now marks) ≡ maxBlocks) ⌝ }
     ensures { λ _. ⌜ now (marks .exit) ≡ marked (now (marks .entry)) (part (chain (next (now (image .entry))) first k) j w) ⌝ }
 {
     if k <= j {
@@ -102,7 +103,7 @@ pub fn mark_part(
 
 // Marks what taking the `count` lowest free blocks behind the block `last` names: them, and what their entries and that of `last` name.
 pub fn mark_grown(image: &[u8], n: usize, last: usize, count: usize, marks: &mut [u8])
-    requires { ⌜ (Shape (now image) n) × (last < n) × (count ≤ length (freeBlocks (next (now image)) n)) × (length (now marks) ≡ 4096) ⌝ }
+    requires { ⌜ (Shape (now image) n) × (last < n) × (count ≤ length (freeBlocks (next (now image)) n)) × (length (now marks) ≡ maxBlocks) ⌝ }
     ensures { λ _. ⌜ now (marks .exit) ≡ marked (now (marks .entry)) (take count (freeBlocks (next (now (image .entry))) n) ++ entriesNamed (changedEntries last (take count (freeBlocks (next (now (image .entry))) n)))) ⌝ }
 {
     if count == 0 {

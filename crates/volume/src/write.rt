@@ -3,6 +3,7 @@ ghost use mathlib.Core.Path.{_≡_};
 ghost use mathlib.Core.List.{_++_};
 ghost use Prim.Native.Nat.{_+_, _-_, _*_, _≤_, _<_, max};
 ghost use lib.ListN.{length, getD, take};
+ghost use Rattle.layout.specs.Limits.{maxBlocks, maxData};
 ghost use Rattle.layout.specs.Lists.{lastOr};
 ghost use Rattle.layout.specs.Geometry.{blocksFor};
 ghost use Rattle.layout.specs.Table.{next, chain, freeBlocks};
@@ -12,6 +13,7 @@ ghost use Rattle.layout.specs.Walks.Shapes.{ChainBelow};
 ghost use Rattle.volume.specs.Write.{writeRefusal, writeAt, written, writeNamed};
 ghost use Rattle.volume.specs.Walks.Marks.{marked};
 ghost use Rattle.volume.specs.Walks.Writes.{Planned};
+use layout::limits::MAX_DATA;
 
 // The larger of two numbers.
 fn larger(a: usize, b: usize) -> usize
@@ -22,7 +24,7 @@ fn larger(a: usize, b: usize) -> usize
 
 // How many blocks `count` bytes at an offset need beyond those of a file.
 fn needed(size: usize, blocks: usize, offset: usize, count: usize) -> usize
-    requires { ⌜ (offset ≤ size) × (size < 4294967296) × (count ≤ 4096) × (blocks ≤ blocksFor size) ⌝ }
+    requires { ⌜ (offset ≤ size) × (size < 4294967296) × (count ≤ maxData) × (blocks ≤ blocksFor size) ⌝ }
     ensures { λ r. ⌜ r ≡ blocksFor (max size (offset + count)) - blocks ⌝ }
 {
     let end = larger(size, offset + count);
@@ -34,16 +36,16 @@ pub fn write_refusal(image: &[u8], name: &[u8], offset: usize, count: usize) -> 
     requires { ⌜ check (now image) ≡ 0 ⌝ }
     ensures { λ r. ⌜ r ≡ writeRefusal (now (image .entry)) (now (name .entry)) offset count ⌝ }
 {
-    if 4096 < count {
+    if MAX_DATA < count {
         return 9;
     }
-    let refusal = super::file::name_refusal(image, name);
+    let f = layout::root::open_file(image, name);
+    let refusal = f.number;
+    let size = f.size;
+    let blocks = f.blocks;
     if refusal != 0 {
         return refusal;
     }
-    let f = super::file::locate(image, name);
-    let size = f.size;
-    let blocks = f.blocks;
     if size < offset {
         return 12;
     }
@@ -136,7 +138,7 @@ fn mark_written(
     count: usize,
     marks: &mut [u8],
 )
-    requires { ⌜ (ChainBelow (now image) n first k) × (count ≤ 4096) × (length (now marks) ≡ 4096) ⌝ }
+    requires { ⌜ (ChainBelow (now image) n first k) × (count ≤ maxData) × (length (now marks) ≡ maxBlocks) ⌝ }
     ensures { λ _. ⌜ now (marks .exit) ≡ marked (now (marks .entry)) (written (chain (next (now (image .entry))) first k) offset count) ⌝ }
 {
     if count == 0 {
@@ -155,7 +157,7 @@ fn mark_written(
 
 // Marks the blocks that an accepted write names. Every block that is taken holds a written byte.
 pub fn write_named(image: &[u8], name: &[u8], offset: usize, count: usize, marks: &mut [u8])
-    requires { ⌜ (check (now image) ≡ 0) × (writeRefusal (now image) (now name) offset count ≡ 0) × (length (now marks) ≡ 4096) ⌝ }
+    requires { ⌜ (check (now image) ≡ 0) × (writeRefusal (now image) (now name) offset count ≡ 0) × (length (now marks) ≡ maxBlocks) ⌝ }
     ensures { λ _. ⌜ now (marks .exit) ≡ marked (now (marks .entry)) (writeNamed (now (image .entry)) (entryOf (now (image .entry)) (now (name .entry))) offset count) ⌝ }
 {
     let f = super::file::locate(image, name);

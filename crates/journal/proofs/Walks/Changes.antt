@@ -17,7 +17,8 @@ use Rattle.volume.specs.Create.{createRefusal}
 use Rattle.volume.specs.Change.{Change, refusal, after, named, slotGiven}
 use Rattle.journal.specs.Journal.{used, wellFormed, ascending, recordBytes, added}
 use Rattle.journal.specs.Run.{State, Answer, changed, recordOf, changeRefusal, afterChange, changeAnswer, state}
-use Rattle.journal.specs.Walks.{Marks, markedFrom, readyRefusal, Ready, roomRefusal, recordNamed, Recorded}
+use Rattle.journal.specs.Walks.Saves.{Marks, markedFrom}
+use Rattle.journal.specs.Walks.Changes.{readyRefusal, Ready, roomRefusal, recordNamed, Recorded}
 use Rattle.volume.specs.Walks.Marks.{marked}
 use Rattle.layout.proofs.Laws.Tests.{firstOf-zero, require-zero}
 use Rattle.layout.proofs.Laws.Sound.{sound}

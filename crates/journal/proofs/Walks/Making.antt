@@ -8,7 +8,7 @@ use Rattle.layout.specs.Bytes.{be32, splice}
 use Rattle.volume.specs.Change.{Change, create, write, delete}
 use Rattle.journal.specs.Run.{Call, Answer, State, Look, change, undo, look, step, answer, afterChange, changeAnswer, afterUndo, undoAnswer, lookAnswer, state}
 use Rattle.journal.specs.Script.{be64, opAt, nameAt, dataAt, callAt, answerSize, numbers, encoded}
-use Rattle.journal.specs.ScriptWalks.{Made}
+use Rattle.journal.specs.Walks.Scripts.{Made}
 use Rattle.journal.proofs.Walks.Scripts.{is-create, is-write, is-delete, is-check, is-lookup, is-read, is-look-in-place}
 use Rattle.journal.proofs.Walks.Encoding.{numbers-alone}
 

@@ -12,7 +12,7 @@ use lib.Seq.{getD-set-same, getD-set-other}
 use Rattle.layout.specs.Lists.{range, every, has, keep, select}
 use Rattle.layout.specs.Bytes.{zeros}
 use Rattle.journal.specs.Journal.{ascending}
-use Rattle.journal.specs.Walks.{markedFrom}
+use Rattle.journal.specs.Walks.Saves.{markedFrom}
 use Rattle.volume.specs.Walks.Marks.{marked}
 use Rattle.layout.proofs.Laws.Lists.{select-below}
 use Rattle.layout.proofs.Laws.Bytes.{length-zeros}

@@ -12,7 +12,7 @@ use Rattle.layout.specs.Bytes.{splice}
 use Rattle.layout.specs.Check.{check}
 use Rattle.journal.specs.Run.{Call, State, step, answer, run, answers, state}
 use Rattle.journal.specs.Script.{itemSize, callAt, itemOk, itemsFrom, callsFrom, callsOf, encoded, answerSize, answersSize, scriptRefusal, Outcome, leaves, given, outcome, replayOutcome, Fresh}
-use Rattle.journal.specs.ScriptWalks.{Made}
+use Rattle.journal.specs.Walks.Scripts.{Made}
 use Rattle.layout.proofs.Laws.Bytes.{putMid-splice, length-splice, splice-nil, splice-append}
 use Rattle.journal.proofs.Walks.Scripts.{Next, next, calls-none, calls-step, sizes-step}
 use Rattle.journal.proofs.Walks.Encoding.{answer-length}

@@ -10,7 +10,7 @@ use lib.ListN.{length, getD, length-append}
 use Rattle.layout.specs.Lists.{every, joined}
 use Rattle.layout.specs.Bytes.{bytes4, splice, block}
 use Rattle.journal.specs.Journal.{used, recordBytes, added}
-use Rattle.journal.specs.Walks.{Marks, markedFrom}
+use Rattle.journal.specs.Walks.Saves.{Marks, markedFrom}
 use Rattle.layout.proofs.Laws.Bytes.{length-splice, length-bytes4, splice-nil, splice-append, splice-whole}
 use Rattle.journal.proofs.Laws.Records.{piece, length-piece, length-pieces, length-record}
 use Rattle.journal.proofs.Walks.Marked.{marked-skip, marked-take, marked-done, marked-below}

@@ -12,7 +12,7 @@ use Rattle.layout.specs.Lists.{within, range, every, lastOr}
 use Rattle.layout.specs.Bytes.{be32}
 use Rattle.layout.specs.Limits.{minJournal, maxJournal}
 use Rattle.journal.specs.Journal.{used, copies, blockAt, rising, recordOk, recordsFrom, records, wellFormed, lastRecord}
-use Rattle.journal.specs.Walks.{headOk, Headed, numbersOk, Scans}
+use Rattle.journal.specs.Walks.Scanning.{headOk, Headed, numbersOk, Scans}
 use Rattle.layout.proofs.Laws.Tests.{and-split}
 use Rattle.journal.proofs.Laws.Append.{Fine, fine}
 

@@ -13,7 +13,7 @@ use Rattle.layout.specs.Geometry.{blockCount}
 use Rattle.layout.specs.Check.{check}
 use Rattle.journal.specs.Journal.{used, copies, recordOk, records, wellFormed, lastRecord, restored, undoneImage, undoneJournal}
 use Rattle.journal.specs.Run.{State, Answer, undone, undoRefusal, afterUndo, undoAnswer, state}
-use Rattle.journal.specs.Walks.{Last, Saved}
+use Rattle.journal.specs.Walks.Undoing.{Last, Saved}
 use Rattle.layout.proofs.Laws.Tests.{and-split}
 use Rattle.layout.proofs.Laws.Sound.{sound}
 use Rattle.journal.proofs.Laws.Append.{Fine, fine, WellFormed, well}

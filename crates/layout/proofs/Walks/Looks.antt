@@ -10,79 +10,78 @@ use borrow.Author.Tests.{eq-eqb, le-leb, lt-leb, ne-eqb}
 use Rattle.layout.specs.Refusals.{require, firstOf, accept}
 use Rattle.layout.specs.Bytes.{be32, part, splice}
 use Rattle.layout.specs.Geometry.{blockCount, blocksFor}
-use Rattle.layout.specs.Table.{next, chain, chainOk}
-use Rattle.layout.specs.Directory.{slotAt, sizeOf, goodName, fileSlot, root, fileBlocks, content}
+use Rattle.layout.specs.Table.{next, chain}
+use Rattle.layout.specs.Directory.{slotAt, firstBlock, sizeOf, blocksOf, goodName, fileSlot, root, fileBlocks, content}
 use Rattle.layout.specs.Check.{check}
 use Rattle.layout.specs.Looks.{nameRefusal, entryOf, lookupRefusal, lookup, ReadAnswer, readRefusal, read, extentOf}
-use Rattle.layout.specs.Walks.Looks.{Opens}
-use Rattle.layout.specs.Walks.Shapes.{ChainBelow}
+use Rattle.layout.specs.Walks.Looks.{Located, Opens}
+use Rattle.layout.specs.Walks.Shapes.{Shape, ChainBelow}
+use Rattle.layout.specs.Walks.Slots.{Stands, entryAt}
 use Rattle.layout.proofs.Laws.Bytes.{part-part, lent}
-use Rattle.layout.proofs.Laws.Chains.{getD-chain, chainOk-split}
+use Rattle.layout.proofs.Laws.Chains.{getD-chain, Chain, chainOk-split}
+use Rattle.layout.proofs.Laws.Counts.{chain-most}
 use Rattle.layout.proofs.Laws.Looks.{lookup-sound, lookup-file, extent-refused, extent-past, extent-found}
+use Rattle.layout.proofs.Laws.Tests.{accept-refused}
 use Rattle.layout.proofs.Walks.Content.{chainBytes, length-chainBytes, below-nth}
 use Rattle.layout.proofs.Walks.Shapes.{sound-shape}
 
--- the answers of look up, in the order in which the code takes its tests
+-- opening a file, in the order in which the code takes its tests
 module _ (s name : List ℕ) where
-  pub lookup-check : (r : ℕ) → r ≡ check s → (r ≡ 0 → ⊥) → lookup s name ≡ record { number = r; slot = 0; size = 0; blocks = 0 }
-  unfolding lookup lookupRefusal
-  lookup-check zero e h = absurd (h refl)
-  lookup-check (suc r) e h = rw (← e)
+  pub opens-refused : {refusal number slot b first size blocks : ℕ} → number ≡ refusal → (number ≡ 0 → ⊥)
+      → Opens s name refusal number slot b first size blocks
+  opens-refused e h = record { weighed = e; file = λ z. absurd (h z) }
 
-  module _ (e : check s ≡ 0) where
-    pub lookup-name : false ≡ goodName name → lookup s name ≡ record { number = 9; slot = 0; size = 0; blocks = 0 }
-    unfolding lookup lookupRefusal nameRefusal
-    lookup-name h = rw (e, ← h)
+  pub name-bad : false ≡ goodName name → 9 ≡ nameRefusal s name
+  unfolding nameRefusal
+  name-bad h = rw (← h)
 
-    module _ (g : true ≡ goodName name) (k : ℕ) (ek : k ≡ fileSlot s (root s) name) where
-      pub lookup-none : k ≡ 0 → lookup s name ≡ record { number = 10; slot = 0; size = 0; blocks = 0 }
-      unfolding lookup lookupRefusal nameRefusal
-      lookup-none h = rw (e, ← g, ← ek, eq-eqb k 0 h)
+  module _ (g : true ≡ goodName name) {k b : ℕ} (st : Stands (root s) (blockCount s) (fileSlot s (root s) name) k b) where
+    pub name-none : k ≡ 0 → 10 ≡ nameRefusal s name
+    unfolding nameRefusal
+    name-none h = rw (← g, ← st .slot, eq-eqb k 0 h)
 
-      pub lookup-found : (k ≡ 0 → ⊥) → (at size blocks : ℕ) → at ≡ slotAt (root s) k → size ≡ be32 s (at + 8) → blocks ≡ be32 s (at + 12)
-          → lookup s name ≡ record { number = 0; slot = k; size = size; blocks = blocks }
-      unfolding lookup lookupRefusal nameRefusal entryOf
-      lookup-found h at size blocks ea es eb = rw (e, ← g, ← ek, ne-eqb k 0 h, ← ea, ← es, ← eb)
+    pub opens-found : (k ≡ 0 → ⊥) → {first size blocks : ℕ} → first ≡ be32 s (entryAt b k + 4) → size ≡ be32 s (entryAt b k + 8)
+        → blocks ≡ be32 s (entryAt b k + 12) → Opens s name (nameRefusal s name) 0 k b first size blocks
+    unfolding nameRefusal entryOf
+    opens-found h p q t =
+        let here : entryAt b k ≡ entryOf s name = st .block h .1 ∙ ap (slotAt (root s)) (st .slot) in
+        record {
+          weighed = rw (← g, ← st .slot, ne-eqb k 0 h);
+          file =
+              λ z. record {
+                found = st .slot;
+                low = st .low;
+                inside = st .block h .0;
+                place = here;
+                start = p ∙ ap (λ (e : ℕ). firstBlock s e) here;
+                bytes = q ∙ ap (λ (e : ℕ). sizeOf s e) here;
+                count = t ∙ ap (λ (e : ℕ). blocksOf s e) here;
+              };
+        }
 
--- the refusal, and the file that was opened
-module _ (s name : List ℕ) where
   pub lookupRefusal-check : (r : ℕ) → r ≡ check s → (r ≡ 0 → ⊥) → r ≡ lookupRefusal s name
   unfolding lookupRefusal
   lookupRefusal-check zero e h = absurd (h refl)
   lookupRefusal-check (suc r) e h = rw (← e)
 
-  module _ (e : check s ≡ 0) where
-    pub lookupRefusal-name : false ≡ goodName name → 9 ≡ lookupRefusal s name
-    unfolding lookupRefusal nameRefusal
-    lookupRefusal-name h = rw (e, ← h)
-
-    module _ (g : true ≡ goodName name) (k : ℕ) (ek : k ≡ fileSlot s (root s) name) where
-      pub lookupRefusal-none : k ≡ 0 → 10 ≡ lookupRefusal s name
-      unfolding lookupRefusal nameRefusal
-      lookupRefusal-none h = rw (e, ← g, ← ek, eq-eqb k 0 h)
-
-      pub opens-found : (k ≡ 0 → ⊥) → (at first size blocks : ℕ) → at ≡ slotAt (root s) k → first ≡ be32 s (at + 4) → size ≡ be32 s (at + 8)
-          → blocks ≡ be32 s (at + 12) → Opens s name 0 first size blocks
-      unfolding lookupRefusal nameRefusal entryOf
-      opens-found h at first size blocks ea ef es eb =
-          record {
-            refusal = rw (e, ← g, ← ek, ne-eqb k 0 h);
-            start = λ z. rw (← ek, ← ea) ef;
-            bytes = λ z. rw (← ek, ← ea) es;
-            count = λ z. rw (← ek, ← ea) eb;
-          }
-
-  pub opens-none : (number : ℕ) → number ≡ lookupRefusal s name → (number ≡ 0 → ⊥) → Opens s name number 0 0 0
-  opens-none number e h = record { refusal = e; start = λ z. absurd (h z); bytes = λ z. absurd (h z); count = λ z. absurd (h z) }
+  pub opens-checked : check s ≡ 0 → {number slot b first size blocks : ℕ} → Opens s name (nameRefusal s name) number slot b first size blocks
+      → Opens s name (lookupRefusal s name) number slot b first size blocks
+  unfolding lookupRefusal
+  opens-checked e o = record { weighed = rw e (o .weighed); file = o .file }
 
 -- a file that was opened
-module _ (s name : List ℕ) (number first size blocks : ℕ) (o : Opens s name number first size blocks) where
+module _ {s name : List ℕ} {number slot b first size blocks : ℕ} (o : Opens s name (lookupRefusal s name) number slot b first size blocks) where
+  pub lookup-refused : (number ≡ 0 → ⊥) → record { number = number; slot = 0; size = 0; blocks = 0 } ≡ lookup s name
+  unfolding lookup
+  lookup-refused h =
+      sym (accept-refused (lookupRefusal s name) _ _ (λ q. h (o .weighed ∙ q)) ∙ rw (← o .weighed))
+
   pub opened-extent-refused : (i : ℕ) → (number ≡ 0 → ⊥) → extentOf s name i ≡ record { start = 0; size = 0 }
-  opened-extent-refused i h = extent-refused s name i (λ q. h (o .refusal ∙ q))
+  opened-extent-refused i h = extent-refused s name i (λ q. h (o .weighed ∙ q))
 
   pub read-refused : (offset : ℕ) (buffer : List ℕ) → (number ≡ 0 → ⊥) → read s name offset buffer ≡ record { number = number; count = 0; buffer = buffer }
   unfolding read readRefusal
-  read-refused offset buffer h = rw (← o .refusal) (go number h)
+  read-refused offset buffer h = rw (← o .weighed) (go number h)
     where
       y : ℕ
       y = require (leb offset (sizeOf s (entryOf s name))) 12 0
@@ -101,32 +100,48 @@ module _ (s name : List ℕ) (number first size blocks : ℕ) (o : Opens s name 
 
   module _ (z : number ≡ 0) where
     accepted : lookupRefusal s name ≡ 0
-    accepted = sym (o .refusal) ∙ z
+    accepted = sym (o .weighed) ∙ z
+
+    loc : Located s name slot b first size blocks
+    loc = o .file z
+
+    pub lookup-opened : record { number = 0; slot = slot; size = size; blocks = blocks } ≡ lookup s name
+    unfolding lookup
+    lookup-opened = rw (accepted, loc .found, loc .bytes, loc .count)
 
     pub opened-blocks : blocks ≡ (size + 511) / 512
-    opened-blocks = o .count z ∙ lookup-file s name accepted .blocks ∙ ap blocksFor (sym (o .bytes z))
+    opened-blocks = loc .count ∙ lookup-file s name accepted .blocks ∙ ap blocksFor (sym (loc .bytes))
+
+    chain-ok : Chain (next s) (blockCount s) first blocks
+    chain-ok = chainOk-split (next s) (blockCount s) first blocks (rw (loc .start, loc .count) (lookup-file s name accepted .chained))
+
+    shaped : Shape s (blockCount s)
+    shaped = sound-shape s (lookup-sound s name accepted)
 
     pub opened-chain : ChainBelow s (blockCount s) first blocks
-    opened-chain =
-        let ok : chainOk (next s) (blockCount s) first blocks ≡ true = rw (o .start z, o .count z) (lookup-file s name accepted .chained) in
-        let c = chainOk-split (next s) (blockCount s) first blocks ok in
-        record { shape = sound-shape s (lookup-sound s name accepted); below = λ i h. rw (getD-chain (next s) first blocks i h) (c .below i h) }
+    opened-chain = record { shape = shaped; below = λ i h. rw (getD-chain (next s) first blocks i h) (chain-ok .below i h) }
+
+    pub opened-small : (blocks ≤ 4096) × (size ≤ 2097152)
+    opened-small =
+        let m = chain-most (next s) (blockCount s) first blocks chain-ok (shaped .low) in
+        let q = opened-blocks in
+        (omega (arith, m, shaped .high), omega (arith, m, q, shaped .high))
 
     pub opened-extent-past : (i : ℕ) → blocks ≤ i → extentOf s name i ≡ record { start = 0; size = 0 }
-    opened-extent-past i h = extent-past s name i (rw (← o .count z) h)
+    opened-extent-past i h = extent-past s name i (rw (← loc .count) h)
 
     pub opened-extent : (i b k : ℕ) → i < blocks → b ≡ getD (chain (next s) first blocks) i 0 → k ≡ min 512 (size - 512 * i)
         → extentOf s name i ≡ record { start = 512 * b; size = k }
     unfolding fileBlocks
-    opened-extent i b k l eb ek = extent-found s name i accepted (rw (← o .count z) l) ∙ rw (← o .start z, ← o .count z, ← o .bytes z, eb, ek)
+    opened-extent i b k l eb ek = extent-found s name i accepted (rw (← loc .count) l) ∙ rw (← loc .start, ← loc .count, ← loc .bytes, eb, ek)
 
     pub read-past : (offset : ℕ) (buffer : List ℕ) → size < offset → read s name offset buffer ≡ record { number = 12; count = 0; buffer = buffer }
     unfolding read readRefusal
-    read-past offset buffer h = rw (accepted, ← o .bytes z, lt-leb offset size h)
+    read-past offset buffer h = rw (accepted, ← loc .bytes, lt-leb offset size h)
 
     content-is : content s (entryOf s name) ≡ take size (chainBytes s first blocks)
     unfolding content fileBlocks
-    content-is = rw (← o .bytes z, ← o .start z, ← o .count z)
+    content-is = rw (← loc .bytes, ← loc .start, ← loc .count)
 
     pub read-done : (offset : ℕ) (buffer : List ℕ) (count : ℕ) → offset ≤ size → count ≡ min (length buffer) (size - offset)
         → read s name offset buffer ≡ record { number = 0; count = count; buffer = splice buffer 0 (take count (drop offset (chainBytes s first blocks))) }
@@ -138,7 +153,7 @@ module _ (s name : List ℕ) (number first size blocks : ℕ) (o : Opens s name 
         let zz : 0 + offset ≡ offset = omega arith in
         let c : part (take size (chainBytes s first blocks)) offset count ≡ part (chainBytes s first blocks) offset count =
         part-part (chainBytes s first blocks) 0 size offset count (omega arith) (omega arith) ∙ ap (λ (j : ℕ). part (chainBytes s first blocks) j count) zz in
-        rw (accepted, ← o .bytes z, le-leb offset size h, ← e, content-is, c)
+        rw (accepted, ← loc .bytes, le-leb offset size h, ← e, content-is, c)
 
     -- the buffer after the part that was lent is filled
     pub read-fills : (offset : ℕ) (buffer : List ℕ) (count k : ℕ) (ys : List ℕ) → offset ≤ size → count ≡ min (length buffer) (size - offset) → k ≡ count

@@ -1,13 +1,23 @@
 -- What opening a file gives.
-use Prim.Native.Nat.{ℕ}
+use Prim.Native.Nat.{ℕ, _<_}
 use mathlib.Core.List.{List}
 use mathlib.Core.Path.{_≡_}
-use Rattle.layout.specs.Directory.{firstBlock, sizeOf, blocksOf}
-use Rattle.layout.specs.Looks.{entryOf, lookupRefusal}
+use Rattle.layout.specs.Geometry.{blockCount}
+use Rattle.layout.specs.Directory.{firstBlock, sizeOf, blocksOf, fileSlot, root}
+use Rattle.layout.specs.Looks.{entryOf}
+use Rattle.layout.specs.Walks.Slots.{entryAt}
 
--- what opening a file gives: its refusal, and if that is 0, its first block, size and blocks
-pub record Opens (s name : List ℕ) (number first size blocks : ℕ) : Type 0 where
-  pub refusal : number ≡ lookupRefusal s name
-  pub start : number ≡ 0 → first ≡ firstBlock s (entryOf s name)
-  pub bytes : number ≡ 0 → size ≡ sizeOf s (entryOf s name)
-  pub count : number ≡ 0 → blocks ≡ blocksOf s (entryOf s name)
+-- the file of a name: its slot, the block that holds its entry, and the entry's numbers
+pub record Located (s name : List ℕ) (slot block first size blocks : ℕ) : Type 0 where
+  pub found : slot ≡ fileSlot s (root s) name
+  pub low : slot < 256
+  pub inside : block < blockCount s
+  pub place : entryAt block slot ≡ entryOf s name
+  pub start : first ≡ firstBlock s (entryOf s name)
+  pub bytes : size ≡ sizeOf s (entryOf s name)
+  pub count : blocks ≡ blocksOf s (entryOf s name)
+
+-- what opening a file gives: the number of its refusal, and if that is 0, the file
+pub record Opens (s name : List ℕ) (refusal number slot block first size blocks : ℕ) : Type 0 where
+  pub weighed : number ≡ refusal
+  pub file : number ≡ 0 → Located s name slot block first size blocks

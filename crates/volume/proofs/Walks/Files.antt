@@ -1,52 +1,25 @@
--- The file of a name on a sound image: its refusals, and what stands when it is opened.
-use Prim.Native.Nat.{ℕ, zero, suc, _+_, _-_, _*_, _/_, _≤_, _<_}
-use mathlib.Core.Path.{_≡_, refl, sym, ap, _∙_}
-use mathlib.Core.Bool.{Bool, true, false, not}
-use mathlib.Core.List.{List, [], _∷_}
+-- The file of a name on a sound image, and what stands when it is opened.
+use Prim.Native.Nat.{ℕ, _/_}
+use mathlib.Core.Path.{_≡_}
+use mathlib.Core.Bool.{true, not}
+use mathlib.Core.List.{List}
 use native.Mathlib.Omega.{arith}
-use lib.ListN.{length, getD}
 use lib.Dec.{eqb}
-use borrow.Author.Tests.{eq-eqb, ne-eqb}
-use Rattle.layout.specs.Bytes.{be32}
 use Rattle.layout.specs.Geometry.{blockCount}
 use Rattle.layout.specs.Table.{next, chain, chainOk}
-use Rattle.layout.specs.Directory.{slotAt, firstBlock, sizeOf, blocksOf, goodName, fileSlot, root, fileBlocks}
+use Rattle.layout.specs.Directory.{goodName, fileSlot, root, fileBlocks}
 use Rattle.layout.specs.Check.{check}
 use Rattle.layout.specs.Looks.{nameRefusal, entryOf}
-use Rattle.volume.specs.Walks.Files.{Opened}
-use Rattle.layout.specs.Walks.Shapes.{Shape, ChainBelow}
-use Rattle.layout.specs.Walks.Slots.{Stands, entryAt}
+use Rattle.layout.specs.Walks.Looks.{Located}
+use Rattle.layout.specs.Walks.Shapes.{ChainBelow}
 use Rattle.layout.proofs.Laws.Tests.{require-zero}
-use Rattle.layout.proofs.Laws.Chains.{getD-chain, Chain, chainOk-split}
+use Rattle.layout.proofs.Laws.Chains.{getD-chain, chainOk-split}
 use Rattle.layout.proofs.Walks.Shapes.{sound-shape}
 use Rattle.layout.proofs.Laws.Files.{File, file-of}
 use Rattle.layout.proofs.Laws.Sound.{sound}
-use Rattle.layout.proofs.Laws.Names.{goodName-length}
-
--- the refusals
-module _ (s name : List ℕ) where
-  pub name-bad : false ≡ goodName name → 9 ≡ nameRefusal s name
-  unfolding nameRefusal
-  name-bad h = rw (← h)
-
-  module _ (g : true ≡ goodName name) (k : ℕ) (e : k ≡ fileSlot s (root s) name) where
-    pub name-none : k ≡ 0 → 10 ≡ nameRefusal s name
-    unfolding nameRefusal
-    name-none h = rw (← g, ← e, eq-eqb k 0 h)
-
-    pub name-there : (k ≡ 0 → ⊥) → 0 ≡ nameRefusal s name
-    unfolding nameRefusal
-    name-there h = rw (← g, ← e, ne-eqb k 0 h)
 
 -- an accepted name
 module _ (s name : List ℕ) (r : nameRefusal s name ≡ 0) where
-  pub good-given : goodName name ≡ true
-  unfolding nameRefusal
-  good-given = require-zero (goodName name) 8 _ r .0
-
-  pub short-given : length name ≤ 79
-  short-given = goodName-length name good-given
-
   slot-given : not (eqb (fileSlot s (root s) name) 0) ≡ true
   unfolding nameRefusal
   slot-given = require-zero (not (eqb (fileSlot s (root s) name) 0)) 9 _ (require-zero (goodName name) 8 _ r .1) .0
@@ -54,31 +27,8 @@ module _ (s name : List ℕ) (r : nameRefusal s name ≡ 0) where
   pub file-of-name : check s ≡ 0 → File s (entryOf s name)
   file-of-name ok = file-of s (sound s ok) name slot-given
 
-  module _ (k b : ℕ) (st : Stands (root s) (blockCount s) (fileSlot s (root s) name) k b) where
-    there : k ≡ 0 → ⊥
-    there e =
-        let z : true ≡ false = sym slot-given ∙ rw (← st .slot, eq-eqb k 0 e) in
-        let y : _≡_ {A = ℕ} 0 1 = cc in omega arith
-
-    pub inside : b < blockCount s
-    inside = st .block there .0
-
-    at-entry : entryAt b k ≡ entryOf s name
-    unfolding entryOf
-    at-entry = st .block there .1 ∙ ap (slotAt (root s)) (st .slot)
-
-    pub located : (first size blocks : ℕ) → first ≡ be32 s (entryAt b k + 4) → size ≡ be32 s (entryAt b k + 8) → blocks ≡ be32 s (entryAt b k + 12) → Opened s name k b first size blocks
-    located first size blocks p q t =
-        record {
-          place = at-entry;
-          inside = inside;
-          start = p ∙ ap (λ (e : ℕ). firstBlock s e) at-entry;
-          bytes = q ∙ ap (λ (e : ℕ). sizeOf s e) at-entry;
-          count = t ∙ ap (λ (e : ℕ). blocksOf s e) at-entry;
-        }
-
 -- a file that was opened
-module _ {s name : List ℕ} {slot b first size blocks : ℕ} (o : Opened s name slot b first size blocks) where
+module _ {s name : List ℕ} {slot b first size blocks : ℕ} (o : Located s name slot b first size blocks) where
   pub entry-block : entryOf s name / 512 ≡ b
   entry-block = rw (← o .place) (omega arith)
 

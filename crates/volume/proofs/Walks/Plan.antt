@@ -13,7 +13,7 @@ use Rattle.layout.specs.Directory.{fileSlot, root, fileBlocks}
 use Rattle.layout.specs.Check.{check}
 use Rattle.layout.specs.Looks.{nameRefusal, entryOf}
 use Rattle.volume.specs.Write.{newSize, needed, newBlocks, writeRefusal}
-use Rattle.volume.specs.Walks.Files.{Opened}
+use Rattle.layout.specs.Walks.Looks.{Located}
 use Rattle.volume.specs.Walks.Searches.{freeFrom, FirstFree}
 use Rattle.volume.specs.Walks.Writes.{Planned}
 use Rattle.volume.proofs.Laws.Accepted.{WriteGiven, write-given, named-slot}
@@ -71,7 +71,7 @@ module _ (s name : List ℕ) (offset count : ℕ) (ok : check s ≡ 0) (r : writ
   given = write-given s name offset count r
 
   -- a file that was opened
-  module _ {slot b first size blocks : ℕ} (o : Opened s name slot b first size blocks) where
+  module _ {slot b first size blocks : ℕ} (o : Located s name slot b first size blocks) where
     pub plan-sizes : (offset ≤ size) × (size ≤ 2097152) × (count ≤ 4096) × (blocks ≡ blocksFor size)
     plan-sizes =
         let g = name-given s name offset count r in

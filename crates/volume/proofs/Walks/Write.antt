@@ -15,7 +15,7 @@ use Rattle.layout.specs.Directory.{goodName, fileSlot, root}
 use Rattle.layout.specs.Check.{check}
 use Rattle.layout.specs.Looks.{nameRefusal, entryOf}
 use Rattle.volume.specs.Write.{newSize, needed, writeAtRefusal, writeRefusal}
-use Rattle.volume.specs.Walks.Files.{Opened}
+use Rattle.layout.specs.Walks.Looks.{Located}
 use Rattle.volume.proofs.Walks.Files.{file-of-name, opened-ok}
 use Rattle.volume.proofs.Theorems.{free-count}
 use Rattle.layout.proofs.Laws.Chains.{chainOk-split}
@@ -41,7 +41,7 @@ module _ (s name : List ℕ) (offset count : ℕ) where
     name-refused zero e h = absurd (h refl)
     name-refused (suc r) e h = sym (by-name ∙ rw (← e))
 
-    module _ (z : nameRefusal s name ≡ 0) {slot b first size blocks : ℕ} (o : Opened s name slot b first size blocks) where
+    module _ (z : nameRefusal s name ≡ 0) {slot b first size blocks : ℕ} (o : Located s name slot b first size blocks) where
       at-entry : writeRefusal s name offset count ≡ writeAtRefusal s (entryOf s name) offset count
       at-entry = by-name ∙ rw z
 
@@ -61,7 +61,7 @@ module _ (s name : List ℕ) (offset count : ℕ) where
         room-there h = sym (decided ∙ rw (le-leb need free h))
 
 -- the sizes of a file that was opened
-module _ {s name : List ℕ} {slot b first size blocks : ℕ} (o : Opened s name slot b first size blocks) (z : nameRefusal s name ≡ 0) (ok : check s ≡ 0) where
+module _ {s name : List ℕ} {slot b first size blocks : ℕ} (o : Located s name slot b first size blocks) (z : nameRefusal s name ≡ 0) (ok : check s ≡ 0) where
   pub blocks-for : blocks ≡ blocksFor size
   blocks-for = o .count ∙ file-of-name s name z ok .blocks ∙ ap blocksFor (sym (o .bytes))
 

@@ -20,7 +20,7 @@ use Rattle.layout.proofs.Laws.Lists.{In, in-left, in-right, in-append, getD-in,
 use Rattle.layout.proofs.Laws.Chains.{nth, nth-add, length-chain, getD-chain}
 use Rattle.volume.specs.Entries.{entriesNamed}
 use Rattle.volume.specs.Write.{newSize, needed, newBlocks, written, changedEntries, writeNamed, writeRefusal}
-use Rattle.volume.specs.Walks.Files.{Opened}
+use Rattle.layout.specs.Walks.Looks.{Located}
 use Rattle.volume.specs.Walks.Marks.{marked}
 use Rattle.volume.proofs.Laws.Accepted.{WriteGiven, write-given}
 use Rattle.volume.proofs.Laws.Frame.{entries-table, entries-zero, entries-of, changed-new, changed-of, taken-written}
@@ -210,7 +210,7 @@ pub write-name : (s name : List ℕ) (offset count : ℕ) → writeRefusal s nam
 unfolding nameRefusal
 write-name s name offset count r = let g = write-given s name offset count r in rw (g .good, ne-eqb (fileSlot s (root s) name) 0 (g .there))
 
-module _ {s name : List ℕ} {slot b first size blocks : ℕ} (o : Opened s name slot b first size blocks) (ok : check s ≡ 0) (offset count : ℕ) (r : writeRefusal s name offset count ≡ 0) where
+module _ {s name : List ℕ} {slot b first size blocks : ℕ} (o : Located s name slot b first size blocks) (ok : check s ≡ 0) (offset count : ℕ) (r : writeRefusal s name offset count ≡ 0) where
   g : WriteGiven s name offset count
   g = write-given s name offset count r
 

@@ -1,24 +1,37 @@
--- The array of marks is zeros 4096 by computation.
-use mathlib.Core.Path.{refl}
-use Rattle.layout.specs.Bytes.{zeros}
+use mathlib.Core.Path.{_∙_}
 use borrow.Author.Needs.{needs}
 use Rattle.journal.proofs.naming.record_create.Statement.{statement}
 use Rattle.journal.proofs.naming.record_create.Tie as tie
 
-slice-aggregate-record-create-with : tie.Need-slice-aggregate-record-create-with
-slice-aggregate-record-create-with c = search needs
+no-marks-requires : tie.Need-no-marks-requires
+no-marks-requires c κs = search needs
 
-record-create-with-requires : tie.Need-record-create-with-requires
-unfolding zeros
-record-create-with-requires c κs = (c .before .before .before .before .pre .0, c .before .before .before .before .pre .1, refl)
+slice-aggregate-create-named : tie.Need-slice-aggregate-create-named
+slice-aggregate-create-named c = search needs
+
+create-named-requires : tie.Need-create-named-requires
+create-named-requires c κs = search needs
+
+slice-aggregate-record-marked : tie.Need-slice-aggregate-record-marked
+slice-aggregate-record-marked c = search needs
+
+record-marked-requires : tie.Need-record-marked-requires
+record-marked-requires c κs = search needs
 
 same-length : tie.Need-same-length
 same-length c = search needs
 
 returns : tie.Need-returns
-returns c = search needs
+returns c = c .before .before .record-marked .ensures _ (c .before .before .before .before .before .before .create-named .ensures ∙ rw (c .before .before .before .before .before .before .before .before .no-marks .ensures))
 
 pub record-create-spec : {M : Type 1} → statement M
 record-create-spec =
     tie.close
-    (tie.spec slice-aggregate-record-create-with record-create-with-requires same-length returns)
+    (tie.spec
+    no-marks-requires
+    slice-aggregate-create-named
+    create-named-requires
+    slice-aggregate-record-marked
+    record-marked-requires
+    same-length
+    returns)

@@ -1,23 +1,37 @@
-use mathlib.Core.Path.{refl}
-use Rattle.layout.specs.Bytes.{zeros}
+use mathlib.Core.Path.{_∙_}
 use borrow.Author.Needs.{needs}
 use Rattle.journal.proofs.naming.record_delete.Statement.{statement}
 use Rattle.journal.proofs.naming.record_delete.Tie as tie
 
-slice-aggregate-record-delete-with : tie.Need-slice-aggregate-record-delete-with
-slice-aggregate-record-delete-with c = search needs
+no-marks-requires : tie.Need-no-marks-requires
+no-marks-requires c κs = search needs
 
-record-delete-with-requires : tie.Need-record-delete-with-requires
-unfolding zeros
-record-delete-with-requires c κs = (c .before .before .before .before .before .pre .0, c .before .before .before .before .before .pre .1, refl)
+slice-aggregate-delete-named : tie.Need-slice-aggregate-delete-named
+slice-aggregate-delete-named c = search needs
+
+delete-named-requires : tie.Need-delete-named-requires
+delete-named-requires c κs = search needs
+
+slice-aggregate-record-marked : tie.Need-slice-aggregate-record-marked
+slice-aggregate-record-marked c = search needs
+
+record-marked-requires : tie.Need-record-marked-requires
+record-marked-requires c κs = search needs
 
 same-length : tie.Need-same-length
 same-length c = search needs
 
 returns : tie.Need-returns
-returns c = search needs
+returns c = c .before .before .record-marked .ensures _ (c .before .before .before .before .before .before .delete-named .ensures ∙ rw (c .before .before .before .before .before .before .before .before .no-marks .ensures))
 
 pub record-delete-spec : {M : Type 1} → statement M
 record-delete-spec =
     tie.close
-    (tie.spec slice-aggregate-record-delete-with record-delete-with-requires same-length returns)
+    (tie.spec
+    no-marks-requires
+    slice-aggregate-delete-named
+    delete-named-requires
+    slice-aggregate-record-marked
+    record-marked-requires
+    same-length
+    returns)

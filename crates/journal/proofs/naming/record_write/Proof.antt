@@ -1,23 +1,37 @@
-use mathlib.Core.Path.{refl}
-use Rattle.layout.specs.Bytes.{zeros}
+use mathlib.Core.Path.{_∙_}
 use borrow.Author.Needs.{needs}
 use Rattle.journal.proofs.naming.record_write.Statement.{statement}
 use Rattle.journal.proofs.naming.record_write.Tie as tie
 
-slice-aggregate-record-write-with : tie.Need-slice-aggregate-record-write-with
-slice-aggregate-record-write-with c = search needs
+no-marks-requires : tie.Need-no-marks-requires
+no-marks-requires c κs = search needs
 
-record-write-with-requires : tie.Need-record-write-with-requires
-unfolding zeros
-record-write-with-requires c κs = (c .before .before .before .before .before .pre .0, c .before .before .before .before .before .pre .1, refl)
+slice-aggregate-write-named : tie.Need-slice-aggregate-write-named
+slice-aggregate-write-named c = search needs
+
+write-named-requires : tie.Need-write-named-requires
+write-named-requires c κs = search needs
+
+slice-aggregate-record-marked : tie.Need-slice-aggregate-record-marked
+slice-aggregate-record-marked c = search needs
+
+record-marked-requires : tie.Need-record-marked-requires
+record-marked-requires c κs = search needs
 
 same-length : tie.Need-same-length
 same-length c = search needs
 
 returns : tie.Need-returns
-returns c = search needs
+returns c = c .before .before .record-marked .ensures _ (c .before .before .before .before .before .before .write-named .ensures ∙ rw (c .before .before .before .before .before .before .before .before .no-marks .ensures))
 
 pub record-write-spec : {M : Type 1} → statement M
 record-write-spec =
     tie.close
-    (tie.spec slice-aggregate-record-write-with record-write-with-requires same-length returns)
+    (tie.spec
+    no-marks-requires
+    slice-aggregate-write-named
+    write-named-requires
+    slice-aggregate-record-marked
+    record-marked-requires
+    same-length
+    returns)

@@ -4,7 +4,7 @@ use Prim.Native.Nat.{_≤_, _+_, _-_, _*_}
 use native.Mathlib.Omega.{arith}
 use native.Mathlib.Nat.{sub-zero}
 use lib.ListN.{length}
-use Rattle.journal.specs.Walks.{markedFrom}
+use Rattle.journal.specs.Walks.Saves.{markedFrom}
 use Rattle.journal.proofs.recording.record_size.Statement.{statement}
 use Rattle.journal.proofs.recording.record_size.Tie as tie
 use Rattle.journal.proofs.Walks.Marked.{marked-skip, marked-take, marked-done}

@@ -4,7 +4,7 @@ use Prim.Native.Nat.{_≤_, _-_}
 use native.Mathlib.Nat.{sub-zero}
 use native.Mathlib.Omega.{arith}
 use borrow.Author.Needs.{needs}
-use Rattle.journal.specs.Walks.{numbersOk}
+use Rattle.journal.specs.Walks.Scanning.{numbersOk}
 use Rattle.journal.proofs.scan.numbers_ok.Statement.{statement}
 use Rattle.journal.proofs.scan.numbers_ok.Tie as tie
 use Rattle.journal.proofs.Walks.Scanning.{numbers-low, numbers-high, numbers-step, numbers-end}

@@ -11,42 +11,36 @@ open-file-requires c κs = search needs
 
 returns : tie.Need-returns
 returns c =
-    let e = opened-extent-refused (c .before .before .before .before .args .image .now) (c .before .before .before .before .args .name .now) _ _ _ _
-    (c .before .open-file .ensures) (c .before .before .before .before .args .index) (c .if1 .taken) in
+    let e = opened-extent-refused (c .before .open-file .ensures) (c .before .before .before .before .args .index) (c .if1 .taken) in
     (sym (ap (λ (x : Extent). x .start) e), sym (ap (λ (x : Extent). x .size) e), omega arith)
 
 returns-2 : tie.Need-returns-2
 returns-2 c =
-    let e = opened-extent-past (c .before .before .before .before .before .args .image .now)
-    (c .before .before .before .before .before .args .name .now) _ _ _ _ (c .before .before .open-file .ensures) (c .before .if1 .left)
+    let e = opened-extent-past (c .before .before .open-file .ensures) (c .before .if1 .left)
     (c .before .before .before .before .before .args .index) (c .if2 .taken) in
     (sym (ap (λ (x : Extent). x .start) e), sym (ap (λ (x : Extent). x .size) e), omega arith)
 
 nth-requires : tie.Need-nth-requires
 nth-requires c κs = (
-  opened-chain (c .before .before .before .before .before .args .image .now) (c .before .before .before .before .before .args .name .now) _ _ _ _
-      (c .before .before .open-file .ensures) (c .before .if1 .left),
+  opened-chain (c .before .before .open-file .ensures) (c .before .if1 .left),
   omega arith,
 )
 
 mul-left : tie.Need-mul-left
 mul-left c =
-    let q = opened-blocks (c .before .before .before .before .before .before .args .image .now)
-    (c .before .before .before .before .before .before .args .name .now) _ _ _ _ (c .before .before .before .open-file .ensures)
+    let q = opened-blocks (c .before .before .before .open-file .ensures)
     (c .before .before .if1 .left) in
     omega arith
 
 sub-left : tie.Need-sub-left
 sub-left c =
-    let q = opened-blocks (c .before .before .before .before .before .before .args .image .now)
-    (c .before .before .before .before .before .before .args .name .now) _ _ _ _ (c .before .before .before .open-file .ensures)
+    let q = opened-blocks (c .before .before .before .open-file .ensures)
     (c .before .before .if1 .left) in
     omega arith
 
 mul-t13 : tie.Need-mul-t13
 mul-t13 c =
-    let r = opened-chain (c .before .before .before .before .before .before .args .image .now)
-    (c .before .before .before .before .before .before .args .name .now) _ _ _ _ (c .before .before .before .open-file .ensures)
+    let r = opened-chain (c .before .before .before .open-file .ensures)
     (c .before .before .if1 .left) in
     let h = r .below (c .before .before .before .before .before .before .args .index) (omega arith) in
     let e = c .nth .ensures in
@@ -57,13 +51,11 @@ at-most-block-requires c κs = search needs
 
 returns-3 : tie.Need-returns-3
 returns-3 c =
-    let r = opened-chain (c .before .before .before .before .before .before .before .args .image .now)
-    (c .before .before .before .before .before .before .before .args .name .now) _ _ _ _ (c .before .before .before .before .open-file .ensures)
+    let r = opened-chain (c .before .before .before .before .open-file .ensures)
     (c .before .before .before .if1 .left) in
     let h = r .below (c .before .before .before .before .before .before .before .args .index) (omega arith) in
     let e = c .before .nth .ensures in
-    let x = opened-extent (c .before .before .before .before .before .before .before .args .image .now)
-    (c .before .before .before .before .before .before .before .args .name .now) _ _ _ _ (c .before .before .before .before .open-file .ensures)
+    let x = opened-extent (c .before .before .before .before .open-file .ensures)
     (c .before .before .before .if1 .left) (c .before .before .before .before .before .before .before .args .index) (c .before .nth .result)
     (c .at-most-block .result) (omega arith) e (c .at-most-block .ensures) in
     (sym (ap (λ (y : Extent). y .start) x), sym (ap (λ (y : Extent). y .size) x), omega arith)

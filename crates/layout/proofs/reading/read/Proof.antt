@@ -11,14 +11,12 @@ open-file-requires c κs = search needs
 
 returns : tie.Need-returns
 returns c =
-    sym (read-refused (c .before .before .before .before .before .args .image .now) (c .before .before .before .before .before .args .name .now) _ _ _ _
-    (c .before .open-file .ensures) (c .before .before .before .before .before .args .offset) (c .before .before .before .before .before .args .buffer .now)
+    sym (read-refused (c .before .open-file .ensures) (c .before .before .before .before .before .args .offset) (c .before .before .before .before .before .args .buffer .now)
     (c .if1 .taken))
 
 returns-2 : tie.Need-returns-2
 returns-2 c =
-    sym (read-past (c .before .before .before .before .before .before .args .image .now)
-    (c .before .before .before .before .before .before .args .name .now) _ _ _ _ (c .before .before .open-file .ensures) (c .before .if1 .left)
+    sym (read-past (c .before .before .open-file .ensures) (c .before .if1 .left)
     (c .before .before .before .before .before .before .args .offset) (c .before .before .before .before .before .before .args .buffer .now) (c .if2 .taken))
 
 least-requires : tie.Need-least-requires
@@ -35,11 +33,9 @@ part-read-chain-end c = search needs
 
 read-chain-requires : tie.Need-read-chain-requires
 read-chain-requires c κs = (
-  opened-chain (c .before .before .before .before .before .before .before .before .args .image .now)
-      (c .before .before .before .before .before .before .before .before .args .name .now) _ _ _ _ (c .before .before .before .before .open-file .ensures)
+  opened-chain (c .before .before .before .before .open-file .ensures)
       (c .before .before .before .if1 .left),
-  read-room (c .before .before .before .before .before .before .before .before .args .image .now)
-      (c .before .before .before .before .before .before .before .before .args .name .now) _ _ _ _ (c .before .before .before .before .open-file .ensures)
+  read-room (c .before .before .before .before .open-file .ensures)
       (c .before .before .before .if1 .left) (c .before .before .before .before .before .before .before .before .args .offset)
       (c .before .before .before .before .before .before .before .before .args .buffer .now) (c .before .least .result) (c .before .least .result - 0)
       (c .before .before .if2 .left) (c .before .least .ensures) (omega arith),
@@ -50,9 +46,7 @@ same-length c = search needs
 
 returns-3 : tie.Need-returns-3
 returns-3 c =
-    read-fills (c .before .before .before .before .before .before .before .before .before .before .before .args .image .now)
-    (c .before .before .before .before .before .before .before .before .before .before .before .args .name .now) _ _ _ _
-    (c .before .before .before .before .before .before .before .open-file .ensures) (c .before .before .before .before .before .before .if1 .left)
+    read-fills (c .before .before .before .before .before .before .before .open-file .ensures) (c .before .before .before .before .before .before .if1 .left)
     (c .before .before .before .before .before .before .before .before .before .before .before .args .offset)
     (c .before .before .before .before .before .before .before .before .before .before .before .args .buffer .now)
     (c .before .before .before .before .least .result) (c .before .before .before .before .least .result - 0) _

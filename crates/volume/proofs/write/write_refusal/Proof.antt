@@ -9,44 +9,50 @@ use Rattle.layout.proofs.Walks.Shapes.{sound-shape}
 returns : tie.Need-returns
 returns c = data-long _ _ _ _ (c .if1 .taken)
 
-name-refusal-requires : tie.Need-name-refusal-requires
-name-refusal-requires c κs = search needs
+open-file-requires : tie.Need-open-file-requires
+open-file-requires c κs = search needs
 
 returns-2 : tie.Need-returns-2
-returns-2 c = name-refused _ _ _ _ (omega arith) _ (c .before .name-refusal .ensures) (c .if2 .taken)
-
-locate-requires : tie.Need-locate-requires
-locate-requires c κs = (c .before .before .before .before .before .pre, sym (c .before .name-refusal .ensures) ∙ c .if2 .left)
+returns-2 c = name-refused _ _ _ _ (omega arith) _ (c .before .open-file .ensures .weighed) (c .if2 .taken)
 
 returns-3 : tie.Need-returns-3
-returns-3 c = offset-far _ _ _ _ (omega arith) (sym (c .before .before .before .name-refusal .ensures) ∙ c .before .before .if2 .left) (c .before .locate .ensures) (c .if3 .taken)
+returns-3 c =
+    let o = c .before .before .open-file .ensures in
+    offset-far _ _ _ _ (omega arith) (sym (o .weighed) ∙ c .before .if2 .left) (o .file (c .before .if2 .left)) (c .if3 .taken)
 
 header-number-requires : tie.Need-header-number-requires
 header-number-requires c κs =
-    let h = sound-shape _ (c .before .before .before .before .before .before .before .pre) in
+    let h = sound-shape _ (c .before .before .before .before .before .before .pre) in
     (omega arith, omega arith)
 
 needed-requires : tie.Need-needed-requires
 needed-requires c κs =
-    let z = sym (c .before .before .before .before .name-refusal .ensures) ∙ c .before .before .before .if2 .left in
-    let p = blocks-for (c .before .before .locate .ensures) z (c .before .before .before .before .before .before .before .before .pre) in
-    let q = blocks-most (c .before .before .locate .ensures) z (c .before .before .before .before .before .before .before .before .pre) in
+    let o = c .before .before .before .open-file .ensures in
+    let f = o .file (c .before .before .if2 .left) in
+    let z = sym (o .weighed) ∙ c .before .before .if2 .left in
+    let p = blocks-for f z (c .before .before .before .before .before .before .before .pre) in
+    let q = blocks-most f z (c .before .before .before .before .before .before .before .pre) in
     (omega arith, omega arith, omega arith, omega arith)
 
 returns-4 : tie.Need-returns-4
-returns-4 c = room-none _ _ _ _ (omega arith) (sym (c .before .before .before .before .before .before .name-refusal .ensures) ∙ c .before .before .before .before .before .if2 .left) (c .before .before .before .before .locate .ensures) (c .before .before .before .before .before .before .before .before .before .before .pre) (omega arith) _ _ (c .before .before .header-number .ensures) (c .before .needed .ensures) (c .if4 .taken)
+returns-4 c =
+    let o = c .before .before .before .before .before .open-file .ensures in
+    let f = o .file (c .before .before .before .before .if2 .left) in
+    room-none _ _ _ _ (omega arith) (sym (o .weighed) ∙ c .before .before .before .before .if2 .left) f (c .before .before .before .before .before .before .before .before .before .pre) (omega arith) _ _ (c .before .before .header-number .ensures) (c .before .needed .ensures) (c .if4 .taken)
 
 returns-5 : tie.Need-returns-5
-returns-5 c = room-there _ _ _ _ (omega arith) (sym (c .before .before .before .before .before .before .name-refusal .ensures) ∙ c .before .before .before .before .before .if2 .left) (c .before .before .before .before .locate .ensures) (c .before .before .before .before .before .before .before .before .before .before .pre) (omega arith) _ _ (c .before .before .header-number .ensures) (c .before .needed .ensures) (c .if4 .left)
+returns-5 c =
+    let o = c .before .before .before .before .before .open-file .ensures in
+    let f = o .file (c .before .before .before .before .if2 .left) in
+    room-there _ _ _ _ (omega arith) (sym (o .weighed) ∙ c .before .before .before .before .if2 .left) f (c .before .before .before .before .before .before .before .before .before .pre) (omega arith) _ _ (c .before .before .header-number .ensures) (c .before .needed .ensures) (c .if4 .left)
 
 pub write-refusal-spec : {M : Type 1} → statement M
 write-refusal-spec =
     tie.close
     (tie.spec
     returns
-    name-refusal-requires
+    open-file-requires
     returns-2
-    locate-requires
     returns-3
     header-number-requires
     needed-requires

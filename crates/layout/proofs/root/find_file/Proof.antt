@@ -6,8 +6,8 @@ use Rattle.layout.specs.Geometry.{blockCount}
 use Rattle.layout.specs.Directory.{fileSlot}
 use Rattle.layout.specs.Walks.Slots.{Stands}
 use Rattle.layout.proofs.Walks.Shapes.{sound-shape, sound-root, sound-directory}
-use Rattle.layout.proofs.reading.find_file.Statement.{statement}
-use Rattle.layout.proofs.reading.find_file.Tie as tie
+use Rattle.layout.proofs.root.find_file.Statement.{statement}
+use Rattle.layout.proofs.root.find_file.Tie as tie
 
 add-first : tie.Need-add-first
 add-first c = omega arith

@@ -1,4 +1,4 @@
--- What the functions of the runner hand on to each other. (Code-facing: no rule of the script.)
+-- What the functions of the runner hand on to each other.
 use Prim.Native.Nat.{ℕ}
 use mathlib.Core.Path.{_≡_}
 use mathlib.Core.List.{List}

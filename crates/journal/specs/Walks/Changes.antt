@@ -1,0 +1,32 @@
+-- What a change weighs first, and what recording it gives.
+use Prim.Native.Nat.{ℕ, _+_}
+use mathlib.Core.Path.{_≡_}
+use mathlib.Core.List.{List}
+use mathlib.Core.Bool.{true}
+use lib.ListN.{length}
+use lib.Dec.{leb}
+use Rattle.layout.specs.Refusals.{require, firstOf, accept}
+use Rattle.layout.specs.Geometry.{blockCount}
+use Rattle.layout.specs.Check.{check}
+use Rattle.journal.specs.Run.{State}
+use Rattle.journal.specs.Journal.{used, wellFormed, ascending, recordBytes, added}
+
+-- the refusals 1 to 8, which every change weighs first; and what holds where they are passed
+unfoldable pub readyRefusal : State → ℕ
+readyRefusal p = firstOf (check (p .image)) (require (wellFormed (p .journal) (blockCount (p .image))) 8 0)
+
+pub record Ready (s j : List ℕ) : Type 0 where
+  pub sound : check s ≡ 0
+  pub well-formed : wellFormed j (blockCount s) ≡ true
+
+-- the record of named blocks
+abbrev pub recordNamed : List ℕ → List ℕ → List ℕ
+recordNamed s named = recordBytes s (ascending (blockCount s) named)
+
+-- What recording gives: the length of the record and the journal with it; or 0 and the journal as it was, if there is no room (15).
+unfoldable pub roomRefusal : List ℕ → List ℕ → ℕ
+roomRefusal j r = require (leb (used j + length r) (length j)) 15 0
+
+pub record Recorded (j r : List ℕ) (size : ℕ) (new : List ℕ) : Type 0 where
+  pub length-given : size ≡ accept (roomRefusal j r) (length r) 0
+  pub journal-after : new ≡ accept (roomRefusal j r) (added j r) j
