@@ -1,6 +1,6 @@
 -- What looking up, reading and looking in place give.
 use Prim.Native.Nat.{ℕ, _+_, _-_, _*_, _≤_, _<_, min}
-use mathlib.Core.Bool.{not}
+use mathlib.Core.Bool.{not, true}
 use mathlib.Core.List.{List, []}
 use mathlib.Core.Logic.{_⊎_, inl, inr, _≢_}
 use mathlib.Core.Path.{_≡_, sym, ap, _∙_}
@@ -9,15 +9,32 @@ use native.Mathlib.Omega.{arith}
 use lib.Dec.{eqb}
 use lib.ListN.{length, getD, take}
 use lib.Seq.{take-all}
-use borrow.Author.Tests.{le-leb, le-ltb, lt-ltb}
+use borrow.Author.Tests.{le-leb, le-ltb, lt-ltb, eqb-false, not-true}
+use Rattle.layout.specs.Bytes.{part}
 use Rattle.layout.specs.Directory.{sizeOf, blocksOf, goodName, fileSlot, root, fileBlocks, content}
 use Rattle.layout.specs.Check.{check}
 use Rattle.layout.specs.Looks.{nameRefusal, entryOf, lookupRefusal, readRefusal, read, extentOf, lookInPlace}
 use Rattle.layout.proofs.Laws.Bytes.{length-part, splice-whole}
-use Rattle.layout.proofs.Laws.Files.{File, file-of, file-blocks, length-fileBlocks, length-content}
+use Rattle.layout.proofs.Laws.Files.{File, file-of, length-fileBlocks, length-content, file-inside, content-part}
 use Rattle.layout.proofs.Laws.Lists.{getD-in}
 use Rattle.layout.proofs.Laws.Sound.{sound}
 use Rattle.layout.proofs.Laws.Tests.{lt-or-ge, require-zero, firstOf-zero, accept-refused, accept-same}
+
+-- what an accepted name has
+pub good-given : (s name : List ℕ) → nameRefusal s name ≡ 0 → goodName name ≡ true
+unfolding nameRefusal
+good-given s name r = require-zero (goodName name) 8 _ r .0
+
+pub file-given : (s name : List ℕ) → nameRefusal s name ≡ 0 → fileSlot s (root s) name ≢ 0
+unfolding nameRefusal
+file-given s name r =
+    let a = require-zero (goodName name) 8 _ r in
+    let b = require-zero (not (eqb (fileSlot s (root s) name) 0)) 9 _ (a .1) in
+    eqb-false _ _ (not-true _ (b .0))
+
+pub lookup-given : (s name : List ℕ) → lookupRefusal s name ≡ 0 → fileSlot s (root s) name ≢ 0
+unfolding lookupRefusal
+lookup-given s name r = file-given s name (firstOf-zero (check s) (nameRefusal s name) r .1)
 
 -- an accepted look up: the image is sound, and the file is there
 module _ (s name : List ℕ) (ok : lookupRefusal s name ≡ 0) where
@@ -26,12 +43,7 @@ module _ (s name : List ℕ) (ok : lookupRefusal s name ≡ 0) where
   lookup-sound = firstOf-zero (check s) (nameRefusal s name) ok .0
 
   pub lookup-file : File s (entryOf s name)
-  unfolding lookupRefusal nameRefusal
-  lookup-file =
-      let a = firstOf-zero (check s) (nameRefusal s name) ok in
-      let b = require-zero (goodName name) 8 _ (a .1) in
-      let c = require-zero (not (eqb (fileSlot s (root s) name) 0)) 9 0 (b .1) in
-      file-of s (sound s (a .0)) name (c .0)
+  lookup-file = file-of s (sound s lookup-sound) name (lookup-given s name ok)
 
   -- a read of the whole file gives its content
   pub read-whole : (buffer : List ℕ) → length buffer ≡ sizeOf s (entryOf s name)
@@ -70,8 +82,16 @@ module _ (s name : List ℕ) (i : ℕ) where
       go (yes ok) (inl h) =
           let S = sound s (lookup-sound s name ok) in
           let e = entryOf s name in
-          let m = getD-in (fileBlocks s e) i 0 (omega (arith, length-fileBlocks s S e)) in
-          rw (extent-found ok h) (omega (arith, file-blocks s S e _ (lookup-file s name ok) m, S .whole))
+          let m = getD-in (fileBlocks s e) i 0 (omega (arith, length-fileBlocks s e)) in
+          rw (extent-found ok h) (omega (arith, file-inside s S e _ (lookup-file s name ok) m, S .whole))
+
+  -- that part of the file's content
+  pub look-content : lookupRefusal s name ≡ 0 → i < blocksOf s (entryOf s name)
+      → lookInPlace s name i ≡ part (content s (entryOf s name)) (512 * i) (min 512 (sizeOf s (entryOf s name) - 512 * i))
+  unfolding lookInPlace
+  look-content ok h =
+      rw (extent-found ok h)
+      (content-part s (sound s (lookup-sound s name ok)) (entryOf s name) (lookup-file s name ok) i (min 512 (sizeOf s (entryOf s name) - 512 * i)) h (omega arith) (omega arith))
 
   pub length-look : length (lookInPlace s name i) ≡ extentOf s name i .size
   unfolding lookInPlace

@@ -12,16 +12,16 @@ use Rattle.layout.specs.Directory.{slotAt, typeOf, blocksOf, isFree, isFile, pa
 use Rattle.layout.specs.Check.{attributesOk, fileOk, slotOk, check}
 use Rattle.volume.specs.Entries.{entryBytes}
 use Rattle.volume.specs.Create.{createRefusal, createSlot, createImage}
-use Rattle.volume.proofs.Laws.Steps.{midway-start, midway-end}
-use Rattle.volume.proofs.Laws.Entries.{padded-length, name-is, name-ok, entry-type, entry-first, entry-size, entry-blocks, entry-attribute, entry-attribute-size, entry-named, entry-length}
-use Rattle.volume.proofs.Laws.Accepted.{unnamed, free-slot, create-given, CreateGiven}
-use Rattle.volume.proofs.Laws.Others.{Others, found-new, slot-changed}
+use Rattle.volume.proofs.Laws.Entries.{entry-type, entry-first, entry-size, entry-blocks, entry-attribute, entry-attribute-size, entry-named, entry-length}
+use Rattle.volume.proofs.Laws.Accepted.{create-given, CreateGiven}
 use Rattle.layout.proofs.Laws.Bytes.{length-splice, part-same, getD-splice-inside}
 use Rattle.layout.proofs.Laws.Tests.{and-join, is-false}
-use Rattle.layout.proofs.Laws.Names.{same-refl}
+use Rattle.layout.proofs.Laws.Names.{same-refl, padded-length, name-is, name-ok}
 use Rattle.layout.proofs.Laws.Frames.{same-beside, Same}
 use Rattle.layout.proofs.Laws.Sound.{held, firstAt, heldAt, dirSize, file-held, Sound, sound, check-zero}
-use Rattle.layout.proofs.Laws.Files.{slot-high}
+use Rattle.layout.proofs.Laws.Files.{slot-high, unnamed, free-slot}
+use Rattle.layout.proofs.Laws.Steps.{midway-start, midway-end}
+use Rattle.layout.proofs.Laws.Others.{Others, found-new, slot-changed}
 
 module _ (s : List ℕ) (S : Sound s) (name : List ℕ) (type user group permissions flags time : ℕ) (given : CreateGiven s name type) where
   abbrev k : ℕ

@@ -1,49 +1,29 @@
 -- The bytes of blocks in order: what put makes of them, and that blocks just taken are zero.
-use Prim.Native.Nat.{ℕ, suc, _+_, _-_, _*_, _≤_, _<_, zero}
+use Prim.Native.Nat.{ℕ, suc, _+_, _-_, _*_, _≤_, _<_}
 use mathlib.Core.Path.{_≡_, refl, sym, _∙_}
 use mathlib.Core.Bool.{true}
 use mathlib.Core.List.{List, _∷_, [], _++_}
 use mathlib.Core.Logic.{inl, inr, _⊎_, ⊎-elim}
 use native.Mathlib.Omega.{arith}
-use lib.Seq.{take-at, drop-append-add, take-all}
-use lib.ListN.{getD, length, take, drop, length-append, length-take, length-drop}
+use lib.Seq.{take-all}
+use lib.ListN.{length, take, drop, length-take, length-drop}
 use lib.Dec.{eqb}
-use Rattle.layout.specs.Bytes.{part, be32, zeros, block, splice}
+use Rattle.layout.specs.Bytes.{be32, zeros, block, splice}
 use Rattle.layout.specs.Lists.{joined, distinct}
 use Rattle.layout.specs.Geometry.{tableBlocks}
 use Rattle.layout.specs.Table.{setNext}
 use Rattle.volume.specs.Entries.{linked, taken, grown, entriesNamed}
 use Rattle.volume.specs.Write.{put, changedEntries}
-use Rattle.volume.proofs.Laws.Lists.{head-apart, tail-distinct, in-single}
-use Rattle.volume.proofs.Laws.Table.{set-next-same, set-occupied-same, linked-same, cleared-length, set-length, link-length, taken-length}
-use Rattle.volume.proofs.Laws.Bytes.{splice-second, splice-across}
-use Rattle.volume.proofs.Laws.Frame.{Agree, entries-low, changed-below, written-in, splice-agree, grown-agree, put-agree, agree-block}
-use Rattle.layout.proofs.Laws.Bytes.{length-zeros, zeros-none, splice-nil, zeros-add, length-block, getD-splice-inside, part-same, part-splice-inside}
-use Rattle.layout.proofs.Laws.Lists.{In, in-append}
+use Rattle.volume.proofs.Laws.Table.{set-occupied-same, linked-same, cleared-length, set-length, link-length, taken-length}
+use Rattle.volume.proofs.Laws.Frame.{entries-low, changed-below, written-in, grown-agree, put-agree}
+use Rattle.layout.proofs.Laws.Bytes.{length-zeros, zeros-none, splice-nil, zeros-add, length-block, getD-splice-inside, part-same, part-splice-inside, splice-second, splice-across}
+use Rattle.layout.proofs.Laws.Lists.{In, in-append, head-apart, tail-distinct, in-single, joined-same}
 use Rattle.layout.proofs.Laws.Tests.{lt-or-ge}
-use Rattle.layout.proofs.Laws.Frames.{same-then}
-
--- the bytes of blocks that stay
-pub joined-same : (bs s s′ : List ℕ) → ((q : ℕ) → In q bs → block s′ q ≡ block s q) → joined (block s′) bs ≡ joined (block s) bs
-joined-same [] s s′ f = refl
-joined-same (q ∷ bs) s s′ f = rw (f q (inl refl), joined-same bs s s′ (λ x m. f x (inr m)))
+use Rattle.layout.proofs.Laws.Frames.{same-then, set-next-same, Agree, splice-agree, agree-block}
+use Rattle.layout.proofs.Laws.Files.{length-blocks}
 
 -- in an image of n blocks
 module _ (n : ℕ) (n₁ : 3 ≤ n) where
-  pub length-joined : (bs s : List ℕ) → length s ≡ 512 * n → ((q : ℕ) → In q bs → q < n) → length (joined (block s) bs) ≡ 512 * length bs
-  length-joined [] s len h = refl
-  length-joined (q ∷ bs) s len h =
-      let i : 512 * q + 512 ≤ length s = omega (arith, h q (inl refl)) in
-      length-append (block s q) (joined (block s) bs) ∙ (let a = length-block s q i in let b = length-joined bs s len (λ x m. h x (inr m)) in omega arith)
-
-  -- the i-th of them
-  pub joined-block : (bs s : List ℕ) → length s ≡ 512 * n → ((q : ℕ) → In q bs → q < n) → (i : ℕ) → i < length bs → part (joined (block s) bs) (512 * i) 512 ≡ block s (getD bs i 0)
-  joined-block [] s len h i g = absurd (omega arith)
-  joined-block (q ∷ bs) s len h zero g = take-at (block s q) (joined (block s) bs) 512 (length-block s q (omega (arith, h q (inl refl))))
-  joined-block (q ∷ bs) s len h (suc i) g =
-      let e : 512 * suc i ≡ length (block s q) + 512 * i = omega (arith, length-block s q (omega (arith, h q (inl refl)))) in
-      rw (e, drop-append-add (block s q) (joined (block s) bs) (512 * i)) (joined-block bs s len (λ x m. h x (inr m)) i (omega arith))
-
   -- put leaves the other blocks
   pub put-outside : (b : ℕ) (bs s : List ℕ) (o : ℕ) (bytes : List ℕ) → length s ≡ 512 * n → ((q : ℕ) → In q bs → q < n) → (In b bs → ⊥) → block (put s bs o bytes) b ≡ block s b
   put-outside b bs s o bytes len h f = agree-block b (put-agree n n₁ bs s o bytes len h) (λ i. f (written-in bs o (length bytes) b i))
@@ -73,7 +53,7 @@ module _ (n : ℕ) (n₁ : 3 ≤ n) where
       qs = omega (arith, h q (inl refl))
 
       all : (s : List ℕ) → length s ≡ 512 * n → ((x : ℕ) → In x bs → x < n) → length (joined (block s) bs) ≡ 512 * length bs
-      all = length-joined bs
+      all s len f = length-blocks s bs (λ x m. omega (arith, f x m))
 
       lq : length (block s q) ≡ 512
       lq = length-block s q qs
@@ -95,11 +75,11 @@ module _ (n : ℕ) (n₁ : 3 ≤ n) where
           let lp = length-take (512 - o) bytes in
           let lm : length more ≡ length bytes - (512 - o) = length-drop (512 - o) bytes in
           let z : o - 512 ≡ 0 = omega arith in
-          let put-in : Agree s u (q ∷ []) = splice-agree n n₁ s q (512 * q + o) p len (h q (inl refl)) (omega arith) (omega arith) in
+          let put-in : Agree s u (q ∷ []) = splice-agree s q (512 * q + o) p (omega (arith, qs)) (omega arith) (omega arith) in
           let lu : length u ≡ 512 * n = put-in .size ∙ len in
           let a : block (put u bs (o - 512) more) q ≡ splice (block s q) o p = first u lu (o - 512) more ∙ part-splice-inside s (512 * q) 512 o p qs (omega arith) in
           let same : joined (block u) bs ≡ joined (block s) bs =
-          joined-same bs s u (λ x m. agree-block x put-in (λ i. head-apart q bs d (in-single x bs m q (⊎-elim (λ e. inl (sym e)) (λ j. absurd j) i)))) in
+          joined-same (block s) (block u) bs (λ x m. agree-block x put-in (λ i. head-apart q bs d (in-single x bs m q (⊎-elim (λ e. inl (sym e)) (λ j. absurd j) i)))) in
           let b : joined (block (put u bs (o - 512) more)) bs ≡ splice (joined (block s) bs) 0 more = ih u (o - 512) more lu hs d₂ (omega arith) ∙ rw (z, same) in
           rw (a, b) (rw lq at (sym (splice-across (block s q) (joined (block s) bs) o bytes (omega (arith, lq)) (omega (arith, lq, all s len hs)))))
 

@@ -15,21 +15,21 @@ use Rattle.layout.specs.Check.{slotOk, check}
 use Rattle.layout.specs.Looks.{nameRefusal, entryOf}
 use Rattle.volume.specs.Entries.{released, setOccupied, freed}
 use Rattle.volume.specs.Delete.{deleteAt}
-use Rattle.volume.proofs.Laws.Steps.{Midway, midway-start, dir-apart, over, over-same, over-other, midway-end}
-use Rattle.volume.proofs.Laws.Others.{Others, slot-changed}
-use Rattle.volume.proofs.Laws.Table.{released-next, set-next-length, set-next-same, set-next-at, set-next-other, set-occupied-length, set-occupied-same, set-occupied-next, set-occupied-used, set-occupied-free}
-use Rattle.volume.proofs.Laws.Accepted.{named-slot, file-given}
-use Rattle.volume.proofs.Laws.Owners.{held-above, held-apart, file-holds, file-at, file-below}
-use Rattle.volume.proofs.Laws.Frame.{entries-low, released-agree, agree-block}
+use Rattle.volume.proofs.Laws.Table.{released-next, set-occupied-length, set-occupied-same, set-occupied-next, set-occupied-used, set-occupied-free}
+use Rattle.volume.proofs.Laws.Frame.{entries-low, released-agree}
 use Rattle.layout.proofs.Laws.Bytes.{length-splice, length-zeros, getD-splice-inside}
 use Rattle.layout.proofs.Laws.Lists.{In}
 use Rattle.layout.proofs.Laws.Tests.{true-not-false}
-use Rattle.layout.proofs.Laws.Frames.{Same, same-then, same-beside}
+use Rattle.layout.proofs.Laws.Frames.{Same, same-then, same-beside, set-next-length, set-next-same, set-next-at, set-next-other, agree-block}
 use Rattle.layout.proofs.Laws.Chains.{nth, chain-agree, Chain, chain-differ, chain-used}
 use Rattle.layout.proofs.Laws.Sound.{firstAt, heldAt, rootOf, dirSize, Sound, sound, check-zero}
-use Rattle.layout.proofs.Laws.Files.{slot-low, slot-high}
+use Rattle.layout.proofs.Laws.Files.{slot-low, slot-high, named-slot}
 use Rattle.layout.proofs.Laws.Tables.{table-popped}
 use Rattle.layout.proofs.Laws.Counts.{occupied-up, occupied-most}
+use Rattle.layout.proofs.Laws.Looks.{file-given}
+use Rattle.layout.proofs.Laws.Owners.{held-above, held-apart, file-holds, file-at, file-below}
+use Rattle.layout.proofs.Laws.Steps.{Midway, midway-start, dir-apart, over, over-same, over-other, midway-end}
+use Rattle.layout.proofs.Laws.Others.{Others, slot-changed}
 
 module _ (s : List ℕ) (S : Sound s) (k : ℕ) (k₁ : 1 ≤ k) (k₂ : k < 4 * dirSize s - 1) where
   abbrev f : ℕ → ℕ

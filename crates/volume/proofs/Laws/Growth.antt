@@ -1,35 +1,31 @@
--- The steps of a write: bytes in a data block; a block taken to the end of the chain; all the new blocks.
-use Prim.Native.Nat.{ℕ, zero, suc, _+_, _-_, _*_, _/_, _≤_, _<_}
+-- The steps of a write that take blocks: one to the end of the chain, and all the new ones.
+use Prim.Native.Nat.{ℕ, zero, suc, _+_, _-_, _*_, _≤_, _<_}
 use mathlib.Core.Path.{_≡_, refl, sym, ap, _∙_, subst}
-use mathlib.Core.Bool.{not}
 use mathlib.Core.List.{List, _∷_, _++_, append-assoc, append-nil, []}
 use mathlib.Core.Logic.{_⊎_, inl, inr, ⊎-elim, _≢_}
 use native.Mathlib.Omega.{arith}
 use native.Mathlib.Nat.{eq-or-lt-of-le}
 use native.Mathlib.Decide.{ℕ-discrete}
-use borrow.Author.Tests.{eqb-true, eq-eqb, ne-eqb, not-true}
+use borrow.Author.Tests.{ne-eqb}
 use lib.ListN.{length, getD, length-append, List·getD-append}
 use lib.Seq.{ext-getD, getD-append-add}
 use lib.Dec.{eqb}
-use Rattle.layout.specs.Lists.{has, distinct}
 use Rattle.layout.specs.Bytes.{be32, zeros, splice}
 use Rattle.layout.specs.Geometry.{blockCount, tableBlocks}
 use Rattle.layout.specs.Table.{next, setNext, chain, occupied}
 use Rattle.layout.specs.Directory.{slotAt, root}
 use Rattle.volume.specs.Entries.{setOccupied, linked, taken, grown}
-use Rattle.volume.proofs.Laws.Steps.{over, over-same, over-other, Midway, dir-apart}
-use Rattle.volume.proofs.Laws.Table.{set-next-length, set-next-same, set-next-at, set-next-other, set-occupied-length, set-occupied-same, set-occupied-next, set-occupied-used, set-occupied-free, linked-length, linked-same, linked-at, linked-other, before-next, before-occupied, before-header}
-use Rattle.volume.proofs.Laws.Space.{Fresh}
-use Rattle.volume.proofs.Laws.Owners.{slot-beside}
-use Rattle.layout.proofs.Laws.Bytes.{length-splice, length-zeros}
-use Rattle.layout.proofs.Laws.Tests.{and-split, true-not-false}
-use Rattle.layout.proofs.Laws.Lists.{In, in-has}
-use Rattle.layout.proofs.Laws.Frames.{Same, same-then, same-below, same-beside, same-inner}
+use Rattle.volume.proofs.Laws.Table.{set-occupied-length, set-occupied-same, set-occupied-next, set-occupied-used, set-occupied-free, linked-length, linked-same, linked-at, linked-other}
+use Rattle.layout.proofs.Laws.Bytes.{length-zeros}
+use Rattle.layout.proofs.Laws.Lists.{In, head-apart, tail-distinct}
+use Rattle.layout.proofs.Laws.Frames.{Same, same-then, set-next-length, set-next-same, set-next-at, set-next-other, before-header, same-below, before-next}
 use Rattle.layout.proofs.Laws.Chains.{nth, nth-suc, nth-agree, Chain, chain-agree, length-chain, getD-chain, chain-differ, chain-used}
-use Rattle.layout.proofs.Laws.Tables.{table-same, table-pushed}
+use Rattle.layout.proofs.Laws.Tables.{table-pushed}
 use Rattle.layout.proofs.Laws.Counts.{occupied-up, occupied-most}
 use Rattle.layout.proofs.Laws.Sound.{firstAt, heldAt, rootOf, dirSize, Sound, root-chain}
 use Rattle.layout.proofs.Laws.Files.{slot-low}
+use Rattle.layout.proofs.Laws.Owners.{Fresh}
+use Rattle.layout.proofs.Laws.Steps.{over, over-same, over-other, Midway, dir-apart, bytes-step}
 
 -- one more block in a chain
 chain-snoc : (v w : ℕ → ℕ) (b z c x : ℕ) → ((y : ℕ) → y < c → nth w y z ≡ nth v y b) → nth w c z ≡ x → chain w z (suc c) ≡ chain v b c ++ (x ∷ [])
@@ -44,7 +40,7 @@ chain-snoc v w b z c x f e =
         (λ q. f i q ∙ sym (List·getD-append (chain v b c) (x ∷ []) 0 i (omega (arith, length-chain v b c)) ∙ getD-chain v b c i q))
         (let g : i ≤ c = omega arith in eq-or-lt-of-le g)
 
--- where the chain't last block is: none (0), or the one before the end
+-- where the chain's last block is: none (0), or the one before the end
 abbrev pub LastIs : (ℕ → ℕ) → ℕ → ℕ → ℕ → Type 0
 LastIs v b zero a = a ≡ 0
 LastIs v b (suc c) a = a ≡ nth v c b
@@ -65,41 +61,6 @@ module _ (s : List ℕ) (S : Sound s) (k : ℕ) (k₁ : 1 ≤ k) (k₂ : k < 4 *
 
   abbrev m : ℕ
   m = 4 * dirSize s - 1
-
-  -- bytes in a block that is not the directory't
-  module _ (t : List ℕ) (b c : ℕ) (I : Midway s k t b c) (q : ℕ) (tq : tableBlocks n < q) (qn : q < n)
-      (far : (x : ℕ) → x < dirSize s → nth (next s) x (rootOf s) ≢ q) (at : ℕ) (p : List ℕ) (h₁ : 512 * q ≤ at) (h₂ : at + length p ≤ 512 * q + 512)
-    where
-      fits : at + length p ≤ length t
-      fits = omega (arith, I .len, S .whole)
-
-      under : Same t (splice t at p) 0 (512 * rootOf s)
-      under = same-below t at p fits 0 (512 * rootOf s) (omega arith)
-
-      beside : (j : ℕ) → j < 4 * dirSize s → (slotAt (root s) j + 128 ≤ at) ⊎ (at + length p ≤ slotAt (root s) j)
-      beside j h = ⊎-elim (λ a. inr (omega arith)) (λ a. inl (omega arith)) (slot-beside s S j h q (far (j / 4) (omega arith)))
-
-      values : (x : ℕ) → x < 128 * tableBlocks n → next (splice t at p) x ≡ next t x
-      values = before-next t (splice t at p) n under
-
-      counted : occupied (next (splice t at p)) n ≡ occupied (next t) n
-      counted = before-occupied t (splice t at p) n under
-
-      header : (i : ℕ) → i + 4 ≤ 512 → be32 (splice t at p) i ≡ be32 t i
-      header = before-header t (splice t at p) n under
-
-      pub bytes-step : Midway s k (splice t at p) b c
-      bytes-step =
-          record {
-            len = length-splice t at p fits ∙ I .len;
-            head = same-then s t (splice t at p) 0 20 (I .head) (same-inner t (splice t at p) 0 (512 * rootOf s) 0 20 under (omega arith) (omega arith));
-            tail = same-then s t (splice t at p) 28 4 (I .tail) (same-inner t (splice t at p) 0 (512 * rootOf s) 28 4 under (omega arith) (omega arith));
-            slots = λ j h. same-then s t (splice t at p) (slotAt (root s) j) 128 (I .slots j h) (same-beside t at p fits (slotAt (root s) j) 128 (beside j h));
-            dir = λ x h. values (nth (next s) x (rootOf s)) (omega (arith, root-chain s S .below x h)) ∙ I .dir x h;
-            table = table-same n m (next t) (over k b f) (over k c l) (I .table) (S .least) (next (splice t at p)) (over k b f) (over k c l) values (λ j h. refl) (λ j h pos. refl);
-            used = header 20 (omega arith) ∙ I .used ∙ sym counted;
-            free = header 24 (omega arith) ∙ I .free ∙ ap (λ (z : ℕ). n - z) (sym counted);
-          }
 
   -- a free block is linked
   module _ (t : List ℕ) (b c : ℕ) (I : Midway s k t b c) (x : ℕ) (tx : tableBlocks n < x) (xn : x < n) (zero-x : next t x ≡ 0) (a : ℕ) (la : LastIs (next t) b c a) where
@@ -224,10 +185,13 @@ module _ (s : List ℕ) (S : Sound s) (k : ℕ) (k₁ : 1 ≤ k) (k₂ : k < 4 *
     inside = omega (arith, length-zeros 512)
 
     cleared : Midway s k z b c
-    cleared = bytes-step t b c I x tx xn away (512 * x) (zeros 512) (omega arith) inside
+    cleared = bytes-step s S k k₁ k₂ t b c I x tx xn away (512 * x) (zeros 512) (omega arith) inside
+
+    before-z : Same t z 0 (512 * rootOf s)
+    before-z = same-below t (512 * x) (zeros 512) (omega (arith, I .len, S .whole, xn, length-zeros 512)) 0 (512 * rootOf s) (omega (arith, tx))
 
     values-z : (y : ℕ) → y < 128 * tableBlocks n → next z y ≡ next t y
-    values-z = values t b c I x tx xn away (512 * x) (zeros 512) (omega arith) inside
+    values-z = before-next t z n before-z
 
     chain-s : Chain (next t) n b c
     chain-s = rw (over-same k b f, over-same k c l) at (I .table .right k k₂)
@@ -244,7 +208,7 @@ module _ (s : List ℕ) (S : Sound s) (k : ℕ) (k₁ : 1 ≤ k) (k₂ : k < 4 *
 
     same-taken : taken t n a x ≡ t′ z b c cleared x tx xn empty-z a la-z
     unfolding taken
-    same-taken = rw (header t b c I x tx xn away (512 * x) (zeros 512) (omega arith) inside 20 (omega arith))
+    same-taken = rw (before-header t z n before-z 20 (omega arith))
 
     mine-z : Chain (next z) n b c
     mine-z = mine z b c cleared x tx xn empty-z a la-z
@@ -269,10 +233,10 @@ module _ (s : List ℕ) (S : Sound s) (k : ℕ) (k₁ : 1 ≤ k) (k₂ : k < 4 *
           empty = λ y i. rw same-taken
               (let zy : next z y ≡ 0 = values-z y (omega (arith, F .below y (inr i))) ∙ F .empty y (inr i) in
               other z b c cleared x tx xn empty-z a la-z y
-              (λ e. true-not-false (in-has eqb eqb-true (λ q. eq-eqb q q refl) x bs (subst (λ (q : ℕ). In q bs) e i)) (not-true _ (and-split (not (has eqb x bs)) (distinct eqb bs) (F .distinct-all) .0)))
+              (λ e. head-apart x bs (F .distinct-all) (subst (λ (q : ℕ). In q bs) e i))
               (λ pos e. last-used z b c cleared x tx xn empty-z a la-z c mine-z la-z pos (ap (next z) (sym e) ∙ zy))
               ∙ zy);
-          distinct-all = and-split (not (has eqb x bs)) (distinct eqb bs) (F .distinct-all) .1;
+          distinct-all = tail-distinct x bs (F .distinct-all);
         }
 
   -- then all of them

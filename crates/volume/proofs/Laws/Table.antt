@@ -1,52 +1,17 @@
 -- The chain table and the header's counts: what setting an entry, linking, taking and freeing a block leave, and the values then.
 use Prim.Native.Nat.{ℕ, zero, suc, _+_, _-_, _*_, _≤_, _<_}
-use mathlib.Core.Path.{_≡_, refl, _∙_, ap}
+use mathlib.Core.Path.{_≡_, refl, _∙_}
 use mathlib.Core.List.{List, _∷_, _++_, []}
 use mathlib.Core.Logic.{_⊎_, inl, inr, ⊎-elim, _≢_}
 use native.Mathlib.Omega.{arith}
 use lib.ListN.{length}
-use lib.Dec.{eqb}
 use Rattle.layout.specs.Bytes.{be32, bytes4, zeros, splice}
-use Rattle.layout.specs.Table.{next, setNext, occupied}
+use Rattle.layout.specs.Table.{next, setNext}
 use Rattle.layout.specs.Geometry.{tableBlocks, rootBlock}
 use Rattle.volume.specs.Entries.{setOccupied, linked, taken, grown, freed, released}
-use Rattle.layout.proofs.Laws.Bytes.{length-zeros, length-splice, be32-same, be32-splice, be32-bytes4}
-use Rattle.layout.proofs.Laws.Tests.{lt-or-gt}
+use Rattle.layout.proofs.Laws.Bytes.{length-zeros, length-splice, be32-same, be32-bytes4}
 use Rattle.layout.proofs.Laws.Lists.{In}
-use Rattle.layout.proofs.Laws.Frames.{Same, same-be32, same-inside, same-beside, same-below}
-use Rattle.layout.proofs.Laws.Counts.{occupied-same}
-
--- an image of n blocks whose blocks before the directory stay: the table's entries, the blocks in use, the header
-module _ (s s′ : List ℕ) (n : ℕ) (same : Same s s′ 0 (512 * rootBlock n)) where
-  pub before-next : (b : ℕ) → b < 128 * tableBlocks n → next s′ b ≡ next s b
-  unfolding next
-  before-next b h = same-be32 s s′ 0 (512 * rootBlock n) (512 + 4 * b) same (omega arith) (omega arith)
-
-  pub before-occupied : occupied (next s′) n ≡ occupied (next s) n
-  before-occupied = occupied-same (next s) (next s′) n (λ x h. ap (λ (z : ℕ). eqb z 0) (before-next x (omega arith)))
-
-  pub before-header : (i : ℕ) → i + 4 ≤ 512 → be32 s′ i ≡ be32 s i
-  before-header i h = same-be32 s s′ 0 (512 * rootBlock n) i same (omega arith) (omega arith)
-
--- one entry of the table is set
-module _ (s : List ℕ) (b v : ℕ) (fit : 512 + 4 * b + 4 ≤ length s) where
-  pub set-next-length : length (setNext s b v) ≡ length s
-  unfolding setNext bytes4
-  set-next-length = length-splice s (512 + 4 * b) (bytes4 v) fit
-
-  pub set-next-same : (a m : ℕ) → (a + m ≤ 512 + 4 * b) ⊎ (512 + 4 * b + 4 ≤ a) → Same s (setNext s b v) a m
-  unfolding setNext bytes4
-  set-next-same a m = same-beside s (512 + 4 * b) (bytes4 v) fit a m
-
-  pub set-next-at : v < 0x100000000 → next (setNext s b v) b ≡ v
-  unfolding setNext next
-  set-next-at h = be32-splice s (512 + 4 * b) v fit h
-
-  pub set-next-other : (c : ℕ) → c ≢ b → next (setNext s b v) c ≡ next s c
-  unfolding next
-  set-next-other c ne =
-      same-be32 s (setNext s b v) (512 + 4 * c) 4 (512 + 4 * c)
-      (set-next-same (512 + 4 * c) 4 (⊎-elim (λ p. inl (omega arith)) (λ p. inr (omega arith)) (lt-or-gt c b ne))) (omega arith) (omega arith)
+use Rattle.layout.proofs.Laws.Frames.{Same, same-be32, same-inside, same-beside, same-below, before-next, set-next-length, set-next-same, set-next-at, set-next-other}
 
 -- the counts are set
 module _ (s : List ℕ) (n u : ℕ) (fit : 512 ≤ length s) where

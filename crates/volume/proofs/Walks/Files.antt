@@ -1,11 +1,10 @@
 -- The file of a name on a sound image: its refusals, and what stands when it is opened.
-use Prim.Native.Nat.{ℕ, zero, suc, _+_, _-_, _*_, _/_, _≤_, _<_}
-use mathlib.Core.Path.{_≡_, refl, sym, ap, _∙_}
-use mathlib.Core.Bool.{Bool, true, false, not}
-use mathlib.Core.List.{List, [], _∷_}
+use Prim.Native.Nat.{ℕ, _+_, _/_, _≤_, _<_}
+use mathlib.Core.Path.{_≡_, sym, ap, _∙_}
+use mathlib.Core.Bool.{true, false}
+use mathlib.Core.List.{List}
 use native.Mathlib.Omega.{arith}
-use lib.ListN.{length, getD}
-use lib.Dec.{eqb}
+use lib.ListN.{length}
 use borrow.Author.Tests.{eq-eqb, ne-eqb}
 use Rattle.layout.specs.Bytes.{be32}
 use Rattle.layout.specs.Geometry.{blockCount}
@@ -14,14 +13,14 @@ use Rattle.layout.specs.Directory.{slotAt, firstBlock, sizeOf, blocksOf, goodNa
 use Rattle.layout.specs.Check.{check}
 use Rattle.layout.specs.Looks.{nameRefusal, entryOf}
 use Rattle.volume.specs.Walks.Files.{Opened}
-use Rattle.layout.specs.Walks.Shapes.{Shape, ChainBelow}
+use Rattle.layout.specs.Walks.Shapes.{ChainBelow}
 use Rattle.layout.specs.Walks.Slots.{Stands, entryAt}
-use Rattle.layout.proofs.Laws.Tests.{require-zero}
-use Rattle.layout.proofs.Laws.Chains.{getD-chain, Chain, chainOk-split}
+use Rattle.layout.proofs.Laws.Chains.{getD-chain, chainOk-split}
 use Rattle.layout.proofs.Walks.Shapes.{sound-shape}
 use Rattle.layout.proofs.Laws.Files.{File, file-of}
 use Rattle.layout.proofs.Laws.Sound.{sound}
 use Rattle.layout.proofs.Laws.Names.{goodName-length}
+use Rattle.layout.proofs.Laws.Looks.{good-given, file-given}
 
 -- the refusals
 module _ (s name : List ℕ) where
@@ -40,25 +39,15 @@ module _ (s name : List ℕ) where
 
 -- an accepted name
 module _ (s name : List ℕ) (r : nameRefusal s name ≡ 0) where
-  pub good-given : goodName name ≡ true
-  unfolding nameRefusal
-  good-given = require-zero (goodName name) 8 _ r .0
-
   pub short-given : length name ≤ 79
-  short-given = goodName-length name good-given
-
-  slot-given : not (eqb (fileSlot s (root s) name) 0) ≡ true
-  unfolding nameRefusal
-  slot-given = require-zero (not (eqb (fileSlot s (root s) name) 0)) 9 _ (require-zero (goodName name) 8 _ r .1) .0
+  short-given = goodName-length name (good-given s name r)
 
   pub file-of-name : check s ≡ 0 → File s (entryOf s name)
-  file-of-name ok = file-of s (sound s ok) name slot-given
+  file-of-name ok = file-of s (sound s ok) name (file-given s name r)
 
   module _ (k b : ℕ) (st : Stands (root s) (blockCount s) (fileSlot s (root s) name) k b) where
     there : k ≡ 0 → ⊥
-    there e =
-        let z : true ≡ false = sym slot-given ∙ rw (← st .slot, eq-eqb k 0 e) in
-        let y : _≡_ {A = ℕ} 0 1 = cc in omega arith
+    there e = file-given s name r (sym (st .slot) ∙ e)
 
     pub inside : b < blockCount s
     inside = st .block there .0

@@ -17,10 +17,9 @@ use Rattle.layout.specs.Directory.{slotAt}
 use Rattle.layout.specs.Check.{stage1}
 use Rattle.volume.specs.Entries.{entryBytes, directoryMade}
 use Rattle.volume.specs.Format.{formatRefusal, firstEntries, headerBytes, formatImage, formatted}
-use Rattle.layout.proofs.Laws.Bytes.{length-bytes4, splice-append}
-use Rattle.volume.proofs.Laws.Lists.{length-range, getD-range}
-use Rattle.volume.proofs.Laws.Bytes.{length-joined4}
+use Rattle.layout.proofs.Laws.Bytes.{length-bytes4, splice-append, length-joined4}
 use Rattle.volume.proofs.Laws.Format.{entry-mid, entry-end}
+use Rattle.layout.proofs.Laws.Lists.{length-range, getD-range}
 
 -- the refusal, test by test
 module _ (s : List ℕ) (d : ℕ) (name : List ℕ) where

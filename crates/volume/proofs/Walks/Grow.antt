@@ -19,11 +19,11 @@ use Rattle.volume.specs.Walks.Marks.{marked}
 use Rattle.volume.specs.Walks.Searches.{freeFrom, FirstFree, Growable}
 use Rattle.volume.proofs.Walks.Marks.{length-marked}
 use Rattle.volume.proofs.Walks.Release.{chain-none}
-use Rattle.volume.proofs.Laws.Table.{before-next, set-next-at, set-next-other, set-occupied-next, set-occupied-used, linked-at, linked-other, cleared-length, set-length, link-length, taken-length}
+use Rattle.volume.proofs.Laws.Table.{set-occupied-next, set-occupied-used, linked-at, linked-other, cleared-length, set-length, link-length, taken-length}
 use Rattle.layout.specs.Walks.Shapes.{Shape}
 use Rattle.layout.proofs.Laws.Bytes.{length-splice, length-zeros}
 use Rattle.layout.proofs.Laws.Tests.{lt-or-ge}
-use Rattle.layout.proofs.Laws.Frames.{same-below, same-be32}
+use Rattle.layout.proofs.Laws.Frames.{same-below, same-be32, before-next, set-next-at, set-next-other}
 use Rattle.layout.proofs.Laws.Lists.{range-next}
 use Rattle.layout.proofs.Laws.Chains.{nth, getD-chain}
 

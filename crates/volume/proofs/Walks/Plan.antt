@@ -16,7 +16,7 @@ use Rattle.volume.specs.Write.{newSize, needed, newBlocks, writeRefusal}
 use Rattle.volume.specs.Walks.Files.{Opened}
 use Rattle.volume.specs.Walks.Searches.{freeFrom, FirstFree}
 use Rattle.volume.specs.Walks.Writes.{Planned}
-use Rattle.volume.proofs.Laws.Accepted.{WriteGiven, write-given, named-slot}
+use Rattle.volume.proofs.Laws.Accepted.{WriteGiven, write-given}
 use Rattle.volume.proofs.Laws.Space.{new-length, all-length}
 use Rattle.volume.proofs.Walks.Files.{opened-blocks}
 use Rattle.volume.proofs.Walks.Grow.{free-all}
@@ -24,6 +24,7 @@ use Rattle.volume.proofs.Walks.Release.{chain-none}
 use Rattle.volume.proofs.Walks.Write.{blocks-for, blocks-most}
 use Rattle.layout.proofs.Laws.Tests.{lt-or-ge}
 use Rattle.layout.proofs.Laws.Sound.{sound}
+use Rattle.layout.proofs.Laws.Files.{named-slot}
 
 -- the first block of a chain with blocks taken behind it
 module _ (v : ℕ → ℕ) (n first : ℕ) where

@@ -16,10 +16,9 @@ use Rattle.layout.specs.Table.{next, chain}
 use Rattle.volume.specs.Write.{put}
 use Rattle.volume.proofs.Walks.Release.{chain-suc}
 use Rattle.volume.specs.Walks.Data.{Placed}
-use Rattle.volume.proofs.Laws.Table.{before-next}
 use Rattle.layout.proofs.Laws.Tests.{and-split}
 use Rattle.layout.proofs.Laws.Bytes.{length-part, splice-nil, length-splice}
-use Rattle.layout.proofs.Laws.Frames.{same-beside}
+use Rattle.layout.proofs.Laws.Frames.{same-beside, before-next}
 use Rattle.layout.proofs.Walks.Content.{least-cases}
 
 -- another table with the same values below n has the same chain

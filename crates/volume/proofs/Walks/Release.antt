@@ -11,10 +11,11 @@ use Rattle.layout.specs.Bytes.{be32}
 use Rattle.layout.specs.Geometry.{tableBlocks}
 use Rattle.layout.specs.Table.{next, setNext, chain, chainOk, occupied}
 use Rattle.volume.specs.Entries.{setOccupied, freed, released}
-use Rattle.volume.proofs.Laws.Table.{set-next-length, set-next-at, set-next-other, set-occupied-length, set-occupied-next, set-occupied-used}
+use Rattle.volume.proofs.Laws.Table.{set-occupied-length, set-occupied-next, set-occupied-used}
 use Rattle.layout.specs.Walks.Shapes.{Shape}
 use Rattle.layout.proofs.Laws.Chains.{nth, nth-agree, chain-agree, Chain, chainOk-split, chain-used, chain-differ}
 use Rattle.layout.proofs.Laws.Counts.{occupied-up, occupied-most}
+use Rattle.layout.proofs.Laws.Frames.{set-next-length, set-next-at, set-next-other}
 
 -- a chain of at least one block, by its first
 pub chain-suc : (v : ℕ → ℕ) (b k : ℕ) → 0 < k → chain v b k ≡ b ∷ chain v (v b) (k - 1)

@@ -20,17 +20,17 @@ use Rattle.volume.specs.Write.{newSize, newBlocks, put, setFile, writeAt
 use Rattle.volume.specs.Walks.Data.{Placed}
 use Rattle.volume.specs.Walks.Searches.{Growable}
 use Rattle.volume.specs.Walks.Writes.{Planned}
-use Rattle.volume.proofs.Laws.Accepted.{WriteGiven, write-given, named-slot}
+use Rattle.volume.proofs.Laws.Accepted.{WriteGiven, write-given}
 use Rattle.volume.proofs.Laws.Frame.{put-length}
-use Rattle.volume.proofs.Laws.Lists.{last-in}
-use Rattle.volume.proofs.Laws.Owners.{file-used}
-use Rattle.volume.proofs.Laws.Space.{free-count, all-above, all-below, all-length, all-size, last-below}
+use Rattle.volume.proofs.Laws.Space.{all-above, all-below, all-length, all-size, last-below}
 use Rattle.volume.proofs.Laws.Write.{larger-blocks, larger-length, first-small, few}
 use Rattle.layout.proofs.Laws.Tests.{and-join}
-use Rattle.layout.proofs.Laws.Lists.{In}
+use Rattle.layout.proofs.Laws.Lists.{In, last-in}
 use Rattle.layout.proofs.Laws.Counts.{occupied-most}
 use Rattle.layout.proofs.Laws.Sound.{dirSize, Sound, sound}
 use Rattle.layout.proofs.Walks.Shapes.{sound-shape}
+use Rattle.layout.proofs.Laws.Files.{named-slot}
+use Rattle.layout.proofs.Laws.Owners.{file-used, free-count}
 
 every-all : (p : ℕ → Bool) (xs : List ℕ) → ((x : ℕ) → In x xs → p x ≡ true) → every p xs ≡ true
 every-all p [] f = refl
