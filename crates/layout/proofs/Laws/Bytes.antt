@@ -3,7 +3,7 @@ use Prim.Native.Nat.{ℕ, zero, suc, _+_, _-_, _*_, _/_, _%_, _≤_, _<_, max}
 use mathlib.Core.List.{List, [], _∷_, _++_, append-assoc, append-nil}
 use mathlib.Core.Logic.{_⊎_, ⊎-elim, inl, inr}
 use mathlib.Core.Path.{_≡_, refl, sym, ap, _∙_}
-use native.Mathlib.Nat.{add-assoc, div-div-eq-div-mul}
+use native.Mathlib.Nat.{add-assoc, div-div-eq-div-mul, zero-add}
 use native.Mathlib.Numerals.{add-one, add-three, add-two}
 use native.Mathlib.Omega.{arith}
 use lib.ListN.{length, getD, set, take, drop, List·getD-append, List·getD-eq-default, length-append, length-drop, length-replicate, length-set, length-take, replicate-append-replicate, take-append-drop, drop-of-length-le}
@@ -82,6 +82,11 @@ bytes4-low v =
     let c : v % 0x100000000 / 0x100 % 256 ≡ v / 0x100 % 256 = omega arith in
     let d : v % 0x100000000 % 256 ≡ v % 256 = omega arith in
     rw (a, b, c, d)
+
+-- a number of four bytes
+pub be32-small : (s : List ℕ) (at : ℕ) → ((i : ℕ) → getD s i 0 < 256) → be32 s at < 0x100000000
+unfolding be32
+be32-small s at f = omega (arith, f at, f (at + 1), f (at + 2), f (at + 3))
 
 -- a number, by its bytes
 pub be32-same : (s s′ : List ℕ) (a b : ℕ) → ((i : ℕ) → i < 4 → getD s′ (b + i) 0 ≡ getD s (a + i) 0) → be32 s′ b ≡ be32 s a
@@ -216,6 +221,19 @@ splice-append s at x y fits =
     (lt-or-ge i (length x)))
     (λ i h. getD-splice-after t (at + length x) y hy i (omega arith) ∙ getD-splice-after s at x hx i (omega arith))
 
+-- two and three runs that fill a list
+pub splice-two : (s x y : List ℕ) (a : ℕ) → length s ≡ length x + length y → a ≡ length x → splice (splice s 0 x) a y ≡ x ++ y
+splice-two s x y a h e =
+    let d : 0 + length x ≡ a = omega arith in
+    (rw d at (splice-append s 0 x y (omega arith))) ∙ splice-whole s (x ++ y) (length-append x y ∙ omega arith)
+
+pub splice-three : (s x y z : List ℕ) (a b : ℕ) → length s ≡ length x + length y + length z → a ≡ length x → b ≡ length x + length y
+    → splice (splice (splice s 0 x) a y) b z ≡ x ++ (y ++ z)
+splice-three s x y z a b h e f =
+    let g : length (x ++ y) ≡ length x + length y = length-append x y in
+    let d : 0 + length x ≡ a = omega arith in
+    ap (λ (l : List ℕ). splice l b z) (rw d at (splice-append s 0 x y (omega arith))) ∙ splice-two s (x ++ y) z b (omega arith) (omega arith) ∙ append-assoc x y z
+
 -- what lies before and after a splice
 pub take-splice : (s : List ℕ) (at : ℕ) (p : List ℕ) (n : ℕ) → at ≤ length s → n ≤ at → take n (splice s at p) ≡ take n s
 unfolding splice
@@ -342,6 +360,11 @@ part-splice-inside s a n o p hs hp =
     (λ hi. List·getD-eq-default (part (splice s (a + o) p) a n) 0 (omega arith) ∙ sym (List·getD-eq-default (part s a n) 0 (omega arith)))
     (lt-or-ge i n))
 
+-- a part just written
+pub part-splice : (s : List ℕ) (at : ℕ) (p : List ℕ) (k : ℕ) → length p ≡ k → at ≤ length s → part (splice s at p) at k ≡ p
+part-splice s at p k e h =
+    rw (← e, splice-flat s at p) (part-middle (take at s) p (drop (at + length p) s) at (length-take-le at s h))
+
 -- a number just stored
 pub be32-splice : (s : List ℕ) (at v : ℕ) → at + 4 ≤ length s → v < 0x100000000 → be32 (splice s at (bytes4 v)) at ≡ v
 unfolding bytes4
@@ -378,3 +401,13 @@ lent s at k ys q e l = rw (e, ← l)
 -- the same, where the loan is not computed
 pub putMid-splice : (s : List ℕ) (at k : ℕ) (p : List ℕ) → length p ≡ k → putMid at k s p ≡ splice s at p
 putMid-splice s at k p e = lent s at k p p refl e
+
+-- the same, where the callee wrote p at k of the lent part
+pub lent-part : (s : List ℕ) (at n k : ℕ) (p ys : List ℕ) → ys ≡ splice (part s at n) k p → at + n ≤ length s → k + length p ≤ n → take at s ++ (ys ++ drop n (drop at s)) ≡ splice s (at + k) p
+lent-part s at n k p ys e hs hp =
+    let hn : length (part s at n) ≡ n = length-part s at n hs in
+    lent s at n ys (splice (part s at n) k p) e (length-splice (part s at n) k p (omega arith) ∙ hn) ∙ splice-part s at n k p hs hp
+
+-- the same for the header, which begins at 0
+pub lent-header : (s : List ℕ) (n k : ℕ) (p ys : List ℕ) → ys ≡ splice (take n s) k p → n ≤ length s → k + length p ≤ n → ys ++ drop n s ≡ splice s k p
+lent-header s n k p ys e hs hp = lent-part s 0 n k p ys e (omega arith) hp ∙ rw zero-add

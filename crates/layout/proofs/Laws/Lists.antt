@@ -62,6 +62,10 @@ module _ {A : Type 0} where
   every-in q (y ∷ xs) x w (inl e) = rw e (and-split (q y) (every q xs) w .0)
   every-in q (y ∷ xs) x w (inr m) = every-in q xs x (and-split (q y) (every q xs) w .1) m
 
+  pub in-every : (q : A → Bool) (xs : List A) → ((x : A) → In x xs → q x ≡ true) → every q xs ≡ true
+  in-every q [] f = refl
+  in-every q (x ∷ xs) f = and-join (f x (inl refl)) (in-every q xs (λ y m. f y (inr m)))
+
   -- a test that is the same on all elements
   pub every-same : (p q : A → Bool) → ((x : A) → p x ≡ q x) → (xs : List A) → every p xs ≡ every q xs
   every-same p q h [] = refl
@@ -89,6 +93,15 @@ pub last-in : (xs : List ℕ) (b : ℕ) → (lastOr b xs ≡ b) ⊎ In (lastOr b
 last-in [] b = inl refl
 last-in (x ∷ xs) b = inr (⊎-elim (λ e. inl e) (λ i. inr i) (last-in xs x))
 
+-- an element added at the end
+pub every-snoc : (q : ℕ → Bool) (xs : List ℕ) (x : ℕ) → every q xs ≡ true → q x ≡ true → every q (xs ++ (x ∷ [])) ≡ true
+every-snoc q [] x a b = rw b
+every-snoc q (y ∷ xs) x a b = let c = and-split (q y) (every q xs) a in rw (c .0) (every-snoc q xs x (c .1) b)
+
+pub last-snoc : (xs : List ℕ) (b x : ℕ) → lastOr b (xs ++ (x ∷ [])) ≡ x
+last-snoc [] b x = refl
+last-snoc (y ∷ xs) b x = last-snoc xs y x
+
 -- a range of at least one number
 pub range-next : (a k : ℕ) → 0 < k → range a k ≡ a ∷ range (a + 1) (k - 1)
 range-next a k h =
@@ -107,6 +120,10 @@ pub getD-range : (a k i : ℕ) → i < k → getD (range a k) i 0 ≡ a + i
 getD-range a zero i h = absurd (omega arith)
 getD-range a (suc k) zero h = omega arith
 getD-range a (suc k) (suc i) h = omega (arith, getD-range (suc a) k i (omega arith))
+
+pub map-range : (f g : ℕ → ℕ) (k a : ℕ) → ((i : ℕ) → i < a + k → f i ≡ g i) → map f (range a k) ≡ map g (range a k)
+map-range f g zero a h = refl
+map-range f g (suc k) a h = rw (h a (omega arith)) (ap (λ (r : List ℕ). g a ∷ r) (map-range f g k (suc a) (λ i b. h i (omega arith))))
 
 -- every, over a range
 module _ (p : ℕ → Bool) where

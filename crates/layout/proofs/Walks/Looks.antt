@@ -10,17 +10,16 @@ use borrow.Author.Tests.{eq-eqb, le-leb, lt-leb, ne-eqb}
 use Rattle.layout.specs.Refusals.{require, firstOf, accept}
 use Rattle.layout.specs.Bytes.{be32, part, splice}
 use Rattle.layout.specs.Geometry.{blockCount, blocksFor}
-use Rattle.layout.specs.Table.{next, chain, chainOk}
+use Rattle.layout.specs.Table.{next, chain}
 use Rattle.layout.specs.Directory.{slotAt, sizeOf, goodName, fileSlot, root, fileBlocks, content}
 use Rattle.layout.specs.Check.{check}
 use Rattle.layout.specs.Looks.{nameRefusal, entryOf, lookupRefusal, lookup, ReadAnswer, readRefusal, read, extentOf}
 use Rattle.layout.specs.Walks.Looks.{Opens}
 use Rattle.layout.specs.Walks.Shapes.{ChainBelow}
 use Rattle.layout.proofs.Laws.Bytes.{part-part, lent}
-use Rattle.layout.proofs.Laws.Chains.{getD-chain, chainOk-split}
 use Rattle.layout.proofs.Laws.Looks.{lookup-sound, lookup-file, extent-refused, extent-past, extent-found}
 use Rattle.layout.proofs.Walks.Content.{chainBytes, length-chainBytes, below-nth}
-use Rattle.layout.proofs.Walks.Shapes.{sound-shape}
+use Rattle.layout.proofs.Walks.Shapes.{sound-chain}
 
 -- the answers of look up, in the order in which the code takes its tests
 module _ (s name : List ℕ) where
@@ -107,10 +106,7 @@ module _ (s name : List ℕ) (number first size blocks : ℕ) (o : Opens s name 
     opened-blocks = o .count z ∙ lookup-file s name accepted .blocks ∙ ap blocksFor (sym (o .bytes z))
 
     pub opened-chain : ChainBelow s (blockCount s) first blocks
-    opened-chain =
-        let ok : chainOk (next s) (blockCount s) first blocks ≡ true = rw (o .start z, o .count z) (lookup-file s name accepted .chained) in
-        let c = chainOk-split (next s) (blockCount s) first blocks ok in
-        record { shape = sound-shape s (lookup-sound s name accepted); below = λ i h. rw (getD-chain (next s) first blocks i h) (c .below i h) }
+    opened-chain = sound-chain s (lookup-sound s name accepted) first blocks (rw (o .start z, o .count z) (lookup-file s name accepted .chained))
 
     pub opened-extent-past : (i : ℕ) → blocks ≤ i → extentOf s name i ≡ record { start = 0; size = 0 }
     opened-extent-past i h = extent-past s name i (rw (← o .count z) h)

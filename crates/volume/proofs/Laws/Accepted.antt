@@ -4,10 +4,10 @@ use mathlib.Core.Path.{_≡_}
 use mathlib.Core.Bool.{true, not, _&&_}
 use mathlib.Core.List.{List}
 use mathlib.Core.Logic.{_≢_}
-use borrow.Author.Tests.{eqb-true, eqb-false, not-true, leb-true}
+use borrow.Author.Tests.{eqb-true, eqb-false, not-true, leb-true, ne-eqb}
 use lib.ListN.{length}
 use lib.Dec.{eqb, leb}
-use Rattle.layout.specs.Looks.{entryOf}
+use Rattle.layout.specs.Looks.{entryOf, nameRefusal}
 use Rattle.layout.specs.Directory.{isFile, goodName, fileSlot, freeSlot, root, sizeOf}
 use Rattle.layout.specs.Geometry.{blockCount}
 use Rattle.layout.specs.Table.{next, freeBlocks}
@@ -49,3 +49,10 @@ write-given s name offset count r =
     let g = require-zero (leb (needed s (entryOf s name) offset count) (length (freeBlocks (next s) (blockCount s)))) 13 _ (d .1) in
     let h = and-split (goodName name) (leb count maxData) (a .0) in
     record { good = h .0; few = leb-true _ _ (h .1); there = eqb-false _ _ (not-true _ (b .0)); within-size = leb-true _ _ (d .0); room = leb-true _ _ (g .0) }
+
+-- its name is accepted
+pub name-given : (s name : List ℕ) (offset count : ℕ) → writeRefusal s name offset count ≡ 0 → nameRefusal s name ≡ 0
+unfolding nameRefusal
+name-given s name offset count r =
+    let g = write-given s name offset count r in
+    rw (g .good, ne-eqb (fileSlot s (root s) name) 0 (g .there))

@@ -1,13 +1,12 @@
 -- Reads give the bytes last written, other files stay, a new file is empty, and a deleted one is not found.
 use Prim.Native.Nat.{ℕ, _+_, _-_, _*_, _≤_, _<_, min, max}
 use mathlib.Core.Logic.{_≢_}
-use mathlib.Core.Path.{_≡_, sym, _∙_}
+use mathlib.Core.Path.{_≡_, sym, _∙_, refl}
 use mathlib.Core.Bool.{true}
 use mathlib.Core.List.{List, []}
 use native.Mathlib.Omega.{arith}
 use borrow.Author.Tests.{eq-eqb, ne-eqb, le-leb}
-use lib.ListN.{length, take, drop}
-use lib.Seq.{length-take-le}
+use lib.ListN.{length}
 use Rattle.layout.specs.Looks.{entryOf, nameRefusal, lookupRefusal, readRefusal, read}
 use Rattle.layout.specs.Directory.{slotAt, typeOf, sizeOf, isFile, fileSlot, freeSlot, root, content}
 use Rattle.layout.specs.Bytes.{part, splice}
@@ -20,7 +19,7 @@ use Rattle.volume.proofs.Laws.Accepted.{CreateGiven, create-given, Writ
 use Rattle.volume.proofs.Laws.Sound.{kept}
 use Rattle.volume.proofs.Laws.Delete.{deleted-others, deleted-type}
 use Rattle.volume.proofs.Laws.Write.{Written, written-others, written-file}
-use Rattle.layout.proofs.Laws.Bytes.{splice-whole, splice-flat, part-middle}
+use Rattle.layout.proofs.Laws.Bytes.{splice-whole, part-splice}
 use Rattle.layout.proofs.Laws.Sound.{dirSize, Sound, sound}
 use Rattle.layout.proofs.Laws.Files.{named-slot, named-name, free-slot, file-of, length-content}
 use Rattle.layout.proofs.Laws.Looks.{file-given, good-given}
@@ -92,9 +91,8 @@ module _ (s : List ℕ) (ok : check s ≡ 0) where
 
       there : part (content written (entryOf written name)) offset (length bytes) ≡ bytes
       there =
-          rw (write-content, splice-flat (content s (entryOf s name)) offset bytes)
-          (part-middle (take offset (content s (entryOf s name))) bytes (drop (offset + length bytes) (content s (entryOf s name))) offset
-          (length-take-le offset (content s (entryOf s name)) (omega (arith, length-content s S (entryOf s name) (file-of s S name (write-has .there)), write-has .within-size))))
+          rw write-content
+          (part-splice (content s (entryOf s name)) offset bytes (length bytes) refl (omega (arith, length-content s S (entryOf s name) (file-of s S name (write-has .there)), write-has .within-size)))
 
       pub read-back : read written name offset buffer ≡ record { number = 0; count = length bytes; buffer = bytes }
       unfolding read

@@ -6,7 +6,6 @@ use mathlib.Core.List.{List, []}
 use mathlib.Core.Logic.{inl, inr, ⊎-elim, _≢_, _⊎_}
 use native.Mathlib.Omega.{arith}
 use lib.ListN.{length}
-use lib.Seq.{take-all}
 use Rattle.layout.specs.Bytes.{be32, bytes4, part, splice}
 use Rattle.layout.specs.Directory.{slotAt, typeOf, blocksOf, isFree, isFile, padded, nameOf, fileSlot, freeSlot, root, sizeOf, content}
 use Rattle.layout.specs.Check.{attributesOk, fileOk, slotOk, check}
@@ -14,7 +13,7 @@ use Rattle.volume.specs.Entries.{entryBytes}
 use Rattle.volume.specs.Create.{createRefusal, createSlot, createImage}
 use Rattle.volume.proofs.Laws.Entries.{entry-type, entry-first, entry-size, entry-blocks, entry-attribute, entry-attribute-size, entry-named, entry-length}
 use Rattle.volume.proofs.Laws.Accepted.{create-given, CreateGiven}
-use Rattle.layout.proofs.Laws.Bytes.{length-splice, part-same, getD-splice-inside}
+use Rattle.layout.proofs.Laws.Bytes.{length-splice, part-splice}
 use Rattle.layout.proofs.Laws.Tests.{and-join, is-false}
 use Rattle.layout.proofs.Laws.Names.{same-refl, padded-length, name-is, name-ok}
 use Rattle.layout.proofs.Laws.Frames.{same-beside, Same}
@@ -71,8 +70,7 @@ module _ (s : List ℕ) (S : Sound s) (name : List ℕ) (type user group permiss
   pub created-bytes : part (createImage s name type user group permissions flags time) e 128 ≡ p
   created-bytes =
       rw create-is
-      (part-same p done 0 e 128 (λ i h. let z : 0 + i ≡ i = omega arith in rw z (getD-splice-inside s e p (omega (arith, long, fits)) i (omega (arith, long))))
-      (omega (arith, long)) (omega (arith, fits, done-length)) ∙ take-all 128 p (omega (arith, long)))
+      (part-splice s e p 128 long (omega (arith, fits)))
 
   pub created-name : nameOf (createImage s name type user group permissions flags time) e ≡ name
   created-name = rw create-is done-name

@@ -10,7 +10,7 @@ use Rattle.layout.specs.Bytes.{be32, bytes4, bytes8, part, splice, zeros}
 use Rattle.layout.specs.Directory.{typeOf, firstBlock, sizeOf, blocksOf, padded}
 use Rattle.volume.specs.Entries.{entryBytes}
 use Rattle.volume.specs.Write.{setFile}
-use Rattle.layout.proofs.Laws.Bytes.{length-splice, be32-same, be32-bytes4, part-same, getD-splice-inside, length-bytes8}
+use Rattle.layout.proofs.Laws.Bytes.{length-splice, be32-same, be32-bytes4, part-same, getD-splice-inside, length-bytes8, part-splice}
 use Rattle.layout.proofs.Laws.Frames.{Same, same-then, same-be32, same-below, same-beside, same-inside, same-above}
 
 -- the bytes of a new entry, and its fields in an image that it is written to
@@ -100,10 +100,7 @@ module _ (s : List ℕ) (e first size blocks time : ℕ) (fits : e + 128 ≤ len
 
   pub set-file-modified : part told (e + 24) 8 ≡ bytes8 time
   unfolding setFile
-  set-file-modified =
-      part-same (bytes8 time) told 0 (e + 24) 8
-      (λ i h. let z : 0 + i ≡ i = omega arith in rw z (getD-splice-inside half (e + 24) (bytes8 time) fit-time i (omega (arith, length-bytes8 time))))
-      (omega (arith, length-bytes8 time)) (omega (arith, set-file-length)) ∙ take-all 8 (bytes8 time) (omega (arith, length-bytes8 time))
+  set-file-modified = part-splice half (e + 24) (bytes8 time) 8 (length-bytes8 time) (omega (arith, fit-time))
 
   number : (i : ℕ) → i + 4 ≤ 12 → be32 told (e + 4 + i) ≡ be32 numbers i
   unfolding setFile bytes4

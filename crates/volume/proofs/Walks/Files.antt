@@ -15,8 +15,7 @@ use Rattle.layout.specs.Looks.{nameRefusal, entryOf}
 use Rattle.volume.specs.Walks.Files.{Opened}
 use Rattle.layout.specs.Walks.Shapes.{ChainBelow}
 use Rattle.layout.specs.Walks.Slots.{Stands, entryAt}
-use Rattle.layout.proofs.Laws.Chains.{getD-chain, chainOk-split}
-use Rattle.layout.proofs.Walks.Shapes.{sound-shape}
+use Rattle.layout.proofs.Walks.Shapes.{sound-chain}
 use Rattle.layout.proofs.Laws.Files.{File, file-of}
 use Rattle.layout.proofs.Laws.Sound.{sound}
 use Rattle.layout.proofs.Laws.Names.{goodName-length}
@@ -80,8 +79,4 @@ module _ {s name : List ℕ} {slot b first size blocks : ℕ} (o : Opened s name
     opened-ok = rw (o .start, o .count) (file-of-name s name r ok .chained)
 
     pub opened-run : ChainBelow s (blockCount s) first blocks
-    opened-run =
-        record {
-          shape = sound-shape s ok;
-          below = λ i h. rw (getD-chain (next s) first blocks i h) (chainOk-split (next s) (blockCount s) first blocks opened-ok .below i h);
-        }
+    opened-run = sound-chain s ok first blocks opened-ok
