@@ -11,4 +11,7 @@ pub mod Sound
 pub mod Entries
 pub mod Files
 pub mod Looks
+pub mod Owners
 pub mod Changed
+pub mod Steps
+pub mod Others

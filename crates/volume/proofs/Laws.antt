@@ -1,16 +1,11 @@
 -- The laws of the volume's definitions. Theorems.antt states what they lead to.
-pub mod Lists
-pub mod Bytes
 pub mod Table
 pub mod Entries
-pub mod Owners
 pub mod Space
 pub mod Accepted
 pub mod Frame
 pub mod Data
-pub mod Steps
 pub mod Growth
-pub mod Others
 pub mod Format
 pub mod Create
 pub mod Delete

@@ -18,17 +18,18 @@ use Rattle.volume.specs.Entries.{entryBytes}
 use Rattle.volume.specs.Format.{formatRefusal, formatted}
 use Rattle.volume.specs.Write.{needed, newBlocks}
 use Rattle.volume.specs.Change.{Change, create, write, delete, refusal, after, named, slotGiven}
-use Rattle.volume.proofs.Laws.Lists.{false-has}
 use Rattle.volume.proofs.Laws.Frame.{frame}
 use Rattle.volume.proofs.Laws.Format.{sound-format}
 use Rattle.volume.proofs.Laws.Sound.{kept}
 use Rattle.volume.proofs.Laws.Accepted.{write-given}
-use Rattle.volume.proofs.Laws.Content.{Untouched, subject, others-untouched, lookup-stays, read-stays, look-stays, look-content as content-looked, write-entry as entry-written, write-content as content-written, read-back as written-back, create-found as found-created, create-content as content-created, create-bytes as bytes-created, delete-refused as refused-deleted}
+use Rattle.volume.proofs.Laws.Content.{subject, others-untouched, write-entry as entry-written, write-content as content-written, read-back as written-back, create-found as found-created, create-content as content-created, create-bytes as bytes-created, delete-refused as refused-deleted}
 use Rattle.volume.proofs.Laws.Write.{Written}
-use Rattle.volume.proofs.Laws.Space.{NoRoom, refused-14, lacking-14, LowestFree, new-lowest, new-length, free-count as count-free}
-use Rattle.volume.proofs.Laws.Owners.{file-owner, root-owner}
+use Rattle.volume.proofs.Laws.Space.{NoRoom, refused-14, lacking-14, new-lowest, new-length}
 use Rattle.layout.proofs.Laws.Sound.{sound}
-use Rattle.layout.proofs.Laws.Lists.{has-eqb-in}
+use Rattle.layout.proofs.Laws.Lists.{has-eqb-in, false-has}
+use Rattle.layout.proofs.Laws.Owners.{LowestFree, free-count as count-free, file-owner, root-owner}
+use Rattle.layout.proofs.Laws.Others.{Untouched, lookup-stays, read-stays, look-stays}
+use Rattle.layout.proofs.Laws.Looks.{look-content as content-looked}
 
 -- Format's image is sound. (That a UUID has sixteen bytes is its type's.)
 pub format-sound : (s : List ℕ) (d : ℕ) (uuid name : List ℕ) (time : ℕ) → length uuid ≡ 16 → formatRefusal s d name ≡ 0 → check (formatted s d uuid name time) ≡ 0
@@ -50,7 +51,7 @@ module _ (s : List ℕ) (ok : check s ≡ 0) where
   -- Look in place gives a file's content, block by block.
   pub look-content : (name : List ℕ) → lookupRefusal s name ≡ 0 → (i : ℕ) → i < blocksOf s (entryOf s name)
       → lookInPlace s name i ≡ part (content s (entryOf s name)) (512 * i) (min 512 (sizeOf s (entryOf s name) - 512 * i))
-  look-content = content-looked s ok
+  look-content name r i h = content-looked s name i r h
 
   -- No two files, and no file and the root, own one block.
   module _ (name : List ℕ) (found : fileSlot s (root s) name ≢ 0) (b : ℕ) (mine : has eqb b (fileBlocks s (entryOf s name)) ≡ true) where

@@ -1,9 +1,9 @@
 use mathlib.Core.Path.{_≡_, ap, sym, _∙_}
 use native.Mathlib.Omega.{arith}
 use Rattle.layout.specs.Looks.{Extent, extentOf}
-use Rattle.capi.proofs.Bounds.{extent-small}
 use borrow.Author.Needs.{needs}
 use Rattle.capi.proofs.bulgefs_look_in_place.Statement.{statement}
+use Rattle.layout.proofs.Laws.Looks.{extent-small}
 use Rattle.capi.proofs.bulgefs_look_in_place.Tie as tie
 
 extent-in-place-requires : tie.Need-extent-in-place-requires

@@ -1,9 +1,10 @@
-use Rattle.capi.proofs.Bounds.{count-small, read-case}
+use Rattle.capi.proofs.Bounds.{read-case}
 use mathlib.Core.Path.{_≡_, ap, sym, _∙_}
 use native.Mathlib.Omega.{arith}
 use Rattle.layout.specs.Looks.{ReadAnswer}
 use borrow.Author.Needs.{needs}
 use Rattle.capi.proofs.bulgefs_read.Statement.{statement}
+use Rattle.layout.proofs.Laws.Looks.{count-small}
 use Rattle.capi.proofs.bulgefs_read.Tie as tie
 
 read-requires : tie.Need-read-requires

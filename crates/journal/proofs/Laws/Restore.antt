@@ -12,11 +12,11 @@ use lib.Seq.{getD-take, getD-drop}
 use Rattle.layout.specs.Lists.{every, has}
 use Rattle.layout.specs.Bytes.{splice, block}
 use Rattle.journal.specs.Journal.{ascending}
-use Rattle.volume.proofs.Laws.Frame.{Agree, agree-none}
 use Rattle.layout.proofs.Laws.Tests.{and-split}
 use Rattle.layout.proofs.Laws.Lists.{has-eqb-in, in-has-eqb}
 use Rattle.layout.proofs.Laws.Bytes.{length-splice, getD-splice-before, getD-splice-inside, getD-splice-after, length-block}
 use Rattle.journal.proofs.Laws.Ascending.{ascending-all}
+use Rattle.layout.proofs.Laws.Frames.{Agree, agree-none}
 
 -- the saved blocks of s put back onto t
 abbrev pub puts : List ℕ → List ℕ → List ℕ → List ℕ

@@ -21,7 +21,7 @@ use Rattle.layout.proofs.Laws.Lists.{in-some, has-eqb-in}
 use Rattle.layout.proofs.Laws.Sound.{Sound, sound}
 use Rattle.journal.proofs.Laws.Ascending.{ascending-below, ascending-rising, ascending-all}
 use Rattle.journal.proofs.Laws.Restore.{puts-back, agree-ascending}
-use Rattle.journal.proofs.Laws.Shape.{length-filled, used-filled, version-filled, started-filled}
+use Rattle.journal.proofs.Laws.Shape.{used-filled, version-filled, started-filled, length-started}
 use Rattle.journal.proofs.Laws.Append.{well, well-ok, Shaped, Appended, appended}
 
 -- THE PROPERTY OF PAIRS that a run keeps, of n blocks and a journal of a size: the image is sound, the journal is well formed and has zeros past
@@ -122,20 +122,17 @@ module _ (s : List ℕ) (size : ℕ) (sound : check s ≡ 0) (low : minJournal �
   used-start : used (started size) ≡ 5
   used-start = rw started-filled (used-filled 5 [] (size - 5) (omega arith))
 
-  length-start : length (started size) ≡ size
-  length-start = rw started-filled (length-filled 5 [] (size - 5) ∙ omega arith)
-
   records-start : records (started size) ≡ []
   unfolding records recordsFrom
   records-start = rw used-start
 
   well-start : wellFormed (started size) (blockCount s) ≡ true
   well-start = well-ok (started size) (blockCount s) (record {
-    long = omega (arith, length-start);
-    short = omega (arith, length-start);
+    long = omega (arith, length-started size low);
+    short = omega (arith, length-started size low);
     version = rw started-filled (version-filled 5 [] (size - 5));
     used-low = rw used-start (omega arith);
-    used-high = rw used-start (omega (arith, length-start));
+    used-high = rw used-start (omega (arith, length-started size low));
     recorded = rw records-start;
   })
 
@@ -144,7 +141,7 @@ module _ (s : List ℕ) (size : ℕ) (sound : check s ≡ 0) (low : minJournal �
     sound = sound;
     blocks = refl;
     well-formed = well-start;
-    long = length-start;
+    long = length-started size low;
     shaped = record { body = []; room = size - 5; shape = started-filled size };
   }
 

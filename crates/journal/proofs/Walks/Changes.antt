@@ -1,36 +1,33 @@
 -- The journaled calls, step by step over any change: the refusals in their order, the record, and the change.
 use Prim.Native.Nat.{ℕ, zero, suc, _+_, _*_, _≤_, _<_}
 use mathlib.Core.Path.{_≡_, refl, sym, _∙_}
-use mathlib.Core.Bool.{Bool, true, false, not, _&&_}
+use mathlib.Core.Bool.{Bool, true, false}
 use mathlib.Core.List.{List}
 use native.Mathlib.Nat.{suc-ne-zero}
 use native.Mathlib.Omega.{arith}
-use borrow.Author.Tests.{le-leb, lt-leb, eqb-false, not-true}
-use lib.Dec.{eqb, leb}
+use borrow.Author.Tests.{le-leb, lt-leb}
+use lib.Dec.{leb}
 use lib.ListN.{length}
 use Rattle.layout.specs.Refusals.{require, firstOf, accept}
 use Rattle.layout.specs.Bytes.{zeros}
 use Rattle.layout.specs.Geometry.{blockCount}
 use Rattle.layout.specs.Check.{check}
-use Rattle.layout.specs.Directory.{isFile, goodName, fileSlot, freeSlot, root}
-use Rattle.volume.specs.Create.{createRefusal}
 use Rattle.volume.specs.Change.{Change, refusal, after, named, slotGiven}
 use Rattle.journal.specs.Journal.{used, wellFormed, ascending, recordBytes, added}
 use Rattle.journal.specs.Run.{State, Answer, changed, recordOf, changeRefusal, afterChange, changeAnswer, state}
 use Rattle.journal.specs.Walks.Saves.{Marks, markedFrom}
 use Rattle.journal.specs.Walks.Changes.{readyRefusal, Ready, roomRefusal, recordNamed, Recorded}
 use Rattle.volume.specs.Walks.Marks.{marked}
-use Rattle.layout.proofs.Laws.Tests.{firstOf-zero, require-zero}
+use Rattle.layout.proofs.Laws.Tests.{firstOf-zero, require-zero, firstOf-refused, accept-refused}
 use Rattle.layout.proofs.Laws.Sound.{sound}
 use Rattle.journal.proofs.Laws.Ascending.{ascending-below}
 use Rattle.journal.proofs.Laws.Records.{length-record}
 use Rattle.journal.proofs.Walks.Marked.{marked-ascending}
-use Rattle.journal.proofs.Walks.Undoing.{first-refusal, not-accepted}
 
 -- what weighing 1 to 8 gives
 pub ready-unsound : (s j : List ℕ) (r : ℕ) → r ≡ check s → (r ≡ 0 → ⊥) → r ≡ readyRefusal (state s j)
 unfolding readyRefusal
-ready-unsound s j r e h = rw (← e) (sym (first-refusal r _ h))
+ready-unsound s j r e h = rw (← e) (sym (firstOf-refused r _ h))
 
 pub ready-scanned : (s j : List ℕ) (ok : Bool) → check s ≡ 0 → ok ≡ wellFormed j (blockCount s) → require ok 8 0 ≡ readyRefusal (state s j)
 unfolding readyRefusal
@@ -59,7 +56,7 @@ Does c p a q = (a ≡ changeAnswer p c) × (q ≡ afterChange p c)
 module _ (c : Change) (s j : List ℕ) where
   refused : (r : ℕ) → changeRefusal (state s j) c ≡ r → (r ≡ 0 → ⊥) → Does c (state s j) (changed r 0 0) (state s j)
   unfolding changeAnswer afterChange
-  refused r e h = rw e (sym (not-accepted r _ (changed r 0 0) h), sym (not-accepted r _ (state s j) h))
+  refused r e h = rw e (sym (accept-refused r _ (changed r 0 0) h), sym (accept-refused r _ (state s j) h))
 
   -- 1 to 8
   pub change-unready : (r : ℕ) → r ≡ readyRefusal (state s j) → (r ≡ 0 → ⊥) → Does c (state s j) (changed r 0 0) (state s j)
@@ -70,7 +67,7 @@ module _ (c : Change) (s j : List ℕ) where
     -- 9 to 14
     pub change-refused : (r : ℕ) → r ≡ refusal s c → (r ≡ 0 → ⊥) → Does c (state s j) (changed r 0 0) (state s j)
     unfolding changeRefusal
-    change-refused r e h = refused r (rw (w .sound, w .well-formed, ← e) (first-refusal r _ h)) h
+    change-refused r e h = refused r (rw (w .sound, w .well-formed, ← e) (firstOf-refused r _ h)) h
 
     record-some : length (recordOf (state s j) c) ≡ 0 → ⊥
     unfolding recordOf
@@ -130,12 +127,3 @@ module _ (s j m ns : List ℕ) (w : Ready s j) (marks-are : m ≡ marked (zeros 
   now-recorded size e h new is =
       let f = le-leb (used j + size) (length j) h in
       record { length-given = rw (long size e, f); journal-after = rw (long size e, f) (is ∙ rw marked-named) }
-
--- an accepted create has a free slot
-pub create-free : (s name : List ℕ) (kind : ℕ) → createRefusal s name kind ≡ 0 → freeSlot s (root s) ≡ 0 → ⊥
-unfolding createRefusal
-create-free s name kind e =
-    let a = require-zero (goodName name && isFile kind) 8 _ e in
-    let b = require-zero (eqb (fileSlot s (root s) name) 0) 10 _ (a .1) in
-    let d = require-zero (not (eqb (freeSlot s (root s)) 0)) 12 0 (b .1) in
-    eqb-false _ _ (not-true _ (d .0))

@@ -1,23 +1,21 @@
 -- Answers as bytes: their lengths, and what the code writes piece by piece.
-use Prim.Native.Nat.{ℕ, zero, suc, _+_, _-_, _*_, _≤_, min}
+use Prim.Native.Nat.{ℕ, _+_, _-_, _≤_}
 use mathlib.Core.Path.{_≡_, refl, sym, ap, _∙_}
-use mathlib.Core.Bool.{Bool, true, false, cond}
-use mathlib.Core.List.{List, [], _++_, append-assoc, append-nil}
+use mathlib.Core.List.{List, [], _++_, append-nil}
 use native.Mathlib.Omega.{arith}
 use borrow.Rule.Slice.PartMut.{putMid}
-use lib.Dec.{ltb}
-use lib.ListN.{length, getD, take, drop, replicate, length-append, length-replicate}
+use lib.ListN.{length, take, replicate, length-append, length-replicate}
 use lib.Seq.{length-take-le, drop-length}
 use Rattle.layout.specs.Bytes.{bytes4, zeros, part, splice}
-use Rattle.layout.specs.Refusals.{accept}
 use Rattle.layout.specs.declared.reading.Filled.{Filled}
 use Rattle.layout.specs.declared.reading.Filled.the-variants.{Bytes, Refused}
-use Rattle.layout.specs.Looks.{ReadAnswer, Extent, read, readRefusal, lookupRefusal, entryOf, extentOf, lookInPlace}
-use Rattle.layout.specs.Directory.{sizeOf, blocksOf, fileBlocks, content}
-use Rattle.journal.specs.Run.{Look, Call, Answer, State, change, undo, look, checkImage, findFile, readFile, lookAt, changed, filled, shown, lookAnswer, answer, changeAnswer, changeRefusal, undoAnswer, undoRefusal}
+use Rattle.layout.specs.Looks.{ReadAnswer, read, lookInPlace}
+use Rattle.journal.specs.Run.{Call, Answer, State, change, undo, look, checkImage, findFile, readFile, lookAt, filled, shown, lookAnswer, answer, changeAnswer, changeRefusal, undoAnswer, undoRefusal}
 use Rattle.journal.specs.Script.{numbers, encoded, answerSize}
 use Rattle.layout.specs.Answers.{readAnswer}
-use Rattle.layout.proofs.Laws.Bytes.{length-bytes4, length-zeros, splice-flat, putMid-splice, length-splice, splice-append, splice-whole, splice-left, length-take-most}
+use Rattle.layout.proofs.Laws.Bytes.{length-zeros, splice-flat, putMid-splice, splice-append, splice-whole, splice-left, splice-three}
+use Rattle.layout.proofs.Laws.Tests.{accept-either}
+use Rattle.layout.proofs.Laws.Looks.{read-count, read-length, look-short}
 
 pub length-numbers : (a b c d : ℕ) → length (numbers a b c d) ≡ 16
 unfolding numbers bytes4
@@ -36,17 +34,6 @@ numbers-put s a b c d h =
 pub numbers-alone : (s : List ℕ) (a b c d : ℕ) → length s ≡ 16 → splice s 0 (numbers a b c d) ≡ numbers a b c d
 numbers-alone s a b c d h = splice-whole s (numbers a b c d) (length-numbers a b c d ∙ sym h)
 
-pub three-after : (s x y z : List ℕ) (a b : ℕ) → length s ≡ length x + length y + length z → a ≡ length x → b ≡ length x + length y
-    → splice (splice (splice s 0 x) a y) b z ≡ x ++ (y ++ z)
-three-after s x y z a b h e f =
-    let g : length (x ++ y) ≡ length x + length y = length-append x y in
-    let k : length ((x ++ y) ++ z) ≡ length s = length-append (x ++ y) z ∙ omega arith in
-    let d : 0 + length x ≡ a = omega arith in
-    let d₂ : 0 + length (x ++ y) ≡ b = omega arith in
-    ap (λ (l : List ℕ). splice l b z) (rw d at (splice-append s 0 x y (omega arith)))
-    ∙ (rw d₂ at (splice-append s 0 (x ++ y) z (omega arith)))
-    ∙ splice-whole s ((x ++ y) ++ z) k ∙ append-assoc x y z
-
 pub before-rest : (s x y : List ℕ) (a : ℕ) → length s ≡ a + length y → length x ≡ a → splice (splice s a y) 0 x ≡ x ++ y
 before-rest s x y a h e =
     let l : length (take a s) ≡ a = length-take-le a s (omega arith) in
@@ -55,50 +42,11 @@ before-rest s x y a h e =
     splice-end : (s y : List ℕ) (a : ℕ) → length s ≡ a + length y → splice s a y ≡ take a s ++ y
     splice-end s y a h = splice-flat s a y ∙ rw (← h, drop-length, append-nil)
 
--- what holds of both outcomes holds of the one that is given
-both : {A : Type 0} (P : A → Type 0) (k : ℕ) (a b : A) → P a → P b → P (accept k a b)
-both P zero a b f g = f
-both P (suc k) a b f g = g
-
-both-cond : {A : Type 0} (P : A → Type 0) (t : Bool) (a b : A) → P a → P b → P (cond t a b)
-both-cond P true a b f g = f
-both-cond P false a b f g = g
-
-short : (s : List ℕ) (at k n : ℕ) → k ≤ n → length (part s at k) ≤ n
-short s at k n h = omega (arith, length-take-most k (drop at s))
-
--- read leaves as long a buffer and fills no more; look in place shows a block at most
-module _ (s name : List ℕ) (offset : ℕ) (buffer : List ℕ) where
-  pub read-count : read s name offset buffer .count ≤ length buffer
-  unfolding read
-  read-count =
-      let h : min (length buffer) (sizeOf s (entryOf s name) - offset) ≤ length buffer = omega arith in
-      let z : 0 ≤ length buffer = omega arith in
-      both (λ (r : ReadAnswer). r .count ≤ length buffer) (readRefusal s name offset) _ _ h z
-
-  pub read-length : length (read s name offset buffer .buffer) ≡ length buffer
-  unfolding read
-  read-length =
-      let count : ℕ = min (length buffer) (sizeOf s (entryOf s name) - offset) in
-      let bytes : List ℕ = part (content s (entryOf s name)) offset count in
-      let h : length bytes ≤ length buffer = short (content s (entryOf s name)) offset count (length buffer) (omega arith) in
-      both (λ (r : ReadAnswer). length (r .buffer) ≡ length buffer) (readRefusal s name offset) _ _ (length-splice buffer 0 bytes (omega arith)) refl
-
-pub shown-short : (s name : List ℕ) (i : ℕ) → length (lookInPlace s name i) ≤ 512
-unfolding lookInPlace extentOf
-shown-short s name i =
-    let e : ℕ = entryOf s name in
-    let size : ℕ = min 512 (sizeOf s e - 512 * i) in
-    let h : length (part s (512 * getD (fileBlocks s e) i 0) size) ≤ 512 = short s (512 * getD (fileBlocks s e) i 0) size 512 (omega arith) in
-    let z : length (part s 0 0) ≤ 512 = short s 0 0 512 (omega arith) in
-    let P : Extent → Type 0 = λ (x : Extent). length (part s (x .start) (x .size)) ≤ 512 in
-    both P (lookupRefusal s name) _ _ (both-cond P (ltb i (blocksOf s e)) _ _ h z) z
-
 -- an answer's length is that of its call, whatever the state
 pub answer-length : (p : State) (c : Call) → length (encoded (answer p c)) ≡ answerSize c
 unfolding answer answerSize encoded changeAnswer undoAnswer lookAnswer
-answer-length p (change c) = both (λ (a : Answer). length (encoded a) ≡ 16) (changeRefusal p c) _ _ (length-numbers _ _ _ _) (length-numbers _ _ _ _)
-answer-length p undo = both (λ (a : Answer). length (encoded a) ≡ 16) (undoRefusal p) _ _ (length-numbers _ _ _ _) (length-numbers _ _ _ _)
+answer-length p (change c) = accept-either (λ (a : Answer). length (encoded a) ≡ 16) (changeRefusal p c) _ _ (length-numbers _ _ _ _) (length-numbers _ _ _ _)
+answer-length p undo = accept-either (λ (a : Answer). length (encoded a) ≡ 16) (undoRefusal p) _ _ (length-numbers _ _ _ _) (length-numbers _ _ _ _)
 answer-length p (look checkImage) = length-numbers _ _ _ _
 answer-length p (look (findFile name)) = length-numbers _ _ _ _
 answer-length p (look (readFile name offset buffer)) =
@@ -106,7 +54,7 @@ answer-length p (look (readFile name offset buffer)) =
     length-append (numbers (r .number) (r .count) 0 0) (r .buffer) ∙ rw (length-numbers, read-length (p .image) name offset buffer)
 answer-length p (look (lookAt name i)) =
     let b : List ℕ = lookInPlace (p .image) name i in
-    let h : length b ≤ 512 = shown-short (p .image) name i in
+    let h : length b ≤ 512 = look-short (p .image) name i in
     length-append (numbers (length b) 0 0 0) (b ++ zeros (512 - length b)) ∙ rw (length-numbers, length-append, length-zeros) (omega arith)
 
 -- the answers of read and look in place, as the code writes them
@@ -121,7 +69,7 @@ unfolding encoded
 shown-encoded s bytes h k =
     let l = length-numbers (length bytes) 0 0 0 in
     let z = length-zeros (512 - length bytes) in
-    three-after s (numbers (length bytes) 0 0 0) bytes (zeros (512 - length bytes)) 16 (16 + length bytes) (omega arith) (omega arith) (omega arith)
+    splice-three s (numbers (length bytes) 0 0 0) bytes (zeros (512 - length bytes)) 16 (16 + length bytes) (omega arith) (omega arith) (omega arith)
 
 -- number and count of a read do not depend on the buffer
 module _ (f : Filled) (b : List ℕ) where

@@ -1,10 +1,9 @@
 -- The turns of the loop that puts a record's bytes back, in plain terms.
-use Prim.Native.Nat.{ℕ, suc, _+_, _-_, _*_, _≤_, _<_}
+use Prim.Native.Nat.{ℕ, _+_, _-_, _*_, _≤_, _<_}
 use mathlib.Core.Path.{_≡_, refl, sym, _∙_}
 use mathlib.Core.Bool.{true}
-use mathlib.Core.List.{List, _∷_, _++_, map}
+use mathlib.Core.List.{List, _++_, map}
 use native.Mathlib.Omega.{arith}
-use native.Mathlib.Numerals.{add-one}
 use native.Mathlib.Nat.{sub-zero}
 use borrow.Author.Tests.{ltb-true}
 use lib.Dec.{ltb}
@@ -14,6 +13,7 @@ use Rattle.layout.specs.Bytes.{part, splice, zeros}
 use Rattle.journal.specs.Journal.{blockAt, bytesAt, restored}
 use Rattle.layout.proofs.Laws.Tests.{and-split}
 use Rattle.layout.proofs.Laws.Bytes.{lent, length-part}
+use Rattle.layout.proofs.Laws.Lists.{range-from}
 
 -- what is left to put back, put back onto the image as it is now, gives what all gives
 pub record Restoring (old j : List ℕ) (n at k : ℕ) (s : List ℕ) (i : ℕ) : Type 0 where
@@ -26,18 +26,15 @@ pub restore-start : (s j : List ℕ) (n at k : ℕ) → every (λ b. ltb b n) (m
 restore-start s j n at k t = record { within = omega arith; long = refl; below = rw sub-zero t; whole = rw sub-zero }
 
 module _ (old j : List ℕ) (n at k : ℕ) (s : List ℕ) (i : ℕ) (r : Restoring old j n at k s i) where
-  one-more : i < k → range i (k - i) ≡ i ∷ range (i + 1) (k - (i + 1))
-  one-more h = let e : k - i ≡ suc (k - (i + 1)) = omega arith in rw (e, add-one i)
-
   split : i < k → (ltb (blockAt j at i) n ≡ true) × (every (λ b. ltb b n) (map (blockAt j at) (range (i + 1) (k - (i + 1)))) ≡ true)
-  split h = and-split (ltb (blockAt j at i) n) _ (rw (one-more h) at (r .below))
+  split h = and-split (ltb (blockAt j at i) n) _ (rw (range-from k i h) at (r .below))
 
   pub restore-below : i < k → blockAt j at i < n
   restore-below h = ltb-true _ _ (split h .0)
 
   pub restore-one : i < k → (t : List ℕ) → length t ≡ length s → t ≡ splice s (512 * blockAt j at i) (bytesAt j at i) → Restoring old j n at k t (i + 1)
   unfolding restored
-  restore-one h t l e = record { within = omega arith; long = l ∙ r .long; below = split h .1; whole = r .whole ∙ rw (one-more h, e) }
+  restore-one h t l e = record { within = omega arith; long = l ∙ r .long; below = split h .1; whole = r .whole ∙ rw (range-from k i h, e) }
 
   pub restore-end : k ≤ i → s ≡ restored old j at (range 0 k)
   unfolding restored

@@ -6,23 +6,18 @@ use native.Mathlib.Omega.{arith}
 use native.Mathlib.Nat.{sub-zero}
 use mathlib.Core.Bool.{true}
 use lib.Dec.{ltb}
-use lib.ListN.{length, getD, length-append}
+use lib.ListN.{length, getD}
 use Rattle.layout.specs.Lists.{every, joined}
-use Rattle.layout.specs.Bytes.{bytes4, splice, block}
+use Rattle.layout.specs.Bytes.{bytes4, splice}
 use Rattle.journal.specs.Journal.{used, recordBytes, added}
 use Rattle.journal.specs.Walks.Saves.{Marks, markedFrom}
-use Rattle.layout.proofs.Laws.Bytes.{length-splice, length-bytes4, splice-nil, splice-append, splice-whole}
+use Rattle.layout.proofs.Laws.Bytes.{length-splice, length-bytes4, splice-nil, splice-append, splice-two}
 use Rattle.journal.proofs.Laws.Records.{piece, length-piece, length-pieces, length-record}
 use Rattle.journal.proofs.Walks.Marked.{marked-skip, marked-take, marked-done, marked-below}
 
 -- a block's number and bytes, written one after the other
 pub piece-made : (old bytes : List ℕ) (b : ℕ) → length old ≡ 516 → length bytes ≡ 512 → splice (splice old 0 (bytes4 b)) 4 bytes ≡ bytes4 b ++ bytes
-piece-made old bytes b h g =
-    let l = length-bytes4 b in
-    let e : 4 ≡ 0 + length (bytes4 b) = omega arith in
-    ap (λ (x : ℕ). splice (splice old 0 (bytes4 b)) x bytes) e
-    ∙ splice-append old 0 (bytes4 b) bytes (omega arith)
-    ∙ splice-whole old (bytes4 b ++ bytes) (length-append (bytes4 b) bytes ∙ omega arith)
+piece-made old bytes b h g = let l = length-bytes4 b in splice-two old (bytes4 b) bytes 4 (omega arith) (omega arith)
 
 -- what is left to save, saved from here, gives what all gives from the start
 pub record Saving (s m old : List ℕ) (n at : ℕ) (j : List ℕ) (p b : ℕ) : Type 0 where

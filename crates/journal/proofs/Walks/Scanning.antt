@@ -1,8 +1,8 @@
 -- The turns of the scan: the numbers of one record, one record, and the records one after the other.
-use Prim.Native.Nat.{ℕ, zero, suc, _+_, _-_, _*_, _≤_, _<_}
+use Prim.Native.Nat.{ℕ, suc, _+_, _-_, _*_, _≤_, _<_}
 use mathlib.Core.Path.{_≡_, refl, sym, ap, _∙_}
 use mathlib.Core.Bool.{Bool, true, false, _&&_, and-false}
-use mathlib.Core.List.{List, [], _∷_, map}
+use mathlib.Core.List.{List, map}
 use native.Mathlib.Omega.{arith}
 use native.Mathlib.Numerals.{add-one}
 use borrow.Author.Tests.{lt-ltb, le-ltb, le-leb, lt-leb, eq-eqb, leb-true, eqb-true}
@@ -13,12 +13,9 @@ use Rattle.layout.specs.Bytes.{be32}
 use Rattle.layout.specs.Limits.{minJournal, maxJournal}
 use Rattle.journal.specs.Journal.{used, copies, blockAt, rising, recordOk, recordsFrom, records, wellFormed, lastRecord}
 use Rattle.journal.specs.Walks.Scanning.{headOk, Headed, numbersOk, Scans}
-use Rattle.layout.proofs.Laws.Tests.{and-split}
+use Rattle.layout.proofs.Laws.Tests.{and-split, is-false}
 use Rattle.journal.proofs.Laws.Append.{Fine, fine}
-
-pub refuted : (t : Bool) → (t ≡ true → ⊥) → t ≡ false
-refuted true f = absurd (f refl)
-refuted false f = refl
+use Rattle.journal.proofs.Laws.Walk.{records-none, records-more}
 
 -- the i-th number of a record of k blocks
 module _ (j : List ℕ) (n at lo i k : ℕ) (h : i < k) where
@@ -46,7 +43,7 @@ numbers-end j n at lo i k h = let e : k - i ≡ 0 = omega arith in rw e
 
 -- the record at an offset
 pub record-bad : (j : List ℕ) (n at : ℕ) → (Fine j n at → ⊥) → recordOk j n at ≡ false
-record-bad j n at f = refuted (recordOk j n at) (λ t. f (fine j n at t))
+record-bad j n at f = is-false (recordOk j n at) (λ t. f (fine j n at t))
 
 pub record-rest : (j : List ℕ) (n at : ℕ) → 520 ≤ be32 j at → be32 j at ≡ 4 + 516 * copies j at → at + be32 j at ≤ used j
     → recordOk j n at ≡ numbersOk j n at 0 0 (copies j at)
@@ -55,17 +52,6 @@ record-rest j n at a b c = rw (le-leb 1 (copies j at) (omega arith), eq-eqb (be3
 
 pub record-size : (j : List ℕ) (n at : ℕ) → recordOk j n at ≡ true → (520 ≤ be32 j at) × (at + be32 j at ≤ used j)
 record-size j n at t = let f : Fine j n at = fine j n at t in (omega (arith, f .some, f .size), f .inside)
-
--- the records from an offset on
-module _ (size : ℕ → ℕ) (u at fuel : ℕ) where
-  records-more : at < u → 0 < fuel → recordsFrom size u at fuel ≡ at ∷ recordsFrom size u (at + size at) (fuel - 1)
-  unfolding recordsFrom
-  records-more h g = let e : fuel ≡ suc (fuel - 1) = omega arith in ap (λ (x : ℕ). recordsFrom size u at x) e ∙ rw (lt-ltb at u h)
-
-records-none : (size : ℕ → ℕ) (u at fuel : ℕ) → u ≤ at → recordsFrom size u at fuel ≡ []
-unfolding recordsFrom
-records-none size u at zero h = refl
-records-none size u at (suc fuel) h = rw (le-ltb at u h)
 
 -- what is left to scan from an offset on gives what the whole journal gives
 pub record Scanning (j : List ℕ) (n last at : ℕ) : Type 0 where

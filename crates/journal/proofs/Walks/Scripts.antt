@@ -1,52 +1,31 @@
 -- The items of a script one after the other, and the call of each.
-use Prim.Native.Nat.{ℕ, zero, suc, _+_, _-_, _≤_, _<_}
-use mathlib.Core.Path.{_≡_, refl, sym, ap, _∙_}
-use mathlib.Core.Bool.{Bool, true, false, _&&_, cond}
+use Prim.Native.Nat.{ℕ, _+_, _-_, _≤_, _<_}
+use mathlib.Core.Path.{_≡_, refl, ap, _∙_}
+use mathlib.Core.Bool.{Bool, true, false, cond}
 use mathlib.Core.List.{List, [], _∷_, map}
 use native.Mathlib.Omega.{arith}
-use borrow.Author.Tests.{lt-ltb, le-ltb, le-leb, lt-leb, ltb-true, ltb-false, leb-true, leb-false, ne-eqb}
-use lib.Dec.{ltb, leb, eqb}
+use borrow.Author.Tests.{le-leb, lt-leb, leb-true, leb-false, ne-eqb}
+use lib.Dec.{leb, eqb}
 use lib.ListN.{length, getD}
 use Rattle.layout.specs.Lists.{every}
 use Rattle.layout.specs.Bytes.{be32}
 use Rattle.volume.specs.Change.{create, write, delete}
-use Rattle.journal.specs.Journal.{recordsFrom}
 use Rattle.journal.specs.Run.{Call, change, undo, look, checkImage, findFile, readFile, lookAt}
 use Rattle.journal.specs.Script.{be64, opAt, nameAt, dataAt, dataLength, itemSize, callAt, itemOk, itemsFrom, callsFrom, answerSize, answersSize}
 use Rattle.layout.proofs.Laws.Tests.{and-split}
 use Rattle.layout.proofs.Laws.Bytes.{length-part}
-
--- the walk does not depend on its fuel, if that is enough
-module _ (size : ℕ → ℕ) (some : (a : ℕ) → 1 ≤ size a) (u : ℕ) where
-  none : (fuel at : ℕ) → u ≤ at → recordsFrom size u at fuel ≡ []
-  unfolding recordsFrom
-  none zero at h = refl
-  none (suc fuel) at h = rw (le-ltb at u h)
-
-  enough : (f g at : ℕ) → u ≤ at + f → u ≤ at + g → recordsFrom size u at f ≡ recordsFrom size u at g
-  unfolding recordsFrom
-  enough zero g at h k = sym (none g at (omega arith))
-  enough (suc f) zero at h k = none (suc f) at (omega arith)
-  enough (suc f) (suc g) at h k =
-      let s = some at in
-      ap (λ (l : List ℕ). cond (ltb at u) (at ∷ l) []) (enough f g (at + size at) (omega arith) (omega arith))
-
-  one-more : (at : ℕ) → at < u → recordsFrom size u at (u - at) ≡ at ∷ recordsFrom size u (at + size at) (u - (at + size at))
-  unfolding recordsFrom
-  one-more at h =
-      let s = some at in
-      let e : u - at ≡ suc (u - (at + 1)) = omega arith in
-      ap (λ (x : ℕ). recordsFrom size u at x) e ∙ rw (lt-ltb at u h)
-      (ap (λ (l : List ℕ). at ∷ l) (enough (u - (at + 1)) (u - (at + size at)) (at + size at) (omega arith) (omega arith)))
+use Rattle.journal.proofs.Laws.Walk.{records-none, records-more, records-enough}
 
 module _ (s : List ℕ) (at : ℕ) where
   pub items-none : length s ≤ at → itemsFrom s at ≡ []
   unfolding itemsFrom
-  items-none h = none (itemSize s) (λ a. omega arith) (length s) (length s - at) at h
+  items-none h = records-none (itemSize s) (length s) at (length s - at) h
 
   pub items-step : at < length s → itemsFrom s at ≡ at ∷ itemsFrom s (at + itemSize s at)
   unfolding itemsFrom
-  items-step h = one-more (itemSize s) (λ a. omega arith) (length s) at h
+  items-step h =
+      records-more (itemSize s) (length s) at (length s - at) h (omega arith)
+      ∙ ap (λ (l : List ℕ). at ∷ l) (records-enough (itemSize s) (length s) (λ a. omega arith) (length s - at - 1) (length s - (at + itemSize s at)) (at + itemSize s at) (omega arith) (omega arith))
 
   pub calls-none : length s ≤ at → callsFrom s at ≡ []
   unfolding callsFrom

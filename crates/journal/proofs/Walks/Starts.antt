@@ -2,14 +2,13 @@
 use Prim.Native.Nat.{ℕ, suc, _-_, _≤_, _<_}
 use mathlib.Core.Path.{_≡_, refl, ap, _∙_}
 use mathlib.Core.Bool.{and-false}
-use mathlib.Core.List.{List, [], _∷_, _++_}
+use mathlib.Core.List.{List, _∷_, _++_}
 use native.Mathlib.Omega.{arith}
 use borrow.Author.Tests.{le-leb, lt-leb}
 use lib.Dec.{leb}
 use lib.ListN.{length, set, replicate}
 use Rattle.layout.specs.Bytes.{bytes4, zeros, splice}
 use Rattle.journal.specs.Journal.{started, startRefusal}
-use Rattle.journal.proofs.Laws.Shape.{length-filled, started-filled}
 
 pub start-short : (j : List ℕ) → length j < 5 → startRefusal j ≡ 8
 unfolding startRefusal
@@ -32,6 +31,3 @@ unfolding started
 start-stored size h =
     let e : size ≡ suc (suc (suc (suc (suc (size - 5))))) = omega arith in
     ap (λ (x : ℕ). splice (set (replicate x 0) 0 1) 1 (bytes4 5)) e ∙ stored (size - 5)
-
-pub start-length : (size : ℕ) → 5 ≤ size → length (started size) ≡ size
-start-length size h = rw started-filled (length-filled 5 [] (size - 5) ∙ omega arith)

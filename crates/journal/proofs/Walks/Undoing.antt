@@ -1,31 +1,23 @@
 -- Undo, step by step: its refusals, and the record that it takes back.
-use Prim.Native.Nat.{ℕ, zero, suc, _+_, _*_, _≤_}
+use Prim.Native.Nat.{ℕ, _+_, _*_, _≤_}
 use mathlib.Core.Path.{_≡_, refl, sym, _∙_}
-use mathlib.Core.Bool.{Bool, true, false}
-use mathlib.Core.List.{List, [], _∷_}
+use mathlib.Core.Bool.{true, false}
+use mathlib.Core.List.{List}
+use mathlib.Core.Logic.{⊎-elim}
 use native.Mathlib.Omega.{arith}
 use borrow.Author.Tests.{ne-eqb}
 use lib.ListN.{length}
-use Rattle.layout.specs.Lists.{range, every, lastOr}
-use Rattle.layout.specs.Refusals.{firstOf, accept}
+use Rattle.layout.specs.Lists.{range, lastOr}
 use Rattle.layout.specs.Bytes.{be32, bytes4, zeros, splice}
 use Rattle.layout.specs.Geometry.{blockCount}
 use Rattle.layout.specs.Check.{check}
 use Rattle.journal.specs.Journal.{used, copies, recordOk, records, wellFormed, lastRecord, restored, undoneImage, undoneJournal}
 use Rattle.journal.specs.Run.{State, Answer, undone, undoRefusal, afterUndo, undoAnswer, state}
 use Rattle.journal.specs.Walks.Undoing.{Last, Saved}
-use Rattle.layout.proofs.Laws.Tests.{and-split}
+use Rattle.layout.proofs.Laws.Tests.{firstOf-refused, accept-refused}
 use Rattle.layout.proofs.Laws.Sound.{sound}
 use Rattle.journal.proofs.Laws.Append.{Fine, fine, WellFormed, well}
-
--- a refusal is the first number, and leaves all as it was
-pub first-refusal : (a b : ℕ) → (a ≡ 0 → ⊥) → firstOf a b ≡ a
-first-refusal zero b h = absurd (h refl)
-first-refusal (suc a) b h = refl
-
-pub not-accepted : {A : Type 0} (k : ℕ) (x y : A) → (k ≡ 0 → ⊥) → accept k x y ≡ y
-not-accepted zero x y h = absurd (h refl)
-not-accepted (suc k) x y h = refl
+use Rattle.layout.proofs.Laws.Lists.{In, every-in, last-in}
 
 -- what undo answers and leaves
 abbrev pub Undoes : State → Answer → State → Type 0
@@ -34,11 +26,11 @@ Undoes p a q = (a ≡ undoAnswer p) × (q ≡ afterUndo p)
 module _ (s j : List ℕ) where
   refused : (r : ℕ) → undoRefusal (state s j) ≡ r → (r ≡ 0 → ⊥) → Undoes (state s j) (undone r 0) (state s j)
   unfolding undoAnswer afterUndo
-  refused r e h = rw e (sym (not-accepted r _ (undone r 0) h), sym (not-accepted r _ (state s j) h))
+  refused r e h = rw e (sym (accept-refused r _ (undone r 0) h), sym (accept-refused r _ (state s j) h))
 
   pub undo-unsound : (r : ℕ) → r ≡ check s → (r ≡ 0 → ⊥) → Undoes (state s j) (undone r 0) (state s j)
   unfolding undoRefusal
-  undo-unsound r e h = refused r (rw (← e) (first-refusal r _ h)) h
+  undo-unsound r e h = refused r (rw (← e) (firstOf-refused r _ h)) h
 
   pub undo-malformed : check s ≡ 0 → wellFormed j (blockCount s) ≡ false → Undoes (state s j) (undone 8 0) (state s j)
   unfolding undoRefusal
@@ -48,15 +40,6 @@ module _ (s j : List ℕ) where
   unfolding undoRefusal
   undo-none c w l = refused 16 (rw (c, w, l)) (λ e. omega arith)
 
--- the last of a list passes if all do
-last-passes : (p : ℕ → Bool) (xs : List ℕ) (x : ℕ) → p x ≡ true → every p xs ≡ true → p (lastOr x xs) ≡ true
-last-passes p [] x a t = a
-last-passes p (y ∷ xs) x a t = let b = and-split (p y) (every p xs) t in last-passes p xs y (b .0) (b .1)
-
-some-passes : (p : ℕ → Bool) (xs : List ℕ) → (lastOr 0 xs ≡ 0 → ⊥) → every p xs ≡ true → p (lastOr 0 xs) ≡ true
-some-passes p [] h t = absurd (h refl)
-some-passes p (y ∷ xs) h t = let b = and-split (p y) (every p xs) t in last-passes p xs y (b .0) (b .1)
-
 module _ (s j : List ℕ) (at : ℕ) (l : Last s j at) where
   pub last-well : WellFormed j (blockCount s)
   last-well = well j (blockCount s) (l .well-formed)
@@ -65,7 +48,8 @@ module _ (s j : List ℕ) (at : ℕ) (l : Last s j at) where
   unfolding lastRecord
   last-fine =
       let e = l .last in
-      fine j (blockCount s) at (rw e (some-passes (recordOk j (blockCount s)) (records j) (λ z. l .some (e ∙ z)) (last-well .recorded)))
+      let i : In (lastOr 0 (records j)) (records j) = ⊎-elim (λ z. absurd (l .some (e ∙ z))) (λ m. m) (last-in (records j) 0) in
+      fine j (blockCount s) at (rw e (every-in (recordOk j (blockCount s)) (records j) (lastOr 0 (records j)) (last-well .recorded) i))
 
   pub last-saved : (k : ℕ) → k ≡ copies j at → Saved s j (blockCount s) at k
   last-saved k e =

@@ -1,15 +1,16 @@
 -- Lists of bytes: zeros, parts, numbers, and splices, with what a store or a loan leaves.
-use Prim.Native.Nat.{ℕ, zero, suc, _+_, _-_, _*_, _/_, _%_, _≤_, _<_}
+use Prim.Native.Nat.{ℕ, zero, suc, _+_, _-_, _*_, _/_, _%_, _≤_, _<_, max}
 use mathlib.Core.List.{List, [], _∷_, _++_, append-assoc, append-nil}
-use mathlib.Core.Logic.{_⊎_, ⊎-elim}
+use mathlib.Core.Logic.{_⊎_, ⊎-elim, inl, inr}
 use mathlib.Core.Path.{_≡_, refl, sym, ap, _∙_}
-use native.Mathlib.Nat.{add-assoc, div-div-eq-div-mul}
+use native.Mathlib.Nat.{add-assoc, div-div-eq-div-mul, zero-add}
 use native.Mathlib.Numerals.{add-one, add-three, add-two}
 use native.Mathlib.Omega.{arith}
-use lib.ListN.{length, getD, set, take, drop, List·getD-append, List·getD-eq-default, length-append, length-drop, length-replicate, length-set, length-take, replicate-append-replicate, take-append-drop}
-use lib.Seq.{append-snoc, drop-append-add, drop-append-le, drop-at, drop-cons, drop-drop, drop-length, ext-getD, getD-append-add, getD-drop, getD-take, length-take-le, set-at, sets, sets-eq, take-all, take-append-add, take-append-le, take-at, take-suc, take-take}
+use lib.ListN.{length, getD, set, take, drop, List·getD-append, List·getD-eq-default, length-append, length-drop, length-replicate, length-set, length-take, replicate-append-replicate, take-append-drop, drop-of-length-le}
+use lib.Seq.{append-snoc, drop-append-add, drop-append-le, drop-at, drop-cons, drop-drop, drop-length, ext-getD, getD-append-add, getD-drop, getD-take, length-take-le, set-at, sets, sets-eq, take-all, take-append-add, take-append-le, take-at, take-suc, take-take, take-add}
 use borrow.Rule.Slice.PartMut.{putMid}
 use Rattle.layout.specs.Bytes.{be32, bytes4, bytes8, zeros, part, block, splice}
+use Rattle.layout.specs.Lists.{joined}
 use Rattle.layout.proofs.Laws.Tests.{lt-or-ge}
 
 pub zeros-none : zeros 0 ≡ []
@@ -53,6 +54,10 @@ part-part s a n o m hs hn =
     part-same s (part s a n) (a + o) o m (λ i h. getD-part s a n (o + i) (omega arith) ∙ ap (λ (k : ℕ). getD s k 0) (sym (add-assoc a o i))) (omega arith)
     (omega (arith, length-part s a n hs))
 
+-- the second of three lists
+pub part-middle : (xs ys zs : List ℕ) (at : ℕ) → length xs ≡ at → part (xs ++ (ys ++ zs)) at (length ys) ≡ ys
+part-middle xs ys zs at e = ap (take (length ys)) (drop-at xs (ys ++ zs) at e) ∙ take-at ys zs (length ys) refl
+
 -- the part `&s[n..]` is what is left after n
 pub part-rest : (s : List ℕ) (n : ℕ) → take (length s - n) (drop n s) ≡ drop n s
 part-rest s n = take-all (length s - n) (drop n s) (simp length-drop (omega arith))
@@ -78,6 +83,11 @@ bytes4-low v =
     let d : v % 0x100000000 % 256 ≡ v % 256 = omega arith in
     rw (a, b, c, d)
 
+-- a number of four bytes
+pub be32-small : (s : List ℕ) (at : ℕ) → ((i : ℕ) → getD s i 0 < 256) → be32 s at < 0x100000000
+unfolding be32
+be32-small s at f = omega (arith, f at, f (at + 1), f (at + 2), f (at + 3))
+
 -- a number, by its bytes
 pub be32-same : (s s′ : List ℕ) (a b : ℕ) → ((i : ℕ) → i < 4 → getD s′ (b + i) 0 ≡ getD s (a + i) 0) → be32 s′ b ≡ be32 s a
 unfolding be32
@@ -99,6 +109,24 @@ be32-bytes4 v h =
   where
     four : (v a b c : ℕ) → v / 0x100 ≡ a → a / 0x100 ≡ b → b / 0x100 ≡ c → c < 256 → c % 256 * 0x1000000 + b % 256 * 0x10000 + a % 256 * 0x100 + v % 256 ≡ v
     four v a b c p q r l = omega arith
+
+-- numbers, four bytes each, in a row; a number of zeros
+pub length-joined4 : (xs : List ℕ) → length (joined bytes4 xs) ≡ 4 * length xs
+unfolding bytes4
+length-joined4 [] = refl
+length-joined4 (x ∷ xs) = omega (arith, length-joined4 xs)
+
+pub joined4-at : (xs : List ℕ) (b : ℕ) → b < length xs → getD xs b 0 < 0x100000000 → be32 (joined bytes4 xs) (4 * b) ≡ getD xs b 0
+unfolding be32 bytes4
+joined4-at [] b h g = absurd (omega arith)
+joined4-at (x ∷ xs) zero h g = be32-bytes4 x g
+joined4-at (x ∷ xs) (suc b) h g =
+    be32-same (joined bytes4 xs) (joined bytes4 (x ∷ xs)) (4 * b) (4 * suc b)
+    (λ i l. let e : 4 * suc b + i ≡ suc (suc (suc (suc (4 * b + i)))) = omega arith in rw e) ∙ joined4-at xs b (omega arith) g
+
+pub zeros-32 : (m i : ℕ) → be32 (zeros m) i ≡ 0
+unfolding be32
+zeros-32 m i = rw (getD-zeros m i, getD-zeros m (i + 1), getD-zeros m (i + 2), getD-zeros m (i + 3))
 
 -- a number that stands at an offset
 pub be32-at : (s : List ℕ) (at v : ℕ) (rest : List ℕ) → drop at s ≡ bytes4 v ++ rest → v < 0x100000000 → be32 s at ≡ v
@@ -193,6 +221,19 @@ splice-append s at x y fits =
     (lt-or-ge i (length x)))
     (λ i h. getD-splice-after t (at + length x) y hy i (omega arith) ∙ getD-splice-after s at x hx i (omega arith))
 
+-- two and three runs that fill a list
+pub splice-two : (s x y : List ℕ) (a : ℕ) → length s ≡ length x + length y → a ≡ length x → splice (splice s 0 x) a y ≡ x ++ y
+splice-two s x y a h e =
+    let d : 0 + length x ≡ a = omega arith in
+    (rw d at (splice-append s 0 x y (omega arith))) ∙ splice-whole s (x ++ y) (length-append x y ∙ omega arith)
+
+pub splice-three : (s x y z : List ℕ) (a b : ℕ) → length s ≡ length x + length y + length z → a ≡ length x → b ≡ length x + length y
+    → splice (splice (splice s 0 x) a y) b z ≡ x ++ (y ++ z)
+splice-three s x y z a b h e f =
+    let g : length (x ++ y) ≡ length x + length y = length-append x y in
+    let d : 0 + length x ≡ a = omega arith in
+    ap (λ (l : List ℕ). splice l b z) (rw d at (splice-append s 0 x y (omega arith))) ∙ splice-two s (x ++ y) z b (omega arith) (omega arith) ∙ append-assoc x y z
+
 -- what lies before and after a splice
 pub take-splice : (s : List ℕ) (at : ℕ) (p : List ℕ) (n : ℕ) → at ≤ length s → n ≤ at → take n (splice s at p) ≡ take n s
 unfolding splice
@@ -212,16 +253,6 @@ drop-splice s at p n h l =
     ap (λ (k : ℕ). drop k (splice s at p)) (sym e) ∙ sym (drop-drop m (at + length p) (splice s at p)) ∙ ap (drop m) d ∙ drop-drop m (at + length p) s
     ∙ ap (λ (k : ℕ). drop k s) e
 
-pub drop-at-splice : (s : List ℕ) (at : ℕ) (p : List ℕ) → at ≤ length s → drop at (splice s at p) ≡ p ++ drop (length p) (drop at s)
-unfolding splice
-drop-at-splice s at p h = drop-at (take at s) (p ++ drop (length p) (drop at s)) at (length-take-le at s h)
-
--- a run written over one just as long
-pub splice-splice-same : (s : List ℕ) (at : ℕ) (p q : List ℕ) → at + length p ≤ length s → length q ≡ length p → splice (splice s at p) at q ≡ splice s at q
-splice-splice-same s at p q h e =
-    splice-flat (splice s at p) at q
-    ∙ (rw (take-splice s at p at (omega arith) (omega arith), drop-splice s at p (at + length q) (omega arith) (omega arith)) (sym (splice-flat s at q)))
-
 -- a run written in the first of two lists, and in the second
 pub splice-left : (x y : List ℕ) (o : ℕ) (p : List ℕ) → o + length p ≤ length x → splice (x ++ y) o p ≡ splice x o p ++ y
 unfolding splice
@@ -233,6 +264,57 @@ splice-left x y o p h =
 pub splice-right : (x y : List ℕ) (o : ℕ) (p : List ℕ) → splice (x ++ y) (length x + o) p ≡ x ++ splice y o p
 unfolding splice
 splice-right x y o p = rw (take-append-add, drop-append-add, append-assoc)
+
+-- bytes put into two lists in order: after the first, or from within the first on
+module _ (x y : List ℕ) (o : ℕ) (p : List ℕ) where
+  pub splice-second : length x ≤ o → splice (x ++ y) o p ≡ x ++ splice y (o - length x) p
+  splice-second h = let e : o ≡ length x + (o - length x) = omega arith in ap (λ (i : ℕ). splice (x ++ y) i p) e ∙ splice-right x y (o - length x) p
+
+  pub splice-across : o ≤ length x → o + length p ≤ length x + length y
+      → splice (x ++ y) o p ≡ splice x o (take (length x - o) p) ++ splice y 0 (drop (length x - o) p)
+  splice-across h g = go (lt-or-ge (length x - o) (length p))
+    where
+      go : (length x - o < length p) ⊎ (length p ≤ length x - o) → splice (x ++ y) o p ≡ splice x o (take (length x - o) p) ++ splice y 0 (drop (length x - o) p)
+      go (inr f) = rw (take-all (length x - o) p f, drop-of-length-le p f, splice-nil y 0) (splice-left x y o p (omega arith))
+      go (inl f) =
+          let a : List ℕ = take (length x - o) p in
+          let b : List ℕ = drop (length x - o) p in
+          let la : length a ≡ length x - o = length-take-le (length x - o) p (omega arith) in
+          let lb : length b ≡ length p - (length x - o) = length-drop (length x - o) p in
+          let fits : o + length a + length b ≤ length (x ++ y) = omega (arith, length-append x y) in
+          let e : o + length a ≡ length (splice x o a) + 0 = omega (arith, length-splice x o a (omega arith)) in
+          ap (splice (x ++ y) o) (sym (take-append-drop (length x - o) p)) ∙ sym (splice-append (x ++ y) o a b fits)
+          ∙ ap (λ (r : List ℕ). splice r (o + length a) b) (splice-left x y o a (omega arith))
+          ∙ ap (λ (i : ℕ). splice (splice x o a ++ y) i b) e ∙ splice-right (splice x o a) y 0 b
+
+-- a splice, cut at the larger of an old size and its own end
+pub splice-cut : (X : List ℕ) (size o : ℕ) (p : List ℕ) → o ≤ size → size ≤ length X → take (max size (o + length p)) (splice X o p) ≡ splice (take size X) o p
+splice-cut X size o p h g = go (lt-or-ge (o + length p) size)
+  where
+    a : take o (take size X) ≡ take o X
+    a = take-take o size X h
+
+    lo : length (take o X) ≡ o
+    lo = length-take-le o X (omega arith)
+
+    go : (o + length p < size) ⊎ (size ≤ o + length p) → take (max size (o + length p)) (splice X o p) ≡ splice (take size X) o p
+    go (inr q) =
+        let m : max size (o + length p) ≡ o + length p = omega arith in
+        let l : length (take size X) ≤ o + length p = omega (arith, length-take size X) in
+        let z : drop (o + length p) (take size X) ≡ [] = drop-of-length-le (take size X) l in
+        let e : length (take o X ++ p) ≡ o + length p = length-append (take o X) p ∙ ap (λ (i : ℕ). i + length p) lo in
+        rw (m, splice-flat X o p, splice-flat (take size X) o p, a, z, append-nil p, ← append-assoc (take o X) p (drop (o + length p) X)) (take-at (take o X ++ p) (drop (o + length p) X) (o + length p) e)
+    go (inl q) =
+        let m : max size (o + length p) ≡ o + length p + (size - (o + length p)) = omega arith in
+        let e : length (take o X ++ p) ≡ o + length p = length-append (take o X) p ∙ ap (λ (i : ℕ). i + length p) lo in
+        let r : size ≡ o + length p + (size - (o + length p)) = omega arith in
+        let z : drop (o + length p) (take size X) ≡ take (size - (o + length p)) (drop (o + length p) X) =
+        ap (λ (j : ℕ). drop (o + length p) (take j X)) r ∙ cut (o + length p) (size - (o + length p)) X (omega arith) in
+        rw (m, splice-flat X o p, splice-flat (take size X) o p, a, z, ← append-assoc (take o X) p (drop (o + length p) X), ← append-assoc (take o X) p (take (size - (o + length p)) (drop (o + length p) X)), ← e)
+        (take-append-add (take o X ++ p) (drop (length (take o X ++ p)) X) (size - length (take o X ++ p)))
+      where
+        cut : (n m : ℕ) (l : List ℕ) → n ≤ length l → drop n (take (n + m) l) ≡ take m (drop n l)
+        cut n m l h = ap (drop n) (take-add n m l) ∙ drop-at (take n l) (take m (drop n l)) n (length-take-le n l h)
 
 -- a write in a part is a write in the whole
 pub splice-part : (s : List ℕ) (at n k : ℕ) (p : List ℕ) → at + n ≤ length s → k + length p ≤ n → splice s at (splice (part s at n) k p) ≡ splice s (at + k) p
@@ -262,7 +344,7 @@ splice-part s at n k p hs hp =
     (λ b. getD-splice-after s at m hf i b)
     (lt-or-ge i (at + length m)))
 
--- a part after a write within it, and after a write elsewhere
+-- a part after a write within it
 pub part-splice-inside : (s : List ℕ) (a n o : ℕ) (p : List ℕ) → a + n ≤ length s → o + length p ≤ n → part (splice s (a + o) p) a n ≡ splice (part s a n) o p
 part-splice-inside s a n o p hs hp =
     let f : a + o + length p ≤ length s = omega arith in
@@ -278,12 +360,10 @@ part-splice-inside s a n o p hs hp =
     (λ hi. List·getD-eq-default (part (splice s (a + o) p) a n) 0 (omega arith) ∙ sym (List·getD-eq-default (part s a n) 0 (omega arith)))
     (lt-or-ge i n))
 
-pub part-splice-outside : (s : List ℕ) (a n at : ℕ) (p : List ℕ) → a + n ≤ length s → at + length p ≤ length s → (a + n ≤ at) ⊎ (at + length p ≤ a)
-    → part (splice s at p) a n ≡ part s a n
-part-splice-outside s a n at p hs f away =
-    part-same s (splice s at p) a a n
-    (λ i h. ⊎-elim (λ b. getD-splice-before s at p f (a + i) (omega arith)) (λ c. getD-splice-after s at p f (a + i) (omega arith)) away)
-    hs (omega (arith, length-splice s at p f))
+-- a part just written
+pub part-splice : (s : List ℕ) (at : ℕ) (p : List ℕ) (k : ℕ) → length p ≡ k → at ≤ length s → part (splice s at p) at k ≡ p
+part-splice s at p k e h =
+    rw (← e, splice-flat s at p) (part-middle (take at s) p (drop (at + length p) s) at (length-take-le at s h))
 
 -- a number just stored
 pub be32-splice : (s : List ℕ) (at v : ℕ) → at + 4 ≤ length s → v < 0x100000000 → be32 (splice s at (bytes4 v)) at ≡ v
@@ -299,15 +379,6 @@ sets-splice s at p fits = sets-eq p s at fits ∙ append-assoc (take at s) p (dr
 -- four stores
 pub set4-splice : (l : List ℕ) (i a b c d : ℕ) → i + 4 ≤ length l → set (set (set (set l i a) (i + 1) b) (i + 2) c) (i + 3) d ≡ splice l i (a ∷ b ∷ c ∷ d ∷ [])
 set4-splice l i a b c d h = rw (add-one i, add-two i, add-three i) (sets-splice l i (a ∷ b ∷ c ∷ d ∷ []) h)
-
--- the law of every loop that fills or copies: one more byte stored
-pub set-splice : (s : List ℕ) (at : ℕ) (p : List ℕ) (v : ℕ) → at + length p < length s → set (splice s at p) (at + length p) v ≡ splice s at (p ++ (v ∷ []))
-set-splice s at p v h =
-    let e : length (take at s ++ p) ≡ at + length p = simp (length-append, length-take) (omega arith) in
-    let f : at + length (p ++ (v ∷ [])) ≡ suc (at + length p) = simp length-append (omega arith) in
-    rw (splice-flat s at p, splice-flat s at (p ++ (v ∷ [])), drop-cons s (at + length p) 0, f)
-    (rw (← append-assoc (take at s) p (getD s (at + length p) 0 ∷ drop (suc (at + length p)) s))
-    (set-at (take at s ++ p) (getD s (at + length p) 0) (drop (suc (at + length p)) s) v (at + length p) e ∙ simp append-assoc))
 
 -- a store is a run of one, and the first of a longer run
 pub splice-cons : (s : List ℕ) (at v : ℕ) (p : List ℕ) → at + suc (length p) ≤ length s → splice s at (v ∷ p) ≡ splice (set s at v) (at + 1) p
@@ -330,3 +401,13 @@ lent s at k ys q e l = rw (e, ← l)
 -- the same, where the loan is not computed
 pub putMid-splice : (s : List ℕ) (at k : ℕ) (p : List ℕ) → length p ≡ k → putMid at k s p ≡ splice s at p
 putMid-splice s at k p e = lent s at k p p refl e
+
+-- the same, where the callee wrote p at k of the lent part
+pub lent-part : (s : List ℕ) (at n k : ℕ) (p ys : List ℕ) → ys ≡ splice (part s at n) k p → at + n ≤ length s → k + length p ≤ n → take at s ++ (ys ++ drop n (drop at s)) ≡ splice s (at + k) p
+lent-part s at n k p ys e hs hp =
+    let hn : length (part s at n) ≡ n = length-part s at n hs in
+    lent s at n ys (splice (part s at n) k p) e (length-splice (part s at n) k p (omega arith) ∙ hn) ∙ splice-part s at n k p hs hp
+
+-- the same for the header, which begins at 0
+pub lent-header : (s : List ℕ) (n k : ℕ) (p ys : List ℕ) → ys ≡ splice (take n s) k p → n ≤ length s → k + length p ≤ n → ys ++ drop n s ≡ splice s k p
+lent-header s n k p ys e hs hp = lent-part s 0 n k p ys e (omega arith) hp ∙ rw zero-add

@@ -46,9 +46,6 @@ module _ (s s′ : List ℕ) (e : ℕ) (len : length s′ ≡ length s) (fits : 
   pub same-field : (k : ℕ) → k + 4 ≤ 128 → be32 s′ (e + k) ≡ be32 s (e + k)
   same-field = entry-field s s′ e e fits (omega arith) kept
 
-  pub same-name-field : part s′ (e + 48) 80 ≡ part s (e + 48) 80
-  same-name-field = entry-name-field s s′ e e fits (omega arith) kept
-
   pub same-name : nameOf s′ e ≡ nameOf s e
   same-name = entry-name s s′ e e fits (omega arith) kept
 
@@ -68,9 +65,6 @@ module _ (s : List ℕ) (a n o : ℕ) (hs : a + n ≤ length s) (ho : o + 128 �
 
   pub field-in-part : (k : ℕ) → k + 4 ≤ 128 → be32 (part s a n) (o + k) ≡ be32 s (a + o + k)
   field-in-part = entry-field s (part s a n) (a + o) o (omega arith) long bytes-in-part
-
-  pub name-field-in-part : part (part s a n) (o + 48) 80 ≡ part s (a + o + 48) 80
-  name-field-in-part = entry-name-field s (part s a n) (a + o) o (omega arith) long bytes-in-part
 
   pub name-in-part : nameOf (part s a n) o ≡ nameOf s (a + o)
   name-in-part = entry-name s (part s a n) (a + o) o (omega arith) long bytes-in-part

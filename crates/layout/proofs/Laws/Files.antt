@@ -1,26 +1,28 @@
 -- Where the slots of a sound image are, and what is known of a file and of a free slot.
-use Prim.Native.Nat.{ℕ, _+_, _-_, _*_, _/_, _%_, _≤_, _<_}
-use mathlib.Core.Bool.{true, not, _&&_, false≢true}
+use Prim.Native.Nat.{ℕ, _+_, _-_, _*_, _/_, _%_, _≤_, _<_, suc, zero}
+use mathlib.Core.Bool.{true, _&&_, false≢true, Bool}
 use mathlib.Core.List.{List, [], _∷_}
 use mathlib.Core.Logic.{_⊎_, inl, inr, ⊎-elim, _≢_}
 use mathlib.Core.Path.{_≡_, refl, sym, ap, _∙_, subst}
 use native.Mathlib.Decide.{ℕ-discrete}
 use native.Mathlib.Omega.{arith}
 use lib.Dec.{eqb}
-use lib.ListN.{length, length-append, length-take}
+use lib.ListN.{length, length-append, length-take, getD}
 use borrow.Author.Tests.{eqb-true}
+use lib.Seq.{take-at, drop-append-add}
 use Rattle.layout.specs.Lists.{same, joined}
-use Rattle.layout.specs.Bytes.{block}
+use Rattle.layout.specs.Bytes.{block, part}
 use Rattle.layout.specs.Geometry.{blockCount, blocksFor}
 use Rattle.layout.specs.Table.{next, chainOk}
 use Rattle.layout.specs.Directory.{slotAt, typeOf, firstBlock, sizeOf, blocksOf, isFree, isFile, nameOf, nameOk, fileSlot, freeSlot, root, fileBlocks, content}
 use Rattle.layout.specs.Check.{attributesOk, fileOk}
 use Rattle.layout.specs.Looks.{entryOf}
-use Rattle.layout.proofs.Laws.Bytes.{length-block}
+use Rattle.layout.proofs.Laws.Bytes.{length-block, part-part}
 use Rattle.layout.proofs.Laws.Chains.{nth, length-chain, chainOk-join, chain-below, chain-differ}
-use Rattle.layout.proofs.Laws.Lists.{In, lowest-is}
+use Rattle.layout.proofs.Laws.Lists.{In, lowest-met, lowest-none, getD-in}
 use Rattle.layout.proofs.Laws.Sound.{heldAt, rootOf, dirSize, Sound, file-held, slotOk-split, length-root, getD-root, root-chain}
 use Rattle.layout.proofs.Laws.Tests.{and-split, lt-or-gt}
+use Rattle.layout.proofs.Laws.Names.{same-eq}
 
 -- where the slots are
 module _ (s : List ℕ) (S : Sound s) where
@@ -79,6 +81,50 @@ length-blocks s [] f = refl
 length-blocks s (b ∷ bs) f =
     length-append (block s b) (joined (block s) bs) ∙ omega (arith, length-block s b (f b (inl refl)), length-blocks s bs (λ x m. f x (inr m)))
 
+-- the i-th of them
+pub joined-block : (s bs : List ℕ) → ((x : ℕ) → In x bs → 512 * x + 512 ≤ length s) → (i : ℕ) → i < length bs
+    → part (joined (block s) bs) (512 * i) 512 ≡ block s (getD bs i 0)
+joined-block s [] f i g = absurd (omega arith)
+joined-block s (b ∷ bs) f zero g = take-at (block s b) (joined (block s) bs) 512 (length-block s b (f b (inl refl)))
+joined-block s (b ∷ bs) f (suc i) g =
+    let e : 512 * suc i ≡ length (block s b) + 512 * i = omega (arith, length-block s b (f b (inl refl))) in
+    rw (e, drop-append-add (block s b) (joined (block s) bs) (512 * i)) (joined-block s bs (λ x m. f x (inr m)) i (omega arith))
+
+pub length-fileBlocks : (s : List ℕ) (e : ℕ) → length (fileBlocks s e) ≡ blocksOf s e
+unfolding fileBlocks
+length-fileBlocks s e = length-chain (next s) (firstBlock s e) (blocksOf s e)
+
+-- the slot of a name: a file of that name
+abbrev pub fits-name : List ℕ → ℕ → List ℕ → Bool
+fits-name s e name = isFile (typeOf s e) && same (nameOf s e) name
+
+module _ (s name : List ℕ) (there : fileSlot s (root s) name ≢ 0) where
+  abbrev k : ℕ
+  k = fileSlot s (root s) name
+
+  found : (1 ≤ k) × (k < 1 + (4 * length (root s) - 2)) × (fits-name s (slotAt (root s) k) name ≡ true)
+  unfolding fileSlot
+  found = lowest-met (λ j. fits-name s (slotAt (root s) j) name) 1 (4 * length (root s) - 2) there
+
+  pub named-slot : (1 ≤ k) × (k < 4 * dirSize s - 1) × (isFile (typeOf s (slotAt (root s) k)) ≡ true)
+  named-slot = (found .0, omega (arith, found .0, found .1, length-root s), and-split _ _ (found .2) .0)
+
+  pub named-name : nameOf s (slotAt (root s) k) ≡ name
+  named-name = same-eq _ _ (and-split (isFile (typeOf s (slotAt (root s) k))) (same (nameOf s (slotAt (root s) k)) name) (found .2) .1)
+
+-- no slot has a name that is not found
+pub unnamed : (s name : List ℕ) → fileSlot s (root s) name ≡ 0 → (j : ℕ) → 1 ≤ j → j < 4 * dirSize s - 1 → fits-name s (slotAt (root s) j) name ≡ true → ⊥
+unfolding fileSlot
+unnamed s name none j h g =
+    lowest-none (λ i. fits-name s (slotAt (root s) i) name) 1 (4 * length (root s) - 2) (omega arith) none j h (omega (arith, length-root s))
+
+-- the lowest free slot
+pub free-slot : (s : List ℕ) → freeSlot s (root s) ≢ 0 → (1 ≤ freeSlot s (root s)) × (freeSlot s (root s) < 4 * dirSize s - 1) × (typeOf s (slotAt (root s) (freeSlot s (root s))) ≡ 0)
+unfolding freeSlot
+free-slot s some =
+    let r = lowest-met (λ j. isFree (typeOf s (slotAt (root s) j))) 1 (4 * length (root s) - 2) some in
+    (r .0, omega (arith, length-root s), eqb-true _ _ (r .2))
+
 module _ (s : List ℕ) (S : Sound s) where
   pub slot-in : (k : ℕ) → k < 4 * dirSize s → Slot s (slotAt (root s) k)
   slot-in k h =
@@ -106,30 +152,40 @@ module _ (s : List ℕ) (S : Sound s) where
               (chainOk-join (next s) (blockCount s) (firstBlock s e) (heldAt s (root s) k) (S .table .right k (omega arith)));
         }
 
-  -- the file of a name, and a free slot, where there is one
-  pub file-of : (name : List ℕ) → not (eqb (fileSlot s (root s) name) 0) ≡ true → File s (entryOf s name)
-  unfolding fileSlot entryOf
-  file-of name h =
-      let l = lowest-is (λ k. isFile (typeOf s (slotAt (root s) k)) && same (nameOf s (slotAt (root s) k)) name) 1 (4 * length (root s) - 2) h in
-      file-in (fileSlot s (root s) name) (l .from) (omega (arith, l .to, length-root s))
-      (and-split (isFile (typeOf s (slotAt (root s) (fileSlot s (root s) name)))) _ (l .passes) .0)
+  -- the file of a name
+  pub file-of : (name : List ℕ) → fileSlot s (root s) name ≢ 0 → File s (entryOf s name)
+  unfolding entryOf
+  file-of name there = let w = named-slot s name there in file-in (fileSlot s (root s) name) (w .0) (w .1) (w .2)
 
-  pub slot-of : not (eqb (freeSlot s (root s)) 0) ≡ true → Slot s (slotAt (root s) (freeSlot s (root s)))
-  unfolding freeSlot
-  slot-of h =
-      let l = lowest-is (λ k. isFree (typeOf s (slotAt (root s) k))) 1 (4 * length (root s) - 2) h in
-      slot-in (freeSlot s (root s)) (omega (arith, l .to, length-root s))
-
-  pub file-blocks : (e x : ℕ) → File s e → In x (fileBlocks s e) → x < blockCount s
+  -- its blocks and its content
+  pub file-inside : (e x : ℕ) → File s e → In x (fileBlocks s e) → x < blockCount s
   unfolding fileBlocks
-  file-blocks e x f m = chain-below (next s) (blockCount s) (firstBlock s e) (blocksOf s e) x (f .chained) m
+  file-inside e x f m = chain-below (next s) (blockCount s) (firstBlock s e) (blocksOf s e) x (f .chained) m
 
-  pub length-fileBlocks : (e : ℕ) → length (fileBlocks s e) ≡ blocksOf s e
-  unfolding fileBlocks
-  length-fileBlocks e = length-chain (next s) (firstBlock s e) (blocksOf s e)
+  module _ (e : ℕ) (f : File s e) where
+    bound : (x : ℕ) → In x (fileBlocks s e) → 512 * x + 512 ≤ length s
+    bound x m = omega (arith, file-inside e x f m, S .whole)
 
-  pub length-content : (e : ℕ) → File s e → length (content s e) ≡ sizeOf s e
-  unfolding content
-  length-content e f =
-      let l = length-blocks s (fileBlocks s e) (λ x m. omega (arith, file-blocks e x f m, S .whole)) in
-      simp length-take (omega (arith, length-fileBlocks e, f .blocks))
+    length-file : length (joined (block s) (fileBlocks s e)) ≡ 512 * blocksOf s e
+    length-file = length-blocks s (fileBlocks s e) bound ∙ ap (λ (k : ℕ). 512 * k) (length-fileBlocks s e)
+
+    pub length-content : length (content s e) ≡ sizeOf s e
+    unfolding content
+    length-content = let l = length-file in simp length-take (omega (arith, f .blocks))
+
+    -- block i of the file, cut at the file's end, is that part of its content
+    pub content-part : (i m : ℕ) → i < blocksOf s e → m ≤ 512 → m ≤ sizeOf s e - 512 * i
+        → part s (512 * getD (fileBlocks s e) i 0) m ≡ part (content s e) (512 * i) m
+    unfolding content
+    content-part i m h m₁ m₂ =
+        let b : ℕ = getD (fileBlocks s e) i 0 in
+        let J : List ℕ = joined (block s) (fileBlocks s e) in
+        let l = length-fileBlocks s e in
+        let lj = length-file in
+        let fit : 512 * b + 512 ≤ length s = bound b (getD-in (fileBlocks s e) i 0 (omega arith)) in
+        let z : 512 * b ≡ 512 * b + 0 = omega arith in
+        let y : 512 * i + 0 ≡ 0 + 512 * i = omega arith in
+        ap (λ (a : ℕ). part s a m) z ∙ sym (part-part s (512 * b) 512 0 m fit (omega arith))
+        ∙ ap (λ (B : List ℕ). part B 0 m) (sym (joined-block s (fileBlocks s e) bound i (omega arith)))
+        ∙ part-part J (512 * i) 512 0 m (omega arith) (omega arith) ∙ ap (λ (a : ℕ). part J a m) y
+        ∙ sym (part-part J 0 (sizeOf s e) (512 * i) m (omega (arith, f .blocks)) (omega arith))

@@ -1,18 +1,21 @@
 -- Byte strings compared, padding, and good names.
-use Prim.Native.Nat.{ℕ, zero, suc, _≤_, _<_}
+use Prim.Native.Nat.{ℕ, zero, suc, _≤_, _<_, _+_, _-_}
 use mathlib.Core.Bool.{true, _&&_, and-assoc, false≢true}
 use mathlib.Core.List.{List, [], _∷_, _++_}
 use mathlib.Core.Logic.{_≢_}
 use mathlib.Core.Path.{_≡_, refl, sym, ap}
 use native.Mathlib.Nat.{le-of-suc-le-suc, not-suc-le-zero, suc-ne-zero}
+use native.Mathlib.Omega.{arith}
 use lib.Dec.{eqb}
-use lib.ListN.{length, getD, take, drop}
+use lib.ListN.{length, getD, take, drop, length-append}
 use borrow.Author.Tests.{eqb-false, eqb-true, ne-eqb, not-true}
 use Rattle.layout.specs.Limits.{maxName}
 use Rattle.layout.specs.Lists.{within, every, same}
-use Rattle.layout.specs.Directory.{nameByte, goodName, unpadded}
+use Rattle.layout.specs.Directory.{nameByte, goodName, unpadded, nameOf, nameOk, padded}
+use Rattle.layout.specs.Bytes.{part, zeros}
 use Rattle.layout.proofs.Laws.Lists.{getD-in, every-in}
-use Rattle.layout.proofs.Laws.Tests.{and-split, and-join, within-split, eqb-self}
+use Rattle.layout.proofs.Laws.Tests.{and-split, and-join, within-split, eqb-self, true-not-false}
+use Rattle.layout.proofs.Laws.Bytes.{length-zeros}
 
 pub same-eq : (x y : List ℕ) → same x y ≡ true → x ≡ y
 same-eq [] [] e = refl
@@ -59,3 +62,31 @@ goodName-length name e = goodName-split name e .1
 
 pub goodName-byte : (name : List ℕ) (i : ℕ) → goodName name ≡ true → i < length name → getD name i 0 ≢ 0
 goodName-byte name i e h = eqb-false _ _ (not-true _ (every-in nameByte name (getD name i 0) (goodName-split name e .2) (getD-in name i 0 h)))
+
+-- a name and its padding
+unpadded-zeros : (k : ℕ) → unpadded (zeros k) ≡ []
+unfolding zeros
+unpadded-zeros zero = refl
+unpadded-zeros (suc k) = refl
+
+unpadded-name : (name : List ℕ) (k : ℕ) → every nameByte name ≡ true → unpadded (name ++ zeros k) ≡ name
+unpadded-name [] k e = unpadded-zeros k
+unpadded-name (zero ∷ xs) k e = absurd (true-not-false e refl)
+unpadded-name (suc x ∷ xs) k e = ap (λ (r : List ℕ). suc x ∷ r) (unpadded-name xs k (and-split (nameByte (suc x)) (every nameByte xs) e .1))
+
+module _ (name : List ℕ) (good : goodName name ≡ true) where
+  pub padded-length : length (padded name) ≡ 80
+  padded-length = let h = goodName-length name good in simp (length-append, length-zeros) (omega arith)
+
+  pub padded-name : unpadded (padded name) ≡ name
+  padded-name = unpadded-name name (80 - length name) (goodName-split name good .2)
+
+  -- an entry whose name field holds a good name
+  module _ (s : List ℕ) (e : ℕ) (field : part s (e + 48) 80 ≡ padded name) where
+    pub name-is : nameOf s e ≡ name
+    unfolding nameOf
+    name-is = rw field padded-name
+
+    pub name-ok : nameOk s e ≡ true
+    unfolding nameOk
+    name-ok = rw (name-is, field) (and-join good (same-refl (padded name)))

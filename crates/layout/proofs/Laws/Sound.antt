@@ -17,7 +17,7 @@ use Rattle.layout.specs.Table.{next, chain, chainOk, occupied}
 use Rattle.layout.specs.Directory.{slotAt, slots, typeOf, firstBlock, blocksOf, selfOf, parentOf, isFree, isFile, nameOf, files, root}
 use Rattle.layout.specs.Check.{stage1, stage2, stage3, directoryOk, stage4, fileOk, slotOk, entriesOk, stage5, fileChains, chains, owned, tableOk, stage6, stage7, check}
 use Rattle.layout.proofs.Laws.Chains.{nth, length-chain, getD-chain, in-chain, chain-in, Chain, chainOk-split, chainOk-join, chain-distinct}
-use Rattle.layout.proofs.Laws.Lists.{In, every-range, range-every, has-in, in-has, in-joined, joined-in, joined-distinct-apart, joined-distinct}
+use Rattle.layout.proofs.Laws.Lists.{In, every-range, range-every, in-joined, joined-in, joined-distinct-apart, joined-distinct, has-eqb-in, in-has-eqb}
 use Rattle.layout.proofs.Laws.Names.{same-eq, same-refl}
 use Rattle.layout.proofs.Laws.Tables.{Table}
 use Rattle.layout.proofs.Laws.Tests.{and-split, and-join, or-split, true-not-false, lt-or-gt, require-zero, within-split, within-join, eqb-self}
@@ -186,7 +186,7 @@ module _ (n m : ℕ) (v f l : ℕ → ℕ) where
       owner : (b : ℕ) → v b ≢ 0 → (eqb (v b) 0 || has eqb b (joined (blocksOn v f l) (range 0 m))) ≡ true
           → (k : ℕ) × (x : ℕ) × (k < m) × (x < l k) × (b ≡ nth v x (f k))
       owner b ne e =
-          let i = ⊎-elim (λ z. absurd (ne (eqb-true (v b) 0 z))) (λ w. has-in eqb eqb-true eqb-self b (joined (blocksOn v f l) (range 0 m)) w)
+          let i = ⊎-elim (λ z. absurd (ne (eqb-true (v b) 0 z))) (λ w. has-eqb-in b (joined (blocksOn v f l) (range 0 m)) w)
           (or-split (eqb (v b) 0) (has eqb b (joined (blocksOn v f l) (range 0 m))) e) in
           let r = in-joined (blocksOn v f l) 0 m b i in
           let c = in-chain v (f (r .0)) (l (r .0)) b (r .3) in
@@ -219,7 +219,7 @@ module _ (n m : ℕ) (v f l : ℕ → ℕ) where
         at b h g (yes z) = rw (eq-eqb (v b) 0 z)
         at b h g (no z) =
             let r = T .high b (omega arith) (omega arith) z in
-            rw (in-has eqb eqb-true eqb-self b (joined (blocksOn v f l) (range 0 m))
+            rw (in-has-eqb b (joined (blocksOn v f l) (range 0 m))
             (joined-in (blocksOn v f l) 0 m b (r .0) (omega arith) (omega arith) (chain-in v (f (r .0)) (l (r .0)) b (r .1) (r .3) (r .4))))
             (or-true (eqb (v b) 0))
 

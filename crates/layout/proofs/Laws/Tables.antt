@@ -8,7 +8,7 @@ use native.Mathlib.Nat.{eq-or-lt-of-le}
 use native.Mathlib.Omega.{arith}
 use Rattle.layout.specs.Limits.{minBlocks}
 use Rattle.layout.specs.Geometry.{tableBlocks}
-use Rattle.layout.proofs.Laws.Chains.{nth, nth-suc, nth-agree, Chain, chain-used, chain-differ}
+use Rattle.layout.proofs.Laws.Chains.{nth, nth-suc, nth-agree, Chain, chain-used, rest-nth, rest-chain}
 
 -- THE TABLE: m chains, each right, no block in two of them; entries 0 to t are 1; every other entry that is not 0 is of a chain.
 pub record Table (n m : ℕ) (v f l : ℕ → ℕ) : Type 0 where
@@ -118,24 +118,17 @@ module _ (n m : ℕ) (v f l : ℕ → ℕ) (T : Table n m v f l) (h₃ : minBloc
 
     -- the front block leaves
     module _ (pos : 0 < l k) (gone : w (f k) ≡ 0) (same : (b : ℕ) → b < 128 * tableBlocks n → b ≢ f k → w b ≡ v b) (gk : g k ≡ v (f k)) (qk : q k ≡ l k - 1) where
-      shifted : (x : ℕ) → x ≤ q k → nth w x (g k) ≡ nth v (suc x) (f k)
-      shifted x h =
-          rw gk (nth-agree v w x (v (f k)) (λ y b. same (nth v (suc y) (f k)) (pos-small k hk (suc y) (omega arith))
-          (λ e. chain-differ v n (f k) (l k) (T .right k hk) h₃ 0 (suc y) (omega arith) (omega arith) (sym e))))
+      rest : (x : ℕ) → x < n → x ≢ f k → w x ≡ v x
+      rest x h ne = same x (omega arith) ne
 
-      mine : Chain w n (g k) (q k)
-      mine =
-          record {
-            above = λ x b. rw (shifted x (omega arith)) (T .right k hk .above (suc x) (omega arith));
-            below = λ x b. rw (shifted x (omega arith)) (T .right k hk .below (suc x) (omega arith));
-            last = λ b. shifted (q k) (omega arith) ∙ (let e : suc (q k) ≡ l k = omega arith in ap (λ (z : ℕ). nth v z (f k)) e ∙ T .right k hk .last pos);
-          }
+      shifted : (x : ℕ) → x ≤ q k → nth w x (g k) ≡ nth v (suc x) (f k)
+      shifted x h = rw gk (rest-nth v w n (f k) (l k) (T .right k hk) h₃ pos rest x (omega arith))
 
       pub table-popped : Table n m w g q
       table-popped =
           table-changed n m v f l T h₃ k hk w g q fs ls
           (λ j h ne x b. same (nth v x (f j)) (pos-small j h x b) (T .apart j k h hk ne x 0 b pos))
-          mine
+          (rw (gk, qk) (rest-chain v w n (f k) (l k) (T .right k hk) h₃ pos rest))
           (λ j h ne x y a b. rw (shifted y (omega arith)) (T .apart j k h hk ne x (suc y) a (omega arith)))
           (λ b h. same b (omega arith) (λ e. omega (arith, T .right k hk .above 0 pos)) ∙ T .low b h)
           (λ b h a ne.

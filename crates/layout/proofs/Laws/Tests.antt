@@ -51,6 +51,10 @@ pub firstOf-zero : (a b : ℕ) → firstOf a b ≡ 0 → (a ≡ 0) × (b ≡ 0)
 firstOf-zero zero b e = (refl, e)
 firstOf-zero (suc a) b e = absurd (suc-ne-zero a e)
 
+pub firstOf-refused : (a b : ℕ) → a ≢ 0 → firstOf a b ≡ a
+firstOf-refused zero b h = absurd (h refl)
+firstOf-refused (suc a) b h = refl
+
 pub within-split : (lo hi x : ℕ) → within lo hi x ≡ true → (lo ≤ x) × (x ≤ hi)
 within-split lo hi x e = let w = and-split (leb lo x) (leb x hi) e in (leb-true lo x (w .0), leb-true x hi (w .1))
 
@@ -65,3 +69,8 @@ accept-refused (suc r) x y h = refl
 pub accept-same : {A : Type 0} (r : ℕ) (x : A) → accept r x x ≡ x
 accept-same zero x = refl
 accept-same (suc r) x = refl
+
+-- what holds of both outcomes holds of the one that is given
+pub accept-either : {A : Type 0} (P : A → Type 0) (r : ℕ) (x y : A) → P x → P y → P (accept r x y)
+accept-either P zero x y f g = f
+accept-either P (suc r) x y f g = g

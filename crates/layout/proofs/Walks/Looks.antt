@@ -18,12 +18,12 @@ use Rattle.layout.specs.Walks.Looks.{Located, Opens}
 use Rattle.layout.specs.Walks.Shapes.{Shape, ChainBelow}
 use Rattle.layout.specs.Walks.Slots.{Stands, entryAt}
 use Rattle.layout.proofs.Laws.Bytes.{part-part, lent}
-use Rattle.layout.proofs.Laws.Chains.{getD-chain, Chain, chainOk-split}
+use Rattle.layout.proofs.Laws.Chains.{Chain, chainOk-split}
 use Rattle.layout.proofs.Laws.Counts.{chain-most}
 use Rattle.layout.proofs.Laws.Looks.{lookup-sound, lookup-file, extent-refused, extent-past, extent-found}
 use Rattle.layout.proofs.Laws.Tests.{accept-refused}
 use Rattle.layout.proofs.Walks.Content.{chainBytes, length-chainBytes, below-nth}
-use Rattle.layout.proofs.Walks.Shapes.{sound-shape}
+use Rattle.layout.proofs.Walks.Shapes.{sound-shape, sound-chain}
 
 -- opening a file, in the order in which the code takes its tests
 module _ (s name : List ℕ) where
@@ -119,7 +119,7 @@ module _ {s name : List ℕ} {number slot b first size blocks : ℕ} (o : Opens 
     shaped = sound-shape s (lookup-sound s name accepted)
 
     pub opened-chain : ChainBelow s (blockCount s) first blocks
-    opened-chain = record { shape = shaped; below = λ i h. rw (getD-chain (next s) first blocks i h) (chain-ok .below i h) }
+    opened-chain = sound-chain s (lookup-sound s name accepted) first blocks (rw (loc .start, loc .count) (lookup-file s name accepted .chained))
 
     pub opened-small : (blocks ≤ 4096) × (size ≤ 2097152)
     opened-small =

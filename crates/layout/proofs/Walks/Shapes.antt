@@ -1,16 +1,17 @@
 -- What a sound image gives to the contracts of the code.
-use Prim.Native.Nat.{ℕ, _+_}
+use Prim.Native.Nat.{ℕ, _+_, suc, _-_, _<_}
 use mathlib.Core.List.{List}
 use mathlib.Core.Path.{_≡_, _∙_, ap}
+use mathlib.Core.Bool.{true}
 use native.Mathlib.Omega.{arith}
 use Rattle.layout.specs.Bytes.{be32}
 use Rattle.layout.specs.Geometry.{blockCount, rootBlock}
-use Rattle.layout.specs.Table.{next, chain}
+use Rattle.layout.specs.Table.{next, chain, chainOk}
 use Rattle.layout.specs.Directory.{root}
 use Rattle.layout.specs.Check.{check}
-use Rattle.layout.specs.Walks.Shapes.{Shape, DirectoryAt}
+use Rattle.layout.specs.Walks.Shapes.{Shape, DirectoryAt, ChainBelow}
 use Rattle.layout.specs.Walks.Slots.{entryAt}
-use Rattle.layout.proofs.Laws.Chains.{length-chain, getD-chain}
+use Rattle.layout.proofs.Laws.Chains.{length-chain, getD-chain, chainOk-split, chain-suc}
 use Rattle.layout.proofs.Laws.Sound.{dirSize, sound, root-chain}
 
 pub shape-blockCount : (s : List ℕ) (n : ℕ) → Shape s n → blockCount s ≡ n
@@ -20,6 +21,11 @@ shape-blockCount s n h = omega arith
 module _ (s : List ℕ) (e : check s ≡ 0) where
   pub sound-shape : Shape s (blockCount s)
   sound-shape = let S = sound s e in record { whole = S .whole; low = S .least; high = S .most }
+
+  -- a right chain of it has its blocks below n
+  pub sound-chain : (b k : ℕ) → chainOk (next s) (blockCount s) b k ≡ true → ChainBelow s (blockCount s) b k
+  sound-chain b k ok =
+      record { shape = sound-shape; below = λ i h. rw (getD-chain (next s) b k i h) (chainOk-split (next s) (blockCount s) b k ok .below i h) }
 
   module _ (d : ℕ) (ed : d ≡ be32 s (entryAt (rootBlock (blockCount s)) 0 + 12)) where
     count : d ≡ dirSize s
@@ -42,3 +48,15 @@ module _ (s : List ℕ) (e : check s ≡ 0) where
             below = λ i h. rw (getD-chain (next s) b d i h) (root-chain s S .below i (omega (arith, count)));
           };
         }
+
+-- a chain whose blocks are below n, by its first block
+module _ {s : List ℕ} {n b k : ℕ} (r : ChainBelow s n b k) (pos : 0 < k) where
+  pub run-first : b < n
+  run-first = rw (chain-suc (next s) b k pos) at (r .below 0 pos)
+
+  pub run-rest : ChainBelow s n (next s b) (k - 1)
+  run-rest =
+      record {
+        shape = r .shape;
+        below = λ i h. rw (chain-suc (next s) b k pos) at (r .below (suc i) (omega arith));
+      }

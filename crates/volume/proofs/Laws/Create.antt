@@ -6,22 +6,21 @@ use mathlib.Core.List.{List, []}
 use mathlib.Core.Logic.{inl, inr, ⊎-elim, _≢_, _⊎_}
 use native.Mathlib.Omega.{arith}
 use lib.ListN.{length}
-use lib.Seq.{take-all}
 use Rattle.layout.specs.Bytes.{be32, bytes4, part, splice}
 use Rattle.layout.specs.Directory.{slotAt, typeOf, blocksOf, isFree, isFile, padded, nameOf, fileSlot, freeSlot, root, sizeOf, content}
 use Rattle.layout.specs.Check.{attributesOk, fileOk, slotOk, check}
 use Rattle.volume.specs.Entries.{entryBytes}
 use Rattle.volume.specs.Create.{createRefusal, createSlot, createImage}
-use Rattle.volume.proofs.Laws.Steps.{midway-start, midway-end}
-use Rattle.volume.proofs.Laws.Entries.{padded-length, name-is, name-ok, entry-type, entry-first, entry-size, entry-blocks, entry-attribute, entry-attribute-size, entry-named, entry-length}
-use Rattle.volume.proofs.Laws.Accepted.{unnamed, free-slot, create-given, CreateGiven}
-use Rattle.volume.proofs.Laws.Others.{Others, found-new, slot-changed}
-use Rattle.layout.proofs.Laws.Bytes.{length-splice, part-same, getD-splice-inside}
+use Rattle.volume.proofs.Laws.Entries.{entry-type, entry-first, entry-size, entry-blocks, entry-attribute, entry-attribute-size, entry-named, entry-length}
+use Rattle.volume.proofs.Laws.Accepted.{create-given, CreateGiven}
+use Rattle.layout.proofs.Laws.Bytes.{length-splice, part-splice}
 use Rattle.layout.proofs.Laws.Tests.{and-join, is-false}
-use Rattle.layout.proofs.Laws.Names.{same-refl}
+use Rattle.layout.proofs.Laws.Names.{same-refl, padded-length, name-is, name-ok}
 use Rattle.layout.proofs.Laws.Frames.{same-beside, Same}
 use Rattle.layout.proofs.Laws.Sound.{held, firstAt, heldAt, dirSize, file-held, Sound, sound, check-zero}
-use Rattle.layout.proofs.Laws.Files.{slot-high}
+use Rattle.layout.proofs.Laws.Files.{slot-high, unnamed, free-slot}
+use Rattle.layout.proofs.Laws.Steps.{midway-start, midway-end}
+use Rattle.layout.proofs.Laws.Others.{Others, found-new, slot-changed}
 
 module _ (s : List ℕ) (S : Sound s) (name : List ℕ) (type user group permissions flags time : ℕ) (given : CreateGiven s name type) where
   abbrev k : ℕ
@@ -71,8 +70,7 @@ module _ (s : List ℕ) (S : Sound s) (name : List ℕ) (type user group permiss
   pub created-bytes : part (createImage s name type user group permissions flags time) e 128 ≡ p
   created-bytes =
       rw create-is
-      (part-same p done 0 e 128 (λ i h. let z : 0 + i ≡ i = omega arith in rw z (getD-splice-inside s e p (omega (arith, long, fits)) i (omega (arith, long))))
-      (omega (arith, long)) (omega (arith, fits, done-length)) ∙ take-all 128 p (omega (arith, long)))
+      (part-splice s e p 128 long (omega (arith, fits)))
 
   pub created-name : nameOf (createImage s name type user group permissions flags time) e ≡ name
   created-name = rw create-is done-name

@@ -1,35 +1,33 @@
 -- Delete: its steps, each of which frees the first block of the chain; the image after it is sound, and the other files stay.
 use Prim.Native.Nat.{ℕ, zero, suc, _+_, _-_, _*_, _≤_, _<_}
-use mathlib.Core.Path.{_≡_, refl, sym, ap, _∙_}
+use mathlib.Core.Path.{_≡_, refl, sym, _∙_}
 use mathlib.Core.Bool.{true}
 use mathlib.Core.List.{List}
 use mathlib.Core.Logic.{_⊎_, inl, inr, ⊎-elim, _≢_}
 use native.Mathlib.Omega.{arith}
 use lib.ListN.{length}
-use lib.Dec.{eqb}
-use Rattle.layout.specs.Bytes.{zeros, splice, be32, block}
+use Rattle.layout.specs.Bytes.{zeros, splice, block}
 use Rattle.layout.specs.Geometry.{blockCount}
-use Rattle.layout.specs.Table.{next, chain, setNext, occupied}
+use Rattle.layout.specs.Table.{next, chain}
 use Rattle.layout.specs.Directory.{slotAt, typeOf, isFile, fileSlot, root, fileBlocks}
 use Rattle.layout.specs.Check.{slotOk, check}
 use Rattle.layout.specs.Looks.{nameRefusal, entryOf}
-use Rattle.volume.specs.Entries.{released, setOccupied, freed}
+use Rattle.volume.specs.Entries.{released, freed}
 use Rattle.volume.specs.Delete.{deleteAt}
-use Rattle.volume.proofs.Laws.Steps.{Midway, midway-start, dir-apart, over, over-same, over-other, midway-end}
-use Rattle.volume.proofs.Laws.Others.{Others, slot-changed}
-use Rattle.volume.proofs.Laws.Table.{released-next, set-next-length, set-next-same, set-next-at, set-next-other, set-occupied-length, set-occupied-same, set-occupied-next, set-occupied-used, set-occupied-free}
-use Rattle.volume.proofs.Laws.Accepted.{named-slot, file-given}
-use Rattle.volume.proofs.Laws.Owners.{held-above, held-apart, file-holds, file-at, file-below}
-use Rattle.volume.proofs.Laws.Frame.{entries-low, released-agree, agree-block}
+use Rattle.volume.proofs.Laws.Table.{released-next, freed-size, freed-same, freed-at, freed-other, freed-used, freed-free}
+use Rattle.volume.proofs.Laws.Frame.{entries-low, released-agree}
 use Rattle.layout.proofs.Laws.Bytes.{length-splice, length-zeros, getD-splice-inside}
 use Rattle.layout.proofs.Laws.Lists.{In}
 use Rattle.layout.proofs.Laws.Tests.{true-not-false}
-use Rattle.layout.proofs.Laws.Frames.{Same, same-then, same-beside}
-use Rattle.layout.proofs.Laws.Chains.{nth, chain-agree, Chain, chain-differ, chain-used}
+use Rattle.layout.proofs.Laws.Frames.{Same, same-then, same-beside, agree-block}
+use Rattle.layout.proofs.Laws.Chains.{nth, Chain, chain-used, rest-same}
 use Rattle.layout.proofs.Laws.Sound.{firstAt, heldAt, rootOf, dirSize, Sound, sound, check-zero}
-use Rattle.layout.proofs.Laws.Files.{slot-low, slot-high}
+use Rattle.layout.proofs.Laws.Files.{slot-low, slot-high, named-slot}
 use Rattle.layout.proofs.Laws.Tables.{table-popped}
-use Rattle.layout.proofs.Laws.Counts.{occupied-up, occupied-most}
+use Rattle.layout.proofs.Laws.Looks.{file-given}
+use Rattle.layout.proofs.Laws.Owners.{held-above, held-apart, file-holds, file-at, file-below}
+use Rattle.layout.proofs.Laws.Steps.{Midway, midway-start, dir-apart, over, over-same, over-other, midway-end}
+use Rattle.layout.proofs.Laws.Others.{Others, slot-changed}
 
 module _ (s : List ℕ) (S : Sound s) (k : ℕ) (k₁ : 1 ≤ k) (k₂ : k < 4 * dirSize s - 1) where
   abbrev f : ℕ → ℕ
@@ -46,12 +44,6 @@ module _ (s : List ℕ) (S : Sound s) (k : ℕ) (k₁ : 1 ≤ k) (k₂ : k < 4 *
 
   -- the first block of the chain is freed
   module _ (t : List ℕ) (b c : ℕ) (I : Midway s k t b (suc c)) where
-    abbrev u : List ℕ
-    u = setNext t b 0
-
-    abbrev t′ : List ℕ
-    t′ = setOccupied u n (be32 t 20 - 1)
-
     mine : Chain (next t) n b (suc c)
     mine = rw (over-same k b f, over-same k (suc c) l) at (I .table .right k k₂)
 
@@ -61,52 +53,35 @@ module _ (s : List ℕ) (S : Sound s) (k : ℕ) (k₁ : 1 ≤ k) (k₂ : k < 4 *
     fit : 512 + 4 * b + 4 ≤ length t
     fit = omega (arith, I .len, S .whole, S .least, bn)
 
-    fit₂ : 512 ≤ length u
-    fit₂ = omega (arith, set-next-length t b 0 fit, fit)
+    used-b : next t b ≢ 0
+    used-b = chain-used (next t) n b (suc c) mine (S .least) 0 (omega arith)
 
-    at-b : next t′ b ≡ 0
-    at-b = set-occupied-next u n (be32 t 20 - 1) fit₂ b ∙ set-next-at t b 0 fit (omega arith)
-
-    other : (x : ℕ) → x ≢ b → next t′ x ≡ next t x
-    other x ne = set-occupied-next u n (be32 t 20 - 1) fit₂ x ∙ set-next-other t b 0 fit x ne
-
-    count : occupied (next t) n ≡ suc (occupied (next t′) n)
-    count =
-        occupied-up (next t′) (next t) n b bn at-b (chain-used (next t) n b (suc c) mine (S .least) 0 (omega arith))
-        (λ x h ne. ap (λ (z : ℕ). eqb z 0) (sym (other x ne)))
-
-    keeps : (a w : ℕ) → (a + w ≤ 20) ⊎ (28 ≤ a) → (a + w ≤ 512 + 4 * b) ⊎ (512 + 4 * b + 4 ≤ a) → Same t t′ a w
-    keeps a w p q = same-then t u t′ a w (set-next-same t b 0 fit a w q) (set-occupied-same u n (be32 t 20 - 1) fit₂ a w p)
-
-    less : be32 t 20 - 1 ≡ occupied (next t′) n
-    less = omega (arith, I .used, count)
-
-    freed-step : Midway s k t′ (next t b) c
+    freed-step : Midway s k (freed t n b) (next t b) c
     freed-step =
         record {
-          len = set-occupied-length u n (be32 t 20 - 1) fit₂ ∙ set-next-length t b 0 fit ∙ I .len;
-          head = same-then s t t′ 0 20 (I .head) (keeps 0 20 (inl (omega arith)) (inl (omega arith)));
-          tail = same-then s t t′ 28 4 (I .tail) (keeps 28 4 (inr (omega arith)) (inl (omega arith)));
-          slots = λ j h. same-then s t t′ (slotAt (root s) j) 128 (I .slots j h)
-              (keeps (slotAt (root s) j) 128 (inr (omega (arith, slot-low s S j h))) (inr (omega (arith, slot-low s S j h, bn))));
-          dir = λ x h. other (nth (next s) x (rootOf s)) (dir-apart s S k k₁ k₂ t b (suc c) I x 0 h (omega arith)) ∙ I .dir x h;
-          table = table-popped n m (next t) (over k b f) (over k (suc c) l) (I .table) (S .least) k k₂ (next t′) (over k (next t b) f) (over k c l)
+          len = freed-size t n b fit ∙ I .len;
+          head = same-then s t (freed t n b) 0 20 (I .head) (freed-same t n b fit 0 20 (inl (omega arith)) (inl (omega arith)));
+          tail = same-then s t (freed t n b) 28 4 (I .tail) (freed-same t n b fit 28 4 (inr (omega arith)) (inl (omega arith)));
+          slots = λ j h. same-then s t (freed t n b) (slotAt (root s) j) 128 (I .slots j h)
+              (freed-same t n b fit (slotAt (root s) j) 128 (inr (omega (arith, slot-low s S j h))) (inr (omega (arith, slot-low s S j h, bn))));
+          dir = λ x h. freed-other t n b fit (nth (next s) x (rootOf s)) (dir-apart s S k k₁ k₂ t b (suc c) I x 0 h (omega arith)) ∙ I .dir x h;
+          table = table-popped n m (next t) (over k b f) (over k (suc c) l) (I .table) (S .least) k k₂ (next (freed t n b)) (over k (next t b) f) (over k c l)
               (λ j h ne. over-other k (next t b) f j ne ∙ sym (over-other k b f j ne)) (λ j h ne. over-other k c l j ne ∙ sym (over-other k (suc c) l j ne))
-              (rw (over-same k (suc c) l) (omega arith)) (rw (over-same k b f) at-b) (λ x h ne. other x (rw (over-same k b f) at ne))
+              (rw (over-same k (suc c) l) (omega arith)) (rw (over-same k b f) (freed-at t n b fit)) (λ x h ne. freed-other t n b fit x (rw (over-same k b f) at ne))
               (rw (over-same k (next t b) f, over-same k b f)) (omega (arith, over-same k c l, over-same k (suc c) l));
-          used = set-occupied-used u n (be32 t 20 - 1) fit₂ (omega (arith, less, occupied-most (next t′) n, S .most)) ∙ less;
-          free = set-occupied-free u n (be32 t 20 - 1) fit₂ (omega (arith, S .most)) ∙ ap (λ (z : ℕ). n - z) less;
+          used = freed-used t n b fit bn used-b (I .used) (S .most);
+          free = freed-free t n b fit bn used-b (I .used) (S .most);
         }
 
   -- then all of them
   released-steps : (c : ℕ) (t : List ℕ) (b : ℕ) → Midway s k t b c → (z : ℕ) × Midway s k (released t n (chain (next t) b c)) z 0
-  unfolding released chain freed
+  unfolding released chain
   released-steps zero t b I = (b, I)
   released-steps (suc c) t b I =
-      let w = t′ t b c I in
-      let q : chain (next w) (next t b) c ≡ chain (next t) (next t b) c =
-      chain-agree (next t) (next w) (next t b) c (λ y h. other t b c I (nth (next t) y (next t b)) (λ e. chain-differ (next t) n b (suc c) (mine t b c I) (S .least) 0 (suc y) (omega arith) (omega arith) (sym e))) in
-      let r = released-steps c w (next t b) (freed-step t b c I) in
+      let e : suc c - 1 ≡ c = omega arith in
+      let q : chain (next (freed t n b)) (next t b) c ≡ chain (next t) (next t b) c =
+      rw e at (rest-same (next t) (next (freed t n b)) n b (suc c) (mine t b c I) (S .least) (omega arith) (λ x h ne. freed-other t n b (fit t b c I) x ne)) in
+      let r = released-steps c (freed t n b) (next t b) (freed-step t b c I) in
       (r .0, rw q at (r .1))
 
   abbrev e : ℕ

@@ -1,54 +1,17 @@
 -- Directory entries: the fields of a new one and the name in it, and what a write tells anew.
-use Prim.Native.Nat.{ℕ, zero, suc, _+_, _-_, _≤_, _<_}
-use mathlib.Core.Path.{_≡_, refl, ap, _∙_}
-use mathlib.Core.Bool.{true}
-use mathlib.Core.List.{List, _∷_, _++_, []}
+use Prim.Native.Nat.{ℕ, _+_, _≤_, _<_}
+use mathlib.Core.Path.{_≡_, _∙_}
+use mathlib.Core.List.{List, _++_}
 use mathlib.Core.Logic.{_⊎_, inl, inr, ⊎-elim}
 use native.Mathlib.Omega.{arith}
-use lib.ListN.{length, length-append}
+use lib.ListN.{length}
 use lib.Seq.{take-all}
-use Rattle.layout.specs.Lists.{every, within}
 use Rattle.layout.specs.Bytes.{be32, bytes4, bytes8, part, splice, zeros}
-use Rattle.layout.specs.Directory.{typeOf, firstBlock, sizeOf, blocksOf, nameOf, nameOk, nameByte, goodName, unpadded, padded}
-use Rattle.layout.specs.Limits.{maxName}
+use Rattle.layout.specs.Directory.{typeOf, firstBlock, sizeOf, blocksOf, padded}
 use Rattle.volume.specs.Entries.{entryBytes}
 use Rattle.volume.specs.Write.{setFile}
-use Rattle.layout.proofs.Laws.Names.{goodName-length, same-refl}
-use Rattle.layout.proofs.Laws.Bytes.{length-splice, length-zeros, be32-same, be32-bytes4, part-same, getD-splice-inside, length-bytes8}
-use Rattle.layout.proofs.Laws.Tests.{and-split, and-join, true-not-false}
+use Rattle.layout.proofs.Laws.Bytes.{length-splice, be32-same, be32-bytes4, part-same, getD-splice-inside, length-bytes8, part-splice}
 use Rattle.layout.proofs.Laws.Frames.{Same, same-then, same-be32, same-below, same-beside, same-inside, same-above}
-
--- a name and its padding
-unpadded-zeros : (k : ℕ) → unpadded (zeros k) ≡ []
-unfolding zeros
-unpadded-zeros zero = refl
-unpadded-zeros (suc k) = refl
-
-unpadded-name : (name : List ℕ) (k : ℕ) → every nameByte name ≡ true → unpadded (name ++ zeros k) ≡ name
-unpadded-name [] k e = unpadded-zeros k
-unpadded-name (zero ∷ xs) k e = absurd (true-not-false e refl)
-unpadded-name (suc x ∷ xs) k e = ap (λ (r : List ℕ). suc x ∷ r) (unpadded-name xs k (and-split (nameByte (suc x)) (every nameByte xs) e .1))
-
-module _ (name : List ℕ) (good : goodName name ≡ true) where
-  good-bytes : every nameByte name ≡ true
-  unfolding goodName
-  good-bytes = and-split (within 1 maxName (length name)) (every nameByte name) good .1
-
-  pub padded-length : length (padded name) ≡ 80
-  padded-length = let h = goodName-length name good in simp (length-append, length-zeros) (omega arith)
-
-  pub padded-name : unpadded (padded name) ≡ name
-  padded-name = unpadded-name name (80 - length name) good-bytes
-
-  -- an entry whose name field holds a good name
-  module _ (s : List ℕ) (e : ℕ) (field : part s (e + 48) 80 ≡ padded name) where
-    pub name-is : nameOf s e ≡ name
-    unfolding nameOf
-    name-is = rw field padded-name
-
-    pub name-ok : nameOk s e ≡ true
-    unfolding nameOk
-    name-ok = rw (name-is, field) (and-join good (same-refl (padded name)))
 
 -- the bytes of a new entry, and its fields in an image that it is written to
 module _ (name : List ℕ) (eighty : length (padded name) ≡ 80) where
@@ -137,10 +100,7 @@ module _ (s : List ℕ) (e first size blocks time : ℕ) (fits : e + 128 ≤ len
 
   pub set-file-modified : part told (e + 24) 8 ≡ bytes8 time
   unfolding setFile
-  set-file-modified =
-      part-same (bytes8 time) told 0 (e + 24) 8
-      (λ i h. let z : 0 + i ≡ i = omega arith in rw z (getD-splice-inside half (e + 24) (bytes8 time) fit-time i (omega (arith, length-bytes8 time))))
-      (omega (arith, length-bytes8 time)) (omega (arith, set-file-length)) ∙ take-all 8 (bytes8 time) (omega (arith, length-bytes8 time))
+  set-file-modified = part-splice half (e + 24) (bytes8 time) 8 (length-bytes8 time) (omega (arith, fit-time))
 
   number : (i : ℕ) → i + 4 ≤ 12 → be32 told (e + 4 + i) ≡ be32 numbers i
   unfolding setFile bytes4

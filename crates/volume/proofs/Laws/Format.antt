@@ -17,10 +17,8 @@ use Rattle.layout.specs.Directory.{slotAt, typeOf, selfOf, parentOf, blocksOf, 
 use Rattle.layout.specs.Check.{stage1, stage2, stage3, slotOk, check}
 use Rattle.volume.specs.Entries.{entryBytes, directoryMade}
 use Rattle.volume.specs.Format.{formatRefusal, firstEntries, headerBytes, formatImage}
-use Rattle.volume.proofs.Laws.Bytes.{length-joined4, joined4-at, zeros-32}
-use Rattle.volume.proofs.Laws.Lists.{length-range, getD-range}
 use Rattle.volume.proofs.Laws.Entries.{entry-type, entry-first, entry-size, entry-blocks, entry-length}
-use Rattle.layout.proofs.Laws.Bytes.{length-splice, length-zeros, getD-splice-inside, be32-same, part-same, be32-bytes4, getD-zeros}
+use Rattle.layout.proofs.Laws.Bytes.{length-splice, length-zeros, getD-splice-inside, be32-same, part-same, be32-bytes4, getD-zeros, length-joined4, joined4-at, zeros-32}
 use Rattle.layout.proofs.Laws.Tests.{and-split, and-join, true-not-false, lt-or-ge, lt-or-gt, require-zero, within-split}
 use Rattle.layout.proofs.Laws.Names.{same-refl}
 use Rattle.layout.proofs.Laws.Frames.{Same, same-then, same-be32, same-byte, same-below, same-above, same-inside}
@@ -30,6 +28,7 @@ use Rattle.layout.proofs.Laws.Counts.{occupied-front}
 use Rattle.layout.specs.Walks.Shapes.{Shape}
 use Rattle.layout.proofs.Walks.Stages.{stage1-shape}
 use Rattle.layout.proofs.Laws.Sound.{firstAt, heldAt, dirSize, Facts, Sound, check-zero}
+use Rattle.layout.proofs.Laws.Lists.{length-range, getD-range}
 
 abbrev ones : ℕ → List ℕ
 ones k = replicate k 1

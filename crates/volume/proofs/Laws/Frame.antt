@@ -1,15 +1,15 @@
 -- The frame law: an accepted change keeps the image's length, changes no byte outside its named blocks, and names blocks of the image.
 use Prim.Native.Nat.{ℕ, _+_, _*_, _/_, _≤_, _<_, _-_, zero, suc, _%_, max}
 use mathlib.Core.Path.{_≡_, refl, sym, _∙_, subst}
-use mathlib.Core.Bool.{false, true}
+use mathlib.Core.Bool.{true}
 use mathlib.Core.List.{List, [], _∷_, _++_}
 use mathlib.Core.Logic.{inl, inr, ⊎-elim, _⊎_}
 use native.Mathlib.Omega.{arith}
-use lib.Seq.{ext-getD, take-nil, drop-nil}
+use lib.Seq.{take-nil, drop-nil}
 use lib.Dec.{eqb}
-use lib.ListN.{length, getD, drop, length-drop, length-append, take, length-take}
-use Rattle.layout.specs.Bytes.{block, splice, be32, bytes4, zeros, part, bytes8}
-use Rattle.layout.specs.Table.{next, setNext, tableBlockOf}
+use lib.ListN.{length, getD, drop, length-drop, length-append, take}
+use Rattle.layout.specs.Bytes.{splice, be32, bytes4, zeros, part, bytes8}
+use Rattle.layout.specs.Table.{setNext, tableBlockOf}
 use Rattle.layout.specs.Lists.{has, lastOr}
 use Rattle.layout.specs.Geometry.{blocksFor, tableBlocks, blockCount}
 use Rattle.layout.specs.Refusals.{accept}
@@ -21,50 +21,18 @@ use Rattle.volume.specs.Write.{put, written, changedEntries, newSize, ne
 use Rattle.volume.specs.Change.{refusal, after, Change, named, create, write, delete}
 use Rattle.volume.specs.Create.{createSlot, createImage, createRefusal, createNamed}
 use Rattle.volume.specs.Delete.{deleteAt, deleteNamed}
-use Rattle.volume.proofs.Laws.Lists.{in-part, in-map, false-has, map-in, in-single}
-use Rattle.volume.proofs.Laws.Accepted.{named-slot, free-slot, create-given, file-given, WriteGiven, write-given}
-use Rattle.volume.proofs.Laws.Entries.{padded-length, entry-length}
-use Rattle.volume.proofs.Laws.Owners.{slot-block, file-below, file-size, file-length}
+use Rattle.volume.proofs.Laws.Accepted.{create-given, WriteGiven, write-given}
+use Rattle.volume.proofs.Laws.Entries.{entry-length}
 use Rattle.volume.proofs.Laws.Space.{new-fresh, new-length, all-below, last-below}
-use Rattle.layout.proofs.Laws.Bytes.{getD-part, length-take-most, be32-same, length-bytes4, length-bytes8, length-splice, length-zeros, splice-nil, getD-splice-before, getD-splice-after}
-use Rattle.layout.proofs.Laws.Lists.{In, in-left, in-right, in-append, in-has-eqb, in-take, in-drop, has-eqb-in, in-some}
-use Rattle.layout.proofs.Laws.Tests.{lt-or-ge, true-not-false}
+use Rattle.layout.proofs.Laws.Bytes.{length-take-most, length-bytes4, length-bytes8, length-zeros, splice-nil}
+use Rattle.layout.proofs.Laws.Lists.{In, in-left, in-right, in-append, in-has-eqb, in-take, in-drop, has-eqb-in, in-some, in-part, in-map, map-in, in-single}
+use Rattle.layout.proofs.Laws.Tests.{lt-or-ge}
 use Rattle.layout.proofs.Laws.Sound.{sound, dirSize, Sound}
-
--- t is as long as s, and has its bytes in every block that is not among bs
-pub record Agree (s t bs : List ℕ) : Type 0 where
-  pub size : length t ≡ length s
-  pub byte : (i : ℕ) → has eqb (i / 512) bs ≡ false → getD t i 0 ≡ getD s i 0
-
-pub agree-refl : (s bs : List ℕ) → Agree s s bs
-agree-refl s bs = record { size = refl; byte = λ i e. refl }
-
-pub agree-none : (s t : List ℕ) → Agree s t [] → t ≡ s
-agree-none s t a = ext-getD 0 t s (a .size) (λ i h. a .byte i refl)
-
-pub agree-more : {s t bs cs : List ℕ} → Agree s t bs → ((b : ℕ) → In b bs → In b cs) → Agree s t cs
-agree-more {s} {t} {bs} {cs} a f =
-    record { size = a .size; byte = λ i e. a .byte i (false-has (i / 512) bs (λ m. true-not-false (in-has-eqb (i / 512) cs (f (i / 512) m)) e)) }
-
--- one step, and then others: each within the blocks cs
-pub agree-then : {s t w os bs cs : List ℕ} → Agree s t os → Agree t w bs → ((b : ℕ) → In b os → In b cs) → ((b : ℕ) → In b bs → In b cs) → Agree s w cs
-agree-then {s} {t} {w} {os} {bs} {cs} a b f g =
-    let c : Agree s t cs = agree-more a f in
-    let d : Agree t w cs = agree-more b g in
-    record { size = d .size ∙ c .size; byte = λ i e. d .byte i e ∙ c .byte i e }
-
--- a block that is not among bs stays, and so does an entry of a table block that is not
-pub agree-block : {s t bs : List ℕ} (b : ℕ) → Agree s t bs → (In b bs → ⊥) → block t b ≡ block s b
-agree-block {s} {t} {bs} b a f =
-    ext-getD 0 (block t b) (block s b) (simp (length-take, length-drop, a .size)) λ i g.
-    let l : i < 512 = omega (arith, simp length-take at g) in
-    let e : (512 * b + i) / 512 ≡ b = omega arith in
-    getD-part t (512 * b) 512 i l ∙ a .byte (512 * b + i) (rw e (false-has b bs f)) ∙ sym (getD-part s (512 * b) 512 i l)
-
-pub agree-next : {s t bs : List ℕ} (b : ℕ) → Agree s t bs → (In (tableBlockOf b) bs → ⊥) → next t b ≡ next s b
-unfolding next
-agree-next {s} {t} {bs} b a f = be32-same s t (512 + 4 * b) (512 + 4 * b) λ i g.
-    let e : (512 + 4 * b + i) / 512 ≡ tableBlockOf b = omega arith in a .byte (512 + 4 * b + i) (rw e (false-has (tableBlockOf b) bs f))
+use Rattle.layout.proofs.Laws.Files.{named-slot, free-slot, slot-in, file-in, length-fileBlocks, Slot}
+use Rattle.layout.proofs.Laws.Looks.{file-given}
+use Rattle.layout.proofs.Laws.Names.{padded-length}
+use Rattle.layout.proofs.Laws.Owners.{file-below}
+use Rattle.layout.proofs.Laws.Frames.{Agree, agree-refl, agree-more, agree-then, splice-agree, set-next-agree}
 
 -- the blocks that changed entries name: block 0 and the table block of each entry
 pub entries-table : (xs : List ℕ) (x : ℕ) → In x xs → In (tableBlockOf x) (entriesNamed xs)
@@ -158,35 +126,17 @@ written-in bs offset (suc c) x i = in-drop x (offset / 512) bs (in-take x (block
 
 -- what each step of a change writes, in an image of n blocks
 module _ (n : ℕ) (n₁ : 3 ≤ n) where
-  -- bytes of one block
-  pub splice-agree : (s : List ℕ) (b at : ℕ) (p : List ℕ) → length s ≡ 512 * n → b < n → 512 * b ≤ at → at + length p ≤ 512 * b + 512 → Agree s (splice s at p) (b ∷ [])
-  splice-agree s b at p len h low high = record { size = length-splice s at p fits; byte = λ i e. go i e (lt-or-ge i at) (lt-or-ge i (at + length p)) }
-    where
-      fits : at + length p ≤ length s
-      fits = omega arith
-
-      go : (i : ℕ) → has eqb (i / 512) (b ∷ []) ≡ false → (i < at) ⊎ (at ≤ i) → (i < at + length p) ⊎ (at + length p ≤ i) → getD (splice s at p) i 0 ≡ getD s i 0
-      go i e (inl l) m = getD-splice-before s at p fits i l
-      go i e (inr l) (inl m) = absurd (true-not-false (in-has-eqb (i / 512) (b ∷ []) (inl (omega arith))) e)
-      go i e (inr l) (inr m) = getD-splice-after s at p fits i m
-
-  set-next-agree : (s : List ℕ) (b v : ℕ) → length s ≡ 512 * n → b < n → Agree s (setNext s b v) (tableBlockOf b ∷ [])
-  unfolding setNext
-  set-next-agree s b v len h =
-      let l : length (bytes4 v) ≡ 4 = length-bytes4 v in
-      splice-agree s (tableBlockOf b) (512 + 4 * b) (bytes4 v) len (omega arith) (omega arith) (omega arith)
-
   set-occupied-agree : (s : List ℕ) (u : ℕ) → length s ≡ 512 * n → Agree s (setOccupied s n u) (0 ∷ [])
   unfolding setOccupied
   set-occupied-agree s u len =
       let l : length (bytes4 u ++ bytes4 (n - u)) ≡ 8 = simp (length-append, length-bytes4) in
-      splice-agree s 0 20 (bytes4 u ++ bytes4 (n - u)) len (omega arith) (omega arith) (omega arith)
+      splice-agree s 0 20 (bytes4 u ++ bytes4 (n - u)) (omega arith) (omega arith) (omega arith)
 
   -- blocks freed
   freed-agree : (s : List ℕ) (b : ℕ) → length s ≡ 512 * n → b < n → Agree s (freed s n b) (entriesNamed (b ∷ []))
   unfolding freed entriesNamed
   freed-agree s b len h =
-      let a = set-next-agree s b 0 len h in
+      let a = set-next-agree s b 0 (omega arith) in
       agree-then a (set-occupied-agree (setNext s b 0) (be32 s 20 - 1) (a .size ∙ len)) (λ x i. inr i) (in-single 0 (entriesNamed (b ∷ [])) (inl refl))
 
   pub released-agree : (bs s : List ℕ) → length s ≡ 512 * n → ((x : ℕ) → In x bs → x < n) → Agree s (released s n bs) (entriesNamed bs)
@@ -201,7 +151,7 @@ module _ (n : ℕ) (n₁ : 3 ≤ n) where
   linked-agree : (s : List ℕ) (a b : ℕ) → length s ≡ 512 * n → a < n → Agree s (linked s a b) (entriesNamed (changedEntries a (b ∷ [])))
   unfolding linked changedEntries entriesNamed
   linked-agree s zero b len h = agree-refl s _
-  linked-agree s (suc a) b len h = agree-more (set-next-agree s (suc a) b len h) (in-single (tableBlockOf (suc a)) (entriesNamed (suc a ∷ b ∷ [])) (entries-table (suc a ∷ b ∷ []) (suc a) (inl refl)))
+  linked-agree s (suc a) b len h = agree-more (set-next-agree s (suc a) b (omega arith)) (in-single (tableBlockOf (suc a)) (entriesNamed (suc a ∷ b ∷ [])) (entries-table (suc a ∷ b ∷ []) (suc a) (inl refl)))
 
   taken-agree : (s : List ℕ) (a b : ℕ) → length s ≡ 512 * n → a < n → b < n → Agree s (taken s n a b) (b ∷ entriesNamed (changedEntries a (b ∷ [])))
   unfolding taken
@@ -211,8 +161,8 @@ module _ (n : ℕ) (n₁ : 3 ≤ n) where
       let u = splice s (512 * b) (zeros 512) in
       let v = setNext u b 1 in
       let lz : length (zeros 512) ≡ 512 = length-zeros 512 in
-      let zeroed = splice-agree s b (512 * b) (zeros 512) len bn (omega arith) (omega arith) in
-      let ended = set-next-agree u b 1 (zeroed .size ∙ len) bn in
+      let zeroed = splice-agree s b (512 * b) (zeros 512) (omega arith) (omega arith) (omega arith) in
+      let ended = set-next-agree u b 1 (omega (arith, zeroed .size)) in
       let joined = linked-agree v a b (ended .size ∙ zeroed .size ∙ len) an in
       let counted = set-occupied-agree (linked v a b) (be32 s 20 + 1) (joined .size ∙ ended .size ∙ zeroed .size ∙ len) in
       let linking : Agree v (taken s n a b) (entriesNamed ns) = agree-then joined counted (λ x i. i) (in-single 0 (entriesNamed ns) (entries-zero ns b b-in)) in
@@ -253,16 +203,13 @@ module _ (n : ℕ) (n₁ : 3 ≤ n) where
       go (y ∷ ys) (inl near) rest =
           let p : List ℕ = take (512 - offset) (y ∷ ys) in
           let l : length p ≤ 512 - offset = length-take-most (512 - offset) (y ∷ ys) in
-          let one = splice-agree s b (512 * b + offset) p len bn (omega arith) (omega arith) in
+          let one = splice-agree s b (512 * b + offset) p (omega (arith, bn)) (omega arith) (omega arith) in
           let d : length (drop (512 - offset) (y ∷ ys)) ≡ suc (length ys) - (512 - offset) = length-drop (512 - offset) (y ∷ ys) in
           rw (written-here b bs offset (length ys) near)
           (agree-then one (rw d at (rest (splice s (512 * b + offset) p) (drop (512 - offset) (y ∷ ys)) (one .size ∙ len)))
           (in-single b (b ∷ written bs (offset - 512) (suc (length ys) - (512 - offset))) (inl refl)) (λ x i. inr i))
 
   -- so the image keeps its length
-  pub released-length : (bs s : List ℕ) → length s ≡ 512 * n → ((x : ℕ) → In x bs → x < n) → length (released s n bs) ≡ 512 * n
-  released-length bs s len h = released-agree bs s len h .size ∙ len
-
   pub grown-length : (bs s : List ℕ) (a : ℕ) → length s ≡ 512 * n → a < n → ((x : ℕ) → In x bs → x < n) → length (grown s n a bs) ≡ 512 * n
   grown-length bs s a len an h = grown-agree bs s a len an h .size ∙ len
 
@@ -288,15 +235,15 @@ module _ (s : List ℕ) (S : Sound s) where
 
     slot-agree : (t : List ℕ) (at : ℕ) (p : List ℕ) → length t ≡ 512 * n → e ≤ at → at + length p ≤ e + 128 → Agree t (splice t at p) (e / 512 ∷ [])
     slot-agree t at p len low high =
-        let b = slot-block s S k h in
-        splice-agree n (S .least) t (e / 512) at p len (b .0) (omega arith) (omega (arith, b .1))
+        let b : Slot s e = slot-in s S k h in
+        splice-agree t (e / 512) at p (omega (arith, b .inside, b .aligned)) (omega arith) (omega (arith, b .aligned))
 
     -- the entry is written, and its block is named first
     framed-by : (c : Change) (ns : List ℕ) → named s c ≡ e / 512 ∷ ns → Agree s (after s c) (e / 512 ∷ ns) → ((b : ℕ) → In b ns → b < n) → Framed s c
     framed-by c ns q a f =
         record {
           agree = rw q a;
-          inside = λ b i. ⊎-elim (λ d. rw d (slot-block s S k h .0)) (λ j. f b j) (has-eqb-in b (e / 512 ∷ ns) (rw q at i));
+          inside = λ b i. ⊎-elim (λ d. rw d (slot-in s S k h .inside)) (λ j. f b j) (has-eqb-in b (e / 512 ∷ ns) (rw q at i));
           one = e / 512;
           listed = rw q (in-has-eqb (e / 512) (e / 512 ∷ ns) (inl refl));
         }
@@ -362,8 +309,8 @@ module _ (s : List ℕ) (S : Sound s) where
     counts : (length old ≡ blocksFor (sizeOf s entry)) × (length new ≡ blocksFor (max (sizeOf s entry) (offset + length bytes)) - blocksFor (sizeOf s entry)) × (offset ≤ sizeOf s entry)
     unfolding newSize needed entryOf
     counts =
-        let a = file-size s S slot (found .1) (found .2) (found .0) in
-        (file-length s S slot (found .1) (found .2) ∙ a, new-length s entry offset (length bytes) (given .room) ∙ rw a, given .within-size)
+        let a = file-in s S slot (found .0) (found .1) (found .2) .blocks in
+        (length-fileBlocks s entry ∙ a, new-length s entry offset (length bytes) (given .room) ∙ rw a, given .within-size)
 
     -- a block that is taken holds a written byte
     new-written : (x : ℕ) → In x new → In x holds

@@ -20,42 +20,24 @@ use Rattle.layout.specs.Check.{attributesOk, fileOk, slotOk, check}
 use Rattle.layout.specs.Looks.{entryOf}
 use Rattle.volume.specs.Entries.{grown, entriesNamed}
 use Rattle.volume.specs.Write.{newSize, needed, newBlocks, put, setFile, writeAt, writeRefusal, changedEntries}
-use Rattle.volume.proofs.Laws.Steps.{over-same, Midway, midway-start, dir-apart, midway-end}
-use Rattle.volume.proofs.Laws.Growth.{LastIs, grown-steps, bytes-step}
-use Rattle.volume.proofs.Laws.Accepted.{named-slot, write-given}
-use Rattle.volume.proofs.Laws.Owners.{file-size, held-above, held-below, held-used, held-apart, file-holds, file-at, file-above, file-below, file-used, file-length, slot-elsewhere}
-use Rattle.volume.proofs.Laws.Space.{new-fresh, Fresh, all-above, all-below, last-below, all-length, all-size}
-use Rattle.volume.proofs.Laws.Data.{length-joined, joined-same, put-outside, joined-put, grown-zero}
-use Rattle.volume.proofs.Laws.Others.{Others, other-name, slot-changed}
-use Rattle.volume.proofs.Laws.Bytes.{splice-cut}
-use Rattle.volume.proofs.Laws.Lists.{joined-append, last-in}
-use Rattle.volume.proofs.Laws.Table.{grown-next, before-next}
+use Rattle.volume.proofs.Laws.Growth.{grown-steps}
+use Rattle.volume.proofs.Laws.Accepted.{write-given}
+use Rattle.volume.proofs.Laws.Space.{new-fresh, all-above, all-below, last-below, all-length, all-size}
+use Rattle.volume.proofs.Laws.Data.{put-outside, joined-put, grown-zero}
+use Rattle.volume.proofs.Laws.Table.{grown-next}
 use Rattle.volume.proofs.Laws.Entries.{set-file-length, set-file-same, set-file-created, set-file-modified, set-file-first, set-file-size, set-file-blocks}
-use Rattle.volume.proofs.Laws.Frame.{Agree, entries-low, changed-below, grown-agree, grown-length, agree-block, agree-next, written-in, put-agree}
-use Rattle.layout.proofs.Laws.Bytes.{splice-nil}
+use Rattle.volume.proofs.Laws.Frame.{entries-low, changed-below, grown-agree, grown-length, written-in, put-agree}
+use Rattle.layout.proofs.Laws.Bytes.{splice-nil, splice-cut}
 use Rattle.layout.proofs.Laws.Tests.{and-split, and-join, true-not-false, lt-or-ge}
-use Rattle.layout.proofs.Laws.Lists.{In, in-append}
-use Rattle.layout.proofs.Laws.Frames.{Same, same-then, same-inner, same-byte, same-be32, same-part}
-use Rattle.layout.proofs.Laws.Chains.{nth, Chain, getD-chain, in-chain, chain-agree, chain-distinct}
+use Rattle.layout.proofs.Laws.Lists.{In, in-append, joined-append, last-in, joined-same}
+use Rattle.layout.proofs.Laws.Frames.{Same, same-then, same-inner, same-byte, same-be32, same-part, before-next, Agree, agree-block, agree-next}
+use Rattle.layout.proofs.Laws.Chains.{nth, Chain, getD-chain, in-chain, chain-agree, chain-distinct, chain-last, chain-start}
 use Rattle.layout.proofs.Laws.Counts.{chain-most}
 use Rattle.layout.proofs.Laws.Sound.{firstAt, heldAt, file-held, rootOf, dirSize, Sound, sound, check-zero, slotOk-split}
-use Rattle.layout.proofs.Laws.Files.{slot-high, slot-low}
-
--- the last block of a chain
-last-is : (v : ℕ → ℕ) (c b a : ℕ) → lastOr a (chain v b (suc c)) ≡ nth v c b
-unfolding chain
-last-is v zero b a = refl
-last-is v (suc c) b a = last-is v c (v b) b
-
-pub chain-last : (v : ℕ → ℕ) (b c : ℕ) → LastIs v b c (lastOr 0 (chain v b c))
-unfolding chain
-chain-last v b zero = refl
-chain-last v b (suc c) = last-is v c b 0
-
-chain-first : (v : ℕ → ℕ) (c a b : ℕ) → (0 < c → a ≡ b) → chain v a c ≡ chain v b c
-unfolding chain
-chain-first v zero a b f = refl
-chain-first v (suc c) a b f = ap (λ (x : ℕ). chain v x (suc c)) (f (omega arith))
+use Rattle.layout.proofs.Laws.Files.{slot-high, slot-low, named-slot, file-in, length-fileBlocks, length-blocks}
+use Rattle.layout.proofs.Laws.Owners.{held-above, held-below, held-used, held-apart, file-holds, file-at, file-above, file-below, file-used, slot-elsewhere, Fresh}
+use Rattle.layout.proofs.Laws.Steps.{over-same, Midway, midway-start, dir-apart, midway-end, bytes-step}
+use Rattle.layout.proofs.Laws.Others.{Others, other-name, slot-changed}
 
 -- what an accepted write makes of the entry at e, and of its file
 pub record Written (s s′ : List ℕ) (e offset : ℕ) (bytes : List ℕ) (time : ℕ) : Type 0 where
@@ -177,7 +159,7 @@ module _ (s : List ℕ) (S : Sound s) (k : ℕ) (k₁ : 1 ≤ k) (k₂ : k < 4 *
 
     -- the blocks, old and new, are the chain from the first
     pub larger-blocks : chain (next larger) first c ≡ old ++ new
-    larger-blocks = chain-first (next larger) c first (grow .0) first-is ∙ grow .2
+    larger-blocks = chain-start (next larger) c first (grow .0) first-is ∙ grow .2
 
     -- the entry, told anew
     fits : e + 128 ≤ length full
@@ -298,7 +280,7 @@ module _ (s : List ℕ) (S : Sound s) (k : ℕ) (k₁ : 1 ≤ k) (k₂ : k < 4 *
     unfolding fileBlocks
     done-blocks =
         rw (first-done, blocks-done)
-        (chain-first (next done) c first (grow .0) first-is ∙ chain-agree (next larger) (next done) (grow .0) c (λ y h. done-next (nth (next larger) y (grow .0)) (omega (arith, larger-chain .below y h))) ∙ grow .2)
+        (chain-start (next done) c first (grow .0) first-is ∙ chain-agree (next larger) (next done) (grow .0) c (λ y h. done-next (nth (next larger) y (grow .0)) (omega (arith, larger-chain .below y h))) ∙ grow .2)
 
     all-distinct : distinct eqb (old ++ new) ≡ true
     all-distinct = rw (← grow .2) (chain-distinct (next larger) n (grow .0) c larger-chain (S .least))
@@ -306,12 +288,12 @@ module _ (s : List ℕ) (S : Sound s) (k : ℕ) (k₁ : 1 ≤ k) (k₂ : k < 4 *
     done-joined : joined (block done) (old ++ new) ≡ splice (joined (block larger) (old ++ new)) offset bytes
     unfolding newSize
     done-joined =
-        joined-same (old ++ new) full done
+        joined-same (block full) (block done) (old ++ new)
         (λ q i. slot-elsewhere s S k (omega arith) full done (filled .len) (set-file-length full e first size c time fits) outside q (below q i) (all-far q i (k / 4) (omega arith)))
         ∙ joined-put n (S .least) (old ++ new) larger offset bytes larger-length below all-distinct (omega (arith, length-is, size-is))
 
     old-kept : joined (block larger) old ≡ joined (block s) old
-    old-kept = joined-same old s larger
+    old-kept = joined-same (block s) (block larger) old
         (λ q i. larger-block q (file-above s S k k₂ file q i) (λ m. file-used s S k k₂ file q i (fresh .empty q m)))
 
     done-data : joined (block done) (fileBlocks done e) ≡ splice (joined (block s) old ++ zeros (512 * length new)) offset bytes
@@ -323,10 +305,10 @@ module _ (s : List ℕ) (S : Sound s) (k : ℕ) (k₁ : 1 ≤ k) (k₂ : k < 4 *
       done-content : content done e ≡ splice (content s e) offset bytes
       unfolding content newSize
       done-content =
-          let lo = length-joined n (S .least) old larger larger-length (file-below s S k k₂ file) in
-          let la = length-joined n (S .least) (old ++ new) larger larger-length below in
-          let ob = file-size s S k k₂ file k₁ in
-          let lc = file-length s S k k₂ file in
+          let lo = length-blocks larger old (λ x m. omega (arith, larger-length, file-below s S k k₂ file x m)) in
+          let la = length-blocks larger (old ++ new) (λ x m. omega (arith, larger-length, below x m)) in
+          let ob = file-in s S k k₁ k₂ file .blocks in
+          let lc = length-fileBlocks s e in
           let x : take (sizeOf s e) (joined (block larger) (old ++ new)) ≡ take (sizeOf s e) (joined (block s) old) =
           ap (take (sizeOf s e)) (joined-append (block larger) old new) ∙ take-append-le (sizeOf s e) (joined (block larger) old) (joined (block larger) new) (omega arith) ∙ ap (take (sizeOf s e)) old-kept in
           rw (size-done, done-blocks, done-joined)

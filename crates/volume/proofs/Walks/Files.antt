@@ -1,31 +1,25 @@
 -- The file of a name on a sound image, and what stands when it is opened.
 use Prim.Native.Nat.{ℕ, _/_}
 use mathlib.Core.Path.{_≡_}
-use mathlib.Core.Bool.{true, not}
+use mathlib.Core.Bool.{true}
 use mathlib.Core.List.{List}
 use native.Mathlib.Omega.{arith}
-use lib.Dec.{eqb}
 use Rattle.layout.specs.Geometry.{blockCount}
 use Rattle.layout.specs.Table.{next, chain, chainOk}
-use Rattle.layout.specs.Directory.{goodName, fileSlot, root, fileBlocks}
+use Rattle.layout.specs.Directory.{fileBlocks}
 use Rattle.layout.specs.Check.{check}
 use Rattle.layout.specs.Looks.{nameRefusal, entryOf}
 use Rattle.layout.specs.Walks.Looks.{Located}
 use Rattle.layout.specs.Walks.Shapes.{ChainBelow}
-use Rattle.layout.proofs.Laws.Tests.{require-zero}
-use Rattle.layout.proofs.Laws.Chains.{getD-chain, chainOk-split}
-use Rattle.layout.proofs.Walks.Shapes.{sound-shape}
+use Rattle.layout.proofs.Walks.Shapes.{sound-chain}
 use Rattle.layout.proofs.Laws.Files.{File, file-of}
 use Rattle.layout.proofs.Laws.Sound.{sound}
+use Rattle.layout.proofs.Laws.Looks.{file-given}
 
 -- an accepted name
 module _ (s name : List ℕ) (r : nameRefusal s name ≡ 0) where
-  slot-given : not (eqb (fileSlot s (root s) name) 0) ≡ true
-  unfolding nameRefusal
-  slot-given = require-zero (not (eqb (fileSlot s (root s) name) 0)) 9 _ (require-zero (goodName name) 8 _ r .1) .0
-
   pub file-of-name : check s ≡ 0 → File s (entryOf s name)
-  file-of-name ok = file-of s (sound s ok) name slot-given
+  file-of-name ok = file-of s (sound s ok) name (file-given s name r)
 
 -- a file that was opened
 module _ {s name : List ℕ} {slot b first size blocks : ℕ} (o : Located s name slot b first size blocks) where
@@ -41,8 +35,4 @@ module _ {s name : List ℕ} {slot b first size blocks : ℕ} (o : Located s nam
     opened-ok = rw (o .start, o .count) (file-of-name s name r ok .chained)
 
     pub opened-run : ChainBelow s (blockCount s) first blocks
-    opened-run =
-        record {
-          shape = sound-shape s ok;
-          below = λ i h. rw (getD-chain (next s) first blocks i h) (chainOk-split (next s) (blockCount s) first blocks opened-ok .below i h);
-        }
+    opened-run = sound-chain s ok first blocks opened-ok

@@ -1,7 +1,7 @@
 -- What a call on a part of an image leaves, where the callee writes a run within that part.
-use Prim.Native.Nat.{ℕ, suc, _+_, _-_, _*_, _≤_, _<_}
-use mathlib.Core.Path.{_≡_, refl, sym, ap, _∙_}
-use mathlib.Core.List.{List, [], _∷_, _++_}
+use Prim.Native.Nat.{ℕ, suc, _+_, _-_, _≤_}
+use mathlib.Core.Path.{_≡_, sym, ap, _∙_}
+use mathlib.Core.List.{List, _++_}
 use native.Mathlib.Omega.{arith}
 use native.Mathlib.Nat.{zero-add}
 use lib.ListN.{length, take, drop}
@@ -10,20 +10,11 @@ use lib.Seq.{drop-drop}
 use Rattle.volume.specs.Write.{setFile}
 use Rattle.layout.specs.Table.{setNext}
 use Rattle.volume.specs.Entries.{linked}
-use Rattle.layout.proofs.Laws.Bytes.{be32-same, lent, length-part, getD-part, length-splice, splice-part, splice-append, take-splice, drop-splice, part-splice-inside}
-
-pub lent-part : (s : List ℕ) (at n k : ℕ) (p ys : List ℕ) → ys ≡ splice (part s at n) k p → at + n ≤ length s → k + length p ≤ n → take at s ++ (ys ++ drop n (drop at s)) ≡ splice s (at + k) p
-lent-part s at n k p ys e hs hp =
-    let hn : length (part s at n) ≡ n = length-part s at n hs in
-    lent s at n ys (splice (part s at n) k p) e (length-splice (part s at n) k p (omega arith) ∙ hn) ∙ splice-part s at n k p hs hp
-
--- the same for the header, which begins at 0
-pub lent-header : (s : List ℕ) (n k : ℕ) (p ys : List ℕ) → ys ≡ splice (take n s) k p → n ≤ length s → k + length p ≤ n → ys ++ drop n s ≡ splice s k p
-lent-header s n k p ys e hs hp = lent-part s 0 n k p ys e (omega arith) hp ∙ rw zero-add
+use Rattle.layout.proofs.Laws.Bytes.{length-splice, splice-append, take-splice, drop-splice, part-splice-inside, be32-part, lent-part}
 
 -- a number of the header, read in its block
 pub header-word : (s : List ℕ) (n at : ℕ) → n ≤ length s → at + 4 ≤ n → be32 (take n s) at ≡ be32 s at
-header-word s n at h g = be32-same s (take n s) at at (λ i l. getD-part s 0 n (at + i) (omega arith) ∙ rw zero-add)
+header-word s n at h g = be32-part s 0 n at g ∙ rw zero-add
 
 -- two numbers written one after the other
 pub two-words : (s : List ℕ) (at u v : ℕ) → at + 8 ≤ length s → splice (splice s at (bytes4 u)) (at + 4) (bytes4 v) ≡ splice s at (bytes4 u ++ bytes4 v)

@@ -5,25 +5,25 @@ use mathlib.Core.List.{List, _++_}
 use mathlib.Core.Logic.{⊎-elim}
 use native.Mathlib.Omega.{arith}
 use lib.ListN.{length, getD, take}
-use borrow.Author.Tests.{ne-eqb}
 use Rattle.layout.specs.Lists.{lastOr}
 use Rattle.layout.specs.Geometry.{blockCount, blocksFor}
 use Rattle.layout.specs.Table.{next, chain, freeBlocks}
 use Rattle.layout.specs.Directory.{fileSlot, root, fileBlocks}
 use Rattle.layout.specs.Check.{check}
-use Rattle.layout.specs.Looks.{nameRefusal, entryOf}
+use Rattle.layout.specs.Looks.{entryOf}
 use Rattle.volume.specs.Write.{newSize, needed, newBlocks, writeRefusal}
 use Rattle.layout.specs.Walks.Looks.{Located}
 use Rattle.volume.specs.Walks.Searches.{freeFrom, FirstFree}
 use Rattle.volume.specs.Walks.Writes.{Planned}
-use Rattle.volume.proofs.Laws.Accepted.{WriteGiven, write-given, named-slot}
+use Rattle.volume.proofs.Laws.Accepted.{WriteGiven, write-given, name-given}
 use Rattle.volume.proofs.Laws.Space.{new-length, all-length}
 use Rattle.volume.proofs.Walks.Files.{opened-blocks}
 use Rattle.volume.proofs.Walks.Grow.{free-all}
-use Rattle.volume.proofs.Walks.Release.{chain-none}
 use Rattle.volume.proofs.Walks.Write.{blocks-for, blocks-most}
 use Rattle.layout.proofs.Laws.Tests.{lt-or-ge}
 use Rattle.layout.proofs.Laws.Sound.{sound}
+use Rattle.layout.proofs.Laws.Files.{named-slot}
+use Rattle.layout.proofs.Laws.Chains.{chain-none}
 
 -- the first block of a chain with blocks taken behind it
 module _ (v : ℕ → ℕ) (n first : ℕ) where
@@ -46,12 +46,6 @@ some-free v n k h ne =
     let z : n - 0 ≡ n = omega arith in
     let e : freeBlocks v n ≡ freeFrom v 0 n = free-all v n ∙ ap (freeFrom v 0) z in
     ⊎-elim (λ p. omega (arith, ap length e)) (λ p. absurd (ne (omega arith))) (lt-or-ge 0 k)
-
-pub name-given : (s name : List ℕ) (offset count : ℕ) → writeRefusal s name offset count ≡ 0 → nameRefusal s name ≡ 0
-unfolding nameRefusal
-name-given s name offset count r =
-    let g = write-given s name offset count r in
-    rw (g .good, ne-eqb (fileSlot s (root s) name) 0 (g .there))
 
 -- an accepted write on a sound image
 module _ (s name : List ℕ) (offset count : ℕ) (ok : check s ≡ 0) (r : writeRefusal s name offset count ≡ 0) where
@@ -80,7 +74,7 @@ module _ (s name : List ℕ) (offset count : ℕ) (ok : check s ≡ 0) (r : writ
         (omega (arith, o .bytes, given .within-size), omega arith, given .few, z)
 
     module _ (k : ℕ) (ek : k ≡ blocksFor (max size (offset + count)) - blocks) where
-      need-is : k ≡ needed s e offset count
+      pub need-is : k ≡ needed s e offset count
       unfolding needed newSize
       need-is = ek ∙ rw (← o .bytes, ← o .count)
 

@@ -1,13 +1,13 @@
 -- A write, step by step: the blocks taken, the data put and the entry told anew give writeAt.
 use Prim.Native.Nat.{ℕ, _+_, _-_, _*_, _≤_, _<_}
-use mathlib.Core.Path.{_≡_, refl, sym, ap, _∙_}
-use mathlib.Core.Bool.{Bool, true}
-use mathlib.Core.List.{List, [], _∷_, _++_}
-use mathlib.Core.Logic.{inl, inr, ⊎-elim}
+use mathlib.Core.Path.{_≡_, sym, ap, _∙_}
+use mathlib.Core.Bool.{true}
+use mathlib.Core.List.{List, _++_}
+use mathlib.Core.Logic.{⊎-elim}
 use native.Mathlib.Omega.{arith}
 use lib.ListN.{length, take}
 use borrow.Author.Tests.{lt-ltb}
-use Rattle.layout.specs.Lists.{every, lastOr}
+use Rattle.layout.specs.Lists.{lastOr}
 use Rattle.layout.specs.Bytes.{be32}
 use Rattle.layout.specs.Geometry.{blockCount, blocksFor, inVolume}
 use Rattle.layout.specs.Table.{next, chain, freeBlocks}
@@ -20,21 +20,17 @@ use Rattle.volume.specs.Write.{newSize, newBlocks, put, setFile, writeAt
 use Rattle.volume.specs.Walks.Data.{Placed}
 use Rattle.volume.specs.Walks.Searches.{Growable}
 use Rattle.volume.specs.Walks.Writes.{Planned}
-use Rattle.volume.proofs.Laws.Accepted.{WriteGiven, write-given, named-slot}
+use Rattle.volume.proofs.Laws.Accepted.{WriteGiven, write-given}
 use Rattle.volume.proofs.Laws.Frame.{put-length}
-use Rattle.volume.proofs.Laws.Lists.{last-in}
-use Rattle.volume.proofs.Laws.Owners.{file-used}
-use Rattle.volume.proofs.Laws.Space.{free-count, all-above, all-below, all-length, all-size, last-below}
+use Rattle.volume.proofs.Laws.Space.{all-above, all-below, all-length, all-size, last-below}
 use Rattle.volume.proofs.Laws.Write.{larger-blocks, larger-length, first-small, few}
 use Rattle.layout.proofs.Laws.Tests.{and-join}
-use Rattle.layout.proofs.Laws.Lists.{In}
+use Rattle.layout.proofs.Laws.Lists.{In, last-in, in-every}
 use Rattle.layout.proofs.Laws.Counts.{occupied-most}
 use Rattle.layout.proofs.Laws.Sound.{dirSize, Sound, sound}
 use Rattle.layout.proofs.Walks.Shapes.{sound-shape}
-
-every-all : (p : ℕ → Bool) (xs : List ℕ) → ((x : ℕ) → In x xs → p x ≡ true) → every p xs ≡ true
-every-all p [] f = refl
-every-all p (x ∷ xs) f = and-join (f x (inl refl)) (every-all p xs (λ y i. f y (inr i)))
+use Rattle.layout.proofs.Laws.Files.{named-slot}
+use Rattle.layout.proofs.Laws.Owners.{file-used, free-count}
 
 module _ (s name : List ℕ) (offset : ℕ) (bytes : List ℕ) (ok : check s ≡ 0) (r : writeRefusal s name offset (length bytes) ≡ 0)
     {slot b last taken start size blocks : ℕ} (p : Planned s (entryOf s name) offset (length bytes) slot b last taken start size blocks)
@@ -111,7 +107,7 @@ module _ (s name : List ℕ) (offset : ℕ) (bytes : List ℕ) (ok : check s ≡
       unfolding newSize
       write-placed =
           rw (et, taken-is)
-          (record { whole = length-is; low = S .least; high = S .most; inside = rw chain-is (every-all (inVolume n) (old ++ new) in-volume); fits = omega (arith, size-is, p .bytes) })
+          (record { whole = length-is; low = S .least; high = S .most; inside = rw chain-is (in-every (inVolume n) (old ++ new) in-volume); fits = omega (arith, size-is, p .bytes) })
 
       module _ (u : List ℕ) (eu : u ≡ put t (chain (next t) start blocks) offset bytes) where
         put-is : u ≡ put larger (old ++ new) offset bytes

@@ -1,42 +1,31 @@
 -- The blocks that a write names, as the code marks them: those of the file that hold a written byte, and what taking the new blocks names.
-use Prim.Native.Nat.{ℕ, zero, suc, _+_, _-_, _*_, _/_, _%_, _≤_, _<_, max}
-use mathlib.Core.Path.{_≡_, refl, sym, ap, _∙_, subst}
+use Prim.Native.Nat.{ℕ, zero, suc, _+_, _-_, _/_, _%_, _≤_, _<_, max}
+use mathlib.Core.Path.{_≡_, refl, sym, ap, _∙_}
 use mathlib.Core.List.{List, [], _∷_, _++_}
 use mathlib.Core.Logic.{_⊎_, inl, inr, ⊎-elim}
 use native.Mathlib.Omega.{arith}
-use lib.ListN.{length, getD, take, drop, length-drop, length-take}
-use borrow.Author.Tests.{ne-eqb}
-use lib.Seq.{length-take-le, take-all, take-nil, drop-nil, drop-append-le}
+use lib.ListN.{length, getD, take, drop, length-drop, length-take, drop-of-length-le}
+use lib.Seq.{length-take-le, take-all, take-nil, drop-append-le}
 use Rattle.layout.specs.Lists.{lastOr, joined}
 use Rattle.layout.specs.Bytes.{part}
 use Rattle.layout.specs.Geometry.{blockCount, blocksFor}
 use Rattle.layout.specs.Table.{next, chain, freeBlocks, tableBlockOf}
-use Rattle.layout.specs.Directory.{fileSlot, root}
 use Rattle.layout.specs.Check.{check}
 use Rattle.layout.specs.Looks.{nameRefusal, entryOf}
-use Rattle.layout.specs.Walks.Shapes.{Shape, ChainBelow}
+use Rattle.layout.specs.Walks.Shapes.{ChainBelow}
 use Rattle.layout.proofs.Laws.Tests.{lt-or-ge}
 use Rattle.layout.proofs.Laws.Lists.{In, in-left, in-right, in-append, getD-in, in-take}
-use Rattle.layout.proofs.Laws.Chains.{nth, nth-add, length-chain, getD-chain}
+use Rattle.layout.proofs.Laws.Chains.{nth, nth-add, length-chain, getD-chain, last-none, last-some, chain-part}
 use Rattle.volume.specs.Entries.{entriesNamed}
-use Rattle.volume.specs.Write.{newSize, needed, newBlocks, written, changedEntries, writeNamed, writeRefusal}
+use Rattle.volume.specs.Write.{newBlocks, written, changedEntries, writeNamed, writeRefusal}
 use Rattle.layout.specs.Walks.Looks.{Located}
 use Rattle.volume.specs.Walks.Marks.{marked}
-use Rattle.volume.proofs.Laws.Accepted.{WriteGiven, write-given}
+use Rattle.volume.proofs.Laws.Accepted.{name-given}
 use Rattle.volume.proofs.Laws.Frame.{entries-table, entries-zero, entries-of, changed-new, changed-of, taken-written}
 use Rattle.volume.proofs.Walks.Marks.{marked-append, marked-same}
 use Rattle.volume.proofs.Walks.Files.{entry-block, opened-blocks}
-use Rattle.volume.proofs.Walks.Grow.{last-none, last-some}
-use Rattle.volume.proofs.Walks.Write.{blocks-for, blocks-most}
-
--- a part of a chain is a chain
-pub chain-part : (v : ℕ → ℕ) (j b k w : ℕ) → j + w ≤ k → part (chain v b k) j w ≡ chain v (nth v j b) w
-unfolding chain
-chain-part v zero b k zero h = refl
-chain-part v zero b zero (suc w) h = absurd (omega arith)
-chain-part v zero b (suc k) (suc w) h = ap (λ (r : List ℕ). b ∷ r) (chain-part v zero (v b) k w (omega arith))
-chain-part v (suc j) b zero w h = absurd (omega arith)
-chain-part v (suc j) b (suc k) w h = chain-part v j (v b) k w (omega arith)
+use Rattle.volume.proofs.Walks.Write.{blocks-for}
+use Rattle.volume.proofs.Walks.Plan.{plan-sizes, need-is, room-given}
 
 -- the blocks from number j on of a chain whose blocks are below n
 module _ {s : List ℕ} {n first k : ℕ} (r : ChainBelow s n first k) (j b : ℕ) (e : b ≡ getD (chain (next s) first k) j 0) (h : j < k) where
@@ -60,15 +49,9 @@ module _ {s : List ℕ} {n first k : ℕ} (r : ChainBelow s n first k) (j b : �
       take-most : (xs : List ℕ) (a w : ℕ) → length xs ≡ a → a ≤ w → take a xs ≡ take w xs
       take-most xs a w l g = take-all a xs (omega arith) ∙ sym (take-all w xs (omega arith))
 
-part-past : (v : ℕ → ℕ) (b k j w : ℕ) → k ≤ j → part (chain v b k) j w ≡ []
-unfolding chain
-part-past v b zero j w h = rw (drop-nil {A = ℕ} j, take-nil {A = ℕ} w)
-part-past v b (suc k) zero w h = absurd (omega arith)
-part-past v b (suc k) (suc j) w h = part-past v (v b) k j w (omega arith)
-
 pub part-past-marked : (v : ℕ → ℕ) (b k j w : ℕ) (m : List ℕ) → k ≤ j → marked m (part (chain v b k) j w) ≡ m
 unfolding marked
-part-past-marked v b k j w m h = rw (part-past v b k j w h)
+part-past-marked v b k j w m h = rw (drop-of-length-le (chain v b k) {i = j} (rw (length-chain v b k) h), take-nil {A = ℕ} w)
 
 -- the marks of blocks taken: each with its table block, block 0, and the table block of the block before them
 abbrev pairs : List ℕ → List ℕ
@@ -206,31 +189,11 @@ last-under {s} {n} {first} {k} r = ⊎-elim some none (lt-or-ge 0 k)
     none h = omega (arith, last-none (next s) first k (omega arith), r .shape .low)
 
 -- an accepted write of a file that was opened
-pub write-name : (s name : List ℕ) (offset count : ℕ) → writeRefusal s name offset count ≡ 0 → nameRefusal s name ≡ 0
-unfolding nameRefusal
-write-name s name offset count r = let g = write-given s name offset count r in rw (g .good, ne-eqb (fileSlot s (root s) name) 0 (g .there))
-
 module _ {s name : List ℕ} {slot b first size blocks : ℕ} (o : Located s name slot b first size blocks) (ok : check s ≡ 0) (offset count : ℕ) (r : writeRefusal s name offset count ≡ 0) where
-  g : WriteGiven s name offset count
-  g = write-given s name offset count r
-
   z : nameRefusal s name ≡ 0
-  z = write-name s name offset count r
-
-  pub write-needs : (offset ≤ size) × (size < 4294967296) × (count ≤ 4096) × (blocks ≤ blocksFor size)
-  write-needs =
-      let p = blocks-for o z ok in
-      let q = blocks-most o z ok in
-      (omega (arith, g .within-size, o .bytes), omega arith, g .few, omega arith)
+  z = name-given s name offset count r
 
   module _ (more : ℕ) (e : more ≡ blocksFor (max size (offset + count)) - blocks) where
-    more-needed : more ≡ needed s (entryOf s name) offset count
-    unfolding needed newSize
-    more-needed = e ∙ rw (o .bytes, o .count)
-
-    pub write-room : more ≤ length (freeBlocks (next s) (blockCount s))
-    write-room = omega (arith, more-needed, g .room)
-
     pub write-named : (m : List ℕ) (last : ℕ) → last ≡ lastOr 0 (chain (next s) first blocks)
         → marked (marked (marked m (b ∷ [])) (written (chain (next s) first blocks) offset count))
         (take more (freeBlocks (next s) (blockCount s)) ++ entriesNamed (changedEntries last (take more (freeBlocks (next s) (blockCount s)))))
@@ -240,6 +203,6 @@ module _ {s name : List ℕ} {slot b first size blocks : ℕ} (o : Located s nam
         let new : List ℕ = take more (freeBlocks (next s) (blockCount s)) in
         let p : length (chain (next s) first blocks) ≡ blocksFor size = length-chain (next s) first blocks ∙ blocks-for o z ok in
         let q : length (take more (freeBlocks (next s) (blockCount s))) ≡ blocksFor (max size (offset + count)) - blocksFor size =
-        length-take-le more (freeBlocks (next s) (blockCount s)) write-room ∙ e ∙ ap (λ (k : ℕ). blocksFor (max size (offset + count)) - k) (blocks-for o z ok) in
-        write-marks (chain (next s) first blocks) new (entriesNamed (changedEntries last new)) size offset count p q (write-needs .0) m b
-        ∙ rw (d, opened-blocks o, more-needed, entry-block o)
+        length-take-le more (freeBlocks (next s) (blockCount s)) (room-given s name offset count ok r o more e) ∙ e ∙ ap (λ (k : ℕ). blocksFor (max size (offset + count)) - k) (blocks-for o z ok) in
+        write-marks (chain (next s) first blocks) new (entriesNamed (changedEntries last new)) size offset count p q (plan-sizes s name offset count ok r o .0) m b
+        ∙ rw (d, opened-blocks o, need-is s name offset count ok r o more e, entry-block o)

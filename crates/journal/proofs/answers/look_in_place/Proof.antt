@@ -2,8 +2,8 @@ use mathlib.Core.Path.{_∙_}
 use Rattle.journal.specs.Run.{lookAnswer}
 use borrow.Author.Needs.{needs}
 use Rattle.journal.proofs.answers.look_in_place.Statement.{statement}
+use Rattle.layout.proofs.Laws.Looks.{look-short}
 use Rattle.journal.proofs.answers.look_in_place.Tie as tie
-use Rattle.journal.proofs.Walks.Encoding.{shown-short}
 
 add-get64 : tie.Need-add-get64
 add-get64 c = search needs
@@ -18,7 +18,7 @@ look-in-place-requires : tie.Need-look-in-place-requires
 look-in-place-requires c κs = search needs
 
 put-shown-requires : tie.Need-put-shown-requires
-put-shown-requires c κs = (rw (c .before .look-in-place .ensures) (shown-short _ _ _), c .before .before .before .before .before .before .before .pre .1)
+put-shown-requires c κs = (rw (c .before .look-in-place .ensures) (look-short _ _ _), c .before .before .before .before .before .before .before .pre .1)
 
 same-length : tie.Need-same-length
 same-length c = search needs

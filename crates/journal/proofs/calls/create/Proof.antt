@@ -5,7 +5,8 @@ use Rattle.journal.specs.Run.{recordOf}
 use borrow.Author.Needs.{needs}
 use Rattle.journal.proofs.calls.create.Statement.{statement}
 use Rattle.journal.proofs.calls.create.Tie as tie
-use Rattle.journal.proofs.Walks.Changes.{ready, change-unready, change-refused, change-full, change-done, create-free}
+use Rattle.journal.proofs.Walks.Changes.{ready, change-unready, change-refused, change-full, change-done}
+use Rattle.volume.proofs.Laws.Accepted.{create-given}
 
 ready-refusal-requires : tie.Need-ready-refusal-requires
 ready-refusal-requires c κs = search needs
@@ -33,7 +34,7 @@ unfolding refusal
 returns-2 c = change-refused _ _ _ (ready _ _ (sym (c .before .before .before .before .ready-refusal .ensures) ∙ c .before .before .before .if1 .left)) _ (c .before .create-refusal .ensures) (c .if2 .taken)
 
 record-create-requires : tie.Need-record-create-requires
-record-create-requires c κs = (ready _ _ (sym (c .before .before .before .before .before .before .ready-refusal .ensures) ∙ c .before .before .before .before .before .if1 .left), create-free _ _ _ (sym (c .before .before .before .create-refusal .ensures) ∙ c .before .before .if2 .left))
+record-create-requires c κs = (ready _ _ (sym (c .before .before .before .before .before .before .ready-refusal .ensures) ∙ c .before .before .before .before .before .if1 .left), create-given _ _ _ (sym (c .before .before .before .create-refusal .ensures) ∙ c .before .before .if2 .left) .some)
 
 same-length-5 : tie.Need-same-length-5
 same-length-5 c = search needs

@@ -4,19 +4,20 @@ use Rattle.journal.specs.Journal.{used}
 use borrow.Author.Needs.{needs}
 use Rattle.journal.proofs.scan.head_ok.Statement.{statement}
 use Rattle.journal.proofs.scan.head_ok.Tie as tie
-use Rattle.journal.proofs.Walks.Scanning.{refuted, head-facts, head-rest}
+use Rattle.journal.proofs.Walks.Scanning.{head-facts, head-rest}
+use Rattle.layout.proofs.Laws.Tests.{is-false}
 
 returns : tie.Need-returns
-returns c = sym (refuted _ (λ t. let f = head-facts _ t in omega arith))
+returns c = sym (is-false _ (λ t. let f = head-facts _ t in omega arith))
 
 returns-2 : tie.Need-returns-2
-returns-2 c = sym (refuted _ (λ t. let f = head-facts _ t in omega arith))
+returns-2 c = sym (is-false _ (λ t. let f = head-facts _ t in omega arith))
 
 shared-slice-read-if3 : tie.Need-shared-slice-read-if3
 shared-slice-read-if3 c = search needs
 
 returns-3 : tie.Need-returns-3
-returns-3 c = sym (refuted _ (λ t. c .if3 .taken (head-facts _ t .2)))
+returns-3 c = sym (is-false _ (λ t. c .if3 .taken (head-facts _ t .2)))
 
 get32-requires : tie.Need-get32-requires
 get32-requires c κs = search needs
@@ -26,7 +27,7 @@ cast-used c = search needs
 
 returns-4 : tie.Need-returns-4
 unfolding used
-returns-4 c = sym (refuted _ (λ t. let f = head-facts _ t in omega arith))
+returns-4 c = sym (is-false _ (λ t. let f = head-facts _ t in omega arith))
 
 returns-5 : tie.Need-returns-5
 unfolding used

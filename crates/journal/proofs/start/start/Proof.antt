@@ -8,7 +8,8 @@ use Rattle.journal.specs.Journal.{started}
 use borrow.Author.Needs.{needs}
 use Rattle.journal.proofs.start.start.Statement.{statement}
 use Rattle.journal.proofs.start.start.Tie as tie
-use Rattle.journal.proofs.Walks.Starts.{start-short, start-long, start-fits, start-stored, start-length}
+use Rattle.journal.proofs.Walks.Starts.{start-short, start-long, start-fits, start-stored}
+use Rattle.journal.proofs.Laws.Shape.{length-started}
 
 returns : tie.Need-returns
 returns c = rw (start-short _ (c .if1 .taken)) (refl, refl)
@@ -35,7 +36,7 @@ made j a b h e f = f ∙ rw e (start-stored (length j) h)
 same-length : tie.Need-same-length
 same-length c =
     let j = c .before .before .before .before .before .before .before .before .before .before .before .args .journal .now in
-    ap length (made j _ _ (c .before .before .before .before .before .before .before .before .before .if1 .left) (c .before .before .before .before .before .before .clear .ensures) (c .before .before .put32 .ensures)) ∙ start-length (length j) (c .before .before .before .before .before .before .before .before .before .if1 .left)
+    ap length (made j _ _ (c .before .before .before .before .before .before .before .before .before .if1 .left) (c .before .before .before .before .before .before .clear .ensures) (c .before .before .put32 .ensures)) ∙ length-started (length j) (c .before .before .before .before .before .before .before .before .before .if1 .left)
 
 returns-3 : tie.Need-returns-3
 returns-3 c =

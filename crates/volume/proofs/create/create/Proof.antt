@@ -1,4 +1,4 @@
--- The entry is written in the part of its block: a splice in a part is one in the image (lent-splice).
+-- The entry is written in the part of its block: a splice in a part is one in the image (lent-part).
 use mathlib.Core.Path.{_∙_}
 use Prim.Native.Nat.{_+_, _-_, _*_, _%_, _≤_}
 use native.Mathlib.Omega.{arith}
@@ -6,10 +6,10 @@ use lib.ListN.{length}
 use borrow.Author.Needs.{needs}
 use Rattle.volume.proofs.create.create.Statement.{statement}
 use Rattle.volume.proofs.create.create.Tie as tie
-use Rattle.volume.proofs.Walks.Slots.{lent-splice, length-entry}
+use Rattle.volume.proofs.Walks.Slots.{length-entry}
 use Rattle.volume.proofs.Walks.Create.{create-inside, create-slot, create-written}
 use Rattle.volume.proofs.Laws.Accepted.{create-given}
-use Rattle.layout.proofs.Laws.Bytes.{length-part}
+use Rattle.layout.proofs.Laws.Bytes.{length-part, lent-part}
 use Rattle.layout.proofs.Laws.Names.{goodName-length}
 
 free-slot-requires : tie.Need-free-slot-requires
@@ -67,7 +67,7 @@ returns c =
     let n : length (a .name .now) ≤ 80 = omega (arith, goodName-length (a .name .now) (g .good)) in
     let l = length-entry (a .kind) (a .user) (a .group) (a .permissions) 0 0 0 (a .time) (a .flags) (a .name .now) n in (
       create-slot s k b (f .ensures) (g .some),
-      lent-splice s (512 * b) (512 * b + 512 - 512 * b) _ (128 * (k % 4)) _ (c .before .before .put-entry .ensures) (omega arith) (omega arith)
+      lent-part s (512 * b) (512 * b + 512 - 512 * b) (128 * (k % 4)) _ _ (c .before .before .put-entry .ensures) (omega arith) (omega arith)
           ∙ create-written s k b (f .ensures) (g .some) (a .name .now) (a .kind) (a .user) (a .group) (a .permissions) (a .flags) (a .time),
     )
 

@@ -5,8 +5,7 @@ use Rattle.layout.specs.Bytes.{zeros}
 use borrow.Author.Needs.{needs}
 use Rattle.volume.proofs.file.clear_slot.Statement.{statement}
 use Rattle.volume.proofs.file.clear_slot.Tie as tie
-use Rattle.volume.proofs.Walks.Lent.{lent-part}
-use Rattle.layout.proofs.Laws.Bytes.{length-zeros}
+use Rattle.layout.proofs.Laws.Bytes.{length-zeros, lent-part}
 
 mul-o : tie.Need-mul-o
 mul-o c = search needs

@@ -1,4 +1,4 @@
--- Two writes in the part of block 0, each a splice in the image (lent-splice).
+-- Two writes in the part of block 0, each a splice in the image (lent-part).
 use mathlib.Core.Path.{_≡_, ap, _∙_}
 use mathlib.Core.List.{List, _++_}
 use Prim.Native.Nat.{ℕ}
@@ -9,9 +9,8 @@ use Rattle.volume.specs.Format.{headerBytes}
 use borrow.Author.Needs.{needs}
 use Rattle.volume.proofs.format.put_header.Statement.{statement}
 use Rattle.volume.proofs.format.put_header.Tie as tie
-use Rattle.volume.proofs.Walks.Slots.{lent-splice}
 use Rattle.volume.proofs.Walks.Format.{length-header}
-use Rattle.layout.proofs.Laws.Bytes.{length-splice}
+use Rattle.layout.proofs.Laws.Bytes.{length-splice, lent-part}
 
 sub-put-numbers : tie.Need-sub-put-numbers
 sub-put-numbers c = search needs
@@ -45,10 +44,10 @@ returns c =
     let a = c .before .before .before .before .before .before .before .before .before .before .args in
     let s = a .image .now in
     let h = length-header (a .n) (a .used) in
-    let e = lent-splice s 0 512 (c .before .before .before .before .before .before .put-numbers .last .0) 0 (headerBytes (a .n) (a .used)) (c .before .before .before .before .before .before .put-numbers .ensures) (omega arith) (omega arith) in
+    let e = lent-part s 0 512 0 (headerBytes (a .n) (a .used)) (c .before .before .before .before .before .before .put-numbers .last .0) (c .before .before .before .before .before .before .put-numbers .ensures) (omega arith) (omega arith) in
     let l = ap length e ∙ length-splice s 0 (headerBytes (a .n) (a .used)) (omega arith) in
     let u : length (a .uuid ++ a .name .now) ≡ 144 = length-append (a .uuid) (a .name .now) ∙ omega arith in
-    lent-splice _ 0 512 (c .before .before .put-labels .last .0) 112 (a .uuid ++ a .name .now) (c .before .before .put-labels .ensures) (omega arith) (omega arith)
+    lent-part _ 0 512 112 (a .uuid ++ a .name .now) (c .before .before .put-labels .last .0) (c .before .before .put-labels .ensures) (omega arith) (omega arith)
     ∙ ap (λ (x : List ℕ). splice x 112 (a .uuid ++ a .name .now)) e
 
 pub put-header-spec : {M : Type 1} → statement M

@@ -1,4 +1,4 @@
--- Two parts of the image in turn, each a splice in the image (lent-splice).
+-- Two parts of the image in turn, each a splice in the image (lent-part).
 use mathlib.Core.Path.{ap, _∙_}
 use mathlib.Core.List.{List, [], _∷_}
 use Prim.Native.Nat.{ℕ, _+_, _-_, _*_}
@@ -10,9 +10,9 @@ use Rattle.volume.specs.Entries.{entryBytes}
 use borrow.Author.Needs.{needs}
 use Rattle.volume.proofs.format.put_root.Statement.{statement}
 use Rattle.volume.proofs.format.put_root.Tie as tie
-use Rattle.volume.proofs.Walks.Slots.{lent-splice, length-entry}
+use Rattle.volume.proofs.Walks.Slots.{length-entry}
 use Rattle.volume.proofs.Walks.Format.{directory-written}
-use Rattle.layout.proofs.Laws.Bytes.{length-splice}
+use Rattle.layout.proofs.Laws.Bytes.{length-splice, lent-part}
 
 mul-a : tie.Need-mul-a
 mul-a c = search needs
@@ -70,9 +70,9 @@ returns c =
     let last : ℕ = at + 512 * (a .d - 1) in
     let p : List ℕ = entryBytes 1 0 0 0 (a .root) (a .root) (a .d) (a .time) 0 [] in
     let h = length-entry 1 0 0 0 (a .root) (a .root) (a .d) (a .time) 0 [] (omega arith) in
-    let e = lent-splice s at (at + 512 - at) (c .before .before .before .before .before .before .put-entry .last .0) 0 p (c .before .before .before .before .before .before .put-entry .ensures) (omega arith) (omega arith) ∙ ap (λ (x : ℕ). splice s x p) (add-zero at) in
+    let e = lent-part s at (at + 512 - at) 0 p (c .before .before .before .before .before .before .put-entry .last .0) (c .before .before .before .before .before .before .put-entry .ensures) (omega arith) (omega arith) ∙ ap (λ (x : ℕ). splice s x p) (add-zero at) in
     let l = ap length e ∙ length-splice s at p (omega arith) in
-    lent-splice _ last (last + 512 - last) (c .before .before .put-end .last .0) 384 (0xFF ∷ []) (c .before .before .put-end .ensures) (omega arith) (omega arith)
+    lent-part _ last (last + 512 - last) 384 (0xFF ∷ []) (c .before .before .put-end .last .0) (c .before .before .put-end .ensures) (omega arith) (omega arith)
     ∙ ap (λ (x : List ℕ). splice x (last + 384) (0xFF ∷ [])) e
     ∙ directory-written s (a .root) (a .d) (a .time) (c .before .before .before .before .before .before .before .before .before .before .pre .1)
 

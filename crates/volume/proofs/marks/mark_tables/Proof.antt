@@ -5,7 +5,8 @@ use Rattle.layout.specs.Table.{next, chain, tableBlockOf}
 use Rattle.volume.proofs.marks.mark_tables.Statement.{statement}
 use Rattle.volume.proofs.marks.mark_tables.Tie as tie
 use Rattle.volume.specs.Walks.Marks.{marked}
-use Rattle.volume.proofs.Walks.Marks.{Marking, marking-end, marking-turn, run-first}
+use Rattle.volume.proofs.Walks.Marks.{Marking, marking-end, marking-turn}
+use Rattle.layout.proofs.Walks.Shapes.{run-first}
 
 abbrev Inv-loop : tie.InvT-loop
 Inv-loop image n first k marks₀ b₀ left₀ marks b left = Marking image n tableBlockOf (marked marks₀ (map tableBlockOf (chain (next image) first k))) marks b left

@@ -4,8 +4,8 @@ use Rattle.layout.specs.Bytes.{bytes4}
 use Rattle.volume.specs.Entries.{setOccupied}
 use borrow.Author.Needs.{needs}
 use Rattle.volume.proofs.table.set_counts.Statement.{statement}
+use Rattle.layout.proofs.Laws.Bytes.{lent-header}
 use Rattle.volume.proofs.table.set_counts.Tie as tie
-use Rattle.volume.proofs.Walks.Lent.{lent-header}
 
 sub-free : tie.Need-sub-free
 sub-free c = search needs

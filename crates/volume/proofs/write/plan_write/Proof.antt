@@ -1,9 +1,10 @@
 use native.Mathlib.Omega.{arith}
 use borrow.Author.Needs.{needs}
 use Rattle.volume.proofs.Walks.Files.{opened-run}
-use Rattle.volume.proofs.Walks.Plan.{name-given, plan-sizes, room-given, planned}
+use Rattle.volume.proofs.Walks.Plan.{plan-sizes, room-given, planned}
 use Rattle.layout.proofs.Walks.Shapes.{sound-shape}
 use Rattle.volume.proofs.write.plan_write.Statement.{statement}
+use Rattle.volume.proofs.Laws.Accepted.{name-given}
 use Rattle.volume.proofs.write.plan_write.Tie as tie
 
 locate-requires : tie.Need-locate-requires

@@ -1,29 +1,29 @@
 -- A change in steps: while the chain of slot k grows or shrinks, the rest of a sound image stays (Midway); when the slot tells the new chain, the
 -- image is sound again (midway-end).
-use Prim.Native.Nat.{ℕ, _+_, _-_, _*_, _≤_, _<_}
+use Prim.Native.Nat.{ℕ, _+_, _-_, _*_, _≤_, _<_, _/_}
 use mathlib.Core.Path.{_≡_, refl, sym, ap, _∙_, subst}
 use mathlib.Core.Bool.{true, cond}
 use mathlib.Core.List.{List}
-use mathlib.Core.Logic.{_⊎_, inl, _≢_}
+use mathlib.Core.Logic.{_⊎_, inl, _≢_, inr, ⊎-elim}
 use native.Mathlib.Omega.{arith}
 use native.Mathlib.Decide.{ℕ-discrete}
 use borrow.Author.Tests.{eq-eqb, ne-eqb}
 use lib.ListN.{length}
 use lib.Dec.{eqb}
-use Rattle.layout.specs.Bytes.{be32}
+use Rattle.layout.specs.Bytes.{be32, splice}
 use Rattle.layout.specs.Geometry.{blockCount, tableBlocks}
 use Rattle.layout.specs.Table.{next, occupied}
 use Rattle.layout.specs.Directory.{slotAt, typeOf, firstBlock, blocksOf, isFile, nameOf, root}
 use Rattle.layout.specs.Check.{slotOk}
-use Rattle.volume.proofs.Laws.Table.{before-next, before-occupied, before-header}
-use Rattle.volume.proofs.Laws.Owners.{root-first, root-held}
-use Rattle.layout.proofs.Laws.Frames.{Same, same-then, same-inner}
+use Rattle.layout.proofs.Laws.Frames.{Same, same-then, same-inner, before-next, before-occupied, before-header, same-below, same-beside}
 use Rattle.layout.proofs.Laws.Chains.{nth, nth-agree}
 use Rattle.layout.proofs.Laws.Tables.{Table, table-same}
 use Rattle.layout.proofs.Laws.Sound.{held, firstAt, heldAt, rootOf, dirSize, Sound, root-chain}
 use Rattle.layout.proofs.Laws.Files.{slot-low, slot-high, slots-apart}
 use Rattle.layout.proofs.Laws.Entries.{same-type, same-field}
 use Rattle.layout.proofs.Laws.Changed.{sound-again}
+use Rattle.layout.proofs.Laws.Owners.{root-first, root-held, slot-beside}
+use Rattle.layout.proofs.Laws.Bytes.{length-splice}
 
 -- f, but x at k
 abbrev pub over : ℕ → ℕ → (ℕ → ℕ) → ℕ → ℕ
@@ -78,7 +78,7 @@ module _ (s : List ℕ) (S : Sound s) (k : ℕ) (k₁ : 1 ≤ k) (k₂ : k < 4 *
         free = S .free-is;
       }
 
-  -- the directory't blocks are not those of the chain
+  -- the directory's blocks are not those of the chain
   pub dir-apart : (t : List ℕ) (b c : ℕ) → Midway s k t b c → (x y : ℕ) → x < dirSize s → y < c → nth (next s) x (rootOf s) ≢ nth (next t) y b
   dir-apart t b c I x y hx hy q =
       let z : 0 ≢ k = λ e. omega arith in
@@ -88,21 +88,53 @@ module _ (s : List ℕ) (S : Sound s) (k : ℕ) (k₁ : 1 ≤ k) (k₂ : k < 4 *
       let same : over k b f k ≡ b = over-same k b f in
       I .table .apart 0 k (omega arith) k₂ z x y (omega arith) (omega (arith, over-same k c l)) (ap (nth (next t) x) p ∙ w ∙ q ∙ ap (nth (next t) y) (sym same))
 
+  -- bytes in a block that is not the directory's
+  module _ (t : List ℕ) (b c : ℕ) (I : Midway s k t b c) (q : ℕ) (tq : tableBlocks n < q) (qn : q < n)
+      (far : (x : ℕ) → x < dirSize s → nth (next s) x (rootOf s) ≢ q) (at : ℕ) (p : List ℕ) (h₁ : 512 * q ≤ at) (h₂ : at + length p ≤ 512 * q + 512)
+    where
+      fits : at + length p ≤ length t
+      fits = omega (arith, I .len, S .whole)
+
+      under : Same t (splice t at p) 0 (512 * rootOf s)
+      under = same-below t at p fits 0 (512 * rootOf s) (omega arith)
+
+      beside : (j : ℕ) → j < 4 * dirSize s → (slotAt (root s) j + 128 ≤ at) ⊎ (at + length p ≤ slotAt (root s) j)
+      beside j h = ⊎-elim (λ a. inr (omega arith)) (λ a. inl (omega arith)) (slot-beside s S j h q (far (j / 4) (omega arith)))
+
+      entries : (x : ℕ) → x < 128 * tableBlocks n → next (splice t at p) x ≡ next t x
+      entries = before-next t (splice t at p) n under
+
+      count : occupied (next (splice t at p)) n ≡ occupied (next t) n
+      count = before-occupied t (splice t at p) n under
+
+      header : (i : ℕ) → i + 4 ≤ 512 → be32 (splice t at p) i ≡ be32 t i
+      header = before-header t (splice t at p) n under
+
+      pub bytes-step : Midway s k (splice t at p) b c
+      bytes-step =
+          record {
+            len = length-splice t at p fits ∙ I .len;
+            head = same-then s t (splice t at p) 0 20 (I .head) (same-inner t (splice t at p) 0 (512 * rootOf s) 0 20 under (omega arith) (omega arith));
+            tail = same-then s t (splice t at p) 28 4 (I .tail) (same-inner t (splice t at p) 0 (512 * rootOf s) 28 4 under (omega arith) (omega arith));
+            slots = λ j h. same-then s t (splice t at p) (slotAt (root s) j) 128 (I .slots j h) (same-beside t at p fits (slotAt (root s) j) 128 (beside j h));
+            dir = λ x h. entries (nth (next s) x (rootOf s)) (omega (arith, root-chain s S .below x h)) ∙ I .dir x h;
+            table = table-same n m (next t) (over k b f) (over k c l) (I .table) (S .least) (next (splice t at p)) (over k b f) (over k c l) entries (λ j h. refl) (λ j h pos. refl);
+            used = header 20 (omega arith) ∙ I .used ∙ sym count;
+            free = header 24 (omega arith) ∙ I .free ∙ ap (λ (z : ℕ). n - z) (sym count);
+          }
+
   abbrev e : ℕ
   e = slotAt (root s) k
 
-  -- the slot is written
+  -- the slot is written, and the image is sound again
   module _ (t : List ℕ) (b c : ℕ) (I : Midway s k t b c) (t′ : List ℕ) (len : length t′ ≡ length t)
       (outside : (a w : ℕ) → (a + w ≤ e) ⊎ (e + 128 ≤ a) → Same t t′ a w)
       (ok : slotOk t′ e ≡ true)
       (new : isFile (typeOf t′ e) ≡ true → (j : ℕ) → 1 ≤ j → j < m → j ≢ k → isFile (typeOf s (slotAt (root s) j)) ≡ true → nameOf t′ e ≢ nameOf s (slotAt (root s) j))
       (first : 0 < c → firstBlock t′ e ≡ b) (blocks : held (typeOf t′ e) (blocksOf t′ e) ≡ c)
     where
-      low : 512 * rootOf s ≤ e
-      low = slot-low s S k (omega arith)
-
       before : Same t t′ 0 (512 * rootOf s)
-      before = outside 0 (512 * rootOf s) (inl (omega (arith, low)))
+      before = outside 0 (512 * rootOf s) (inl (omega (arith, slot-low s S k (omega arith))))
 
       len₀ : length t′ ≡ length s
       len₀ = len ∙ I .len

@@ -1,4 +1,4 @@
--- The blocks that the slots of a sound image hold (slot 0: the root's own): in the volume, in use, and of one owner only.
+-- The blocks of a sound image: those that its slots hold (slot 0: the root's own), in the volume, in use and of one owner only; and the free ones.
 use Prim.Native.Nat.{ℕ, _+_, _-_, _*_, _/_, _≤_, _<_}
 use mathlib.Core.Path.{_≡_, refl, sym, ap, _∙_}
 use mathlib.Core.Bool.{true}
@@ -6,22 +6,22 @@ use mathlib.Core.List.{List}
 use mathlib.Core.Logic.{_⊎_, inl, inr, ⊎-elim, _≢_}
 use native.Mathlib.Omega.{arith}
 use native.Mathlib.Decide.{ℕ-discrete}
-use borrow.Author.Tests.{eqb-true}
-use lib.ListN.{length}
+use borrow.Author.Tests.{eqb-true, eq-eqb}
+use lib.ListN.{length, getD, length-take, take, drop, take-append-drop}
 use lib.Dec.{eqb}
+use lib.Seq.{getD-take}
 use Rattle.layout.specs.Looks.{entryOf}
-use Rattle.layout.specs.Directory.{fileSlot, nameOf, slotAt, typeOf, sizeOf, blocksOf, isFile, root, fileBlocks, firstBlock, nameOk}
-use Rattle.layout.specs.Geometry.{blockCount, tableBlocks, blocksFor}
-use Rattle.layout.specs.Table.{next, chain}
-use Rattle.layout.specs.Check.{attributesOk, fileOk}
-use Rattle.layout.specs.Bytes.{block}
-use Rattle.volume.proofs.Laws.Accepted.{named-slot, named-name}
-use Rattle.layout.proofs.Laws.Tests.{and-split, lt-or-gt, true-not-false}
-use Rattle.layout.proofs.Laws.Lists.{In}
-use Rattle.layout.proofs.Laws.Chains.{nth, chain-used, in-chain, length-chain}
-use Rattle.layout.proofs.Laws.Sound.{firstAt, heldAt, file-held, rootOf, dirSize, Sound, firstAt-zero, heldAt-zero, slotOk-split}
-use Rattle.layout.proofs.Laws.Files.{slotAt-root, slot-high}
+use Rattle.layout.specs.Directory.{fileSlot, nameOf, slotAt, typeOf, blocksOf, isFile, root, fileBlocks}
+use Rattle.layout.specs.Geometry.{blockCount, tableBlocks}
+use Rattle.layout.specs.Table.{next, chain, freeBlocks, occupied}
+use Rattle.layout.specs.Bytes.{block, be32}
+use Rattle.layout.specs.Lists.{range, select, distinct}
+use Rattle.layout.proofs.Laws.Tests.{lt-or-gt, lt-or-ge}
+use Rattle.layout.proofs.Laws.Lists.{In, distinct-left, in-take, select-in, select-ascends, select-lowest, select-distinct, select-split}
+use Rattle.layout.proofs.Laws.Chains.{nth, chain-used, in-chain}
+use Rattle.layout.proofs.Laws.Sound.{firstAt, heldAt, file-held, rootOf, dirSize, Sound, firstAt-zero, heldAt-zero}
+use Rattle.layout.proofs.Laws.Files.{slotAt-root, named-slot, named-name}
 use Rattle.layout.proofs.Laws.Frames.{Same, same-part}
 
 -- the blocks of slot k: of the root (k = 0), of a file, or none
 abbrev pub blocksAt : List ℕ → ℕ → List ℕ
@@ -63,11 +63,8 @@ module _ (s : List ℕ) (S : Sound s) where
     pub root-apart : j ≢ 0 → (y : ℕ) → y < dirSize s → nth (next s) y (rootOf s) ≢ q
     root-apart ne y gy e = held-apart 0 (omega (arith, S .d-least)) ne y (omega (arith, root-held)) (sym e ∙ ap (nth (next s) y) (sym root-first))
 
-  -- a slot lies in one block, which is the directory's, and beside any other
+  -- a slot lies beside every block that is not its block of the directory
   module _ (k : ℕ) (h : k < 4 * dirSize s) where
-    pub slot-block : (slotAt (root s) k / 512 < n) × (slotAt (root s) k + 128 ≤ 512 * (slotAt (root s) k / 512) + 512)
-    slot-block = (omega (arith, slot-high s S k h, S .whole), omega (arith, slotAt-root s S k h))
-
     pub slot-beside : (q : ℕ) → nth (next s) (k / 4) (rootOf s) ≢ q → (512 * q + 512 ≤ slotAt (root s) k) ⊎ (slotAt (root s) k + 128 ≤ 512 * q)
     slot-beside q ne =
         let e = slotAt-root s S k h in
@@ -99,18 +96,6 @@ module _ (s : List ℕ) (S : Sound s) where
 
     pub file-used : (q : ℕ) → In q (fileBlocks s e) → next s q ≢ 0
     file-used q i = let r = file-at q i in rw (r .2) (held-used k k₂ (r .0) (r .1))
-
-    pub file-length : length (fileBlocks s e) ≡ blocksOf s e
-    unfolding fileBlocks
-    file-length = length-chain (next s) (firstBlock s e) (blocksOf s e)
-
-    pub file-size : 1 ≤ k → blocksOf s e ≡ blocksFor (sizeOf s e)
-    unfolding fileOk
-    file-size k₁ =
-        let w = ⊎-elim (λ q. absurd (true-not-false (rw q at file) refl)) (λ q. q .1) (slotOk-split s e (S .slot k k₁ k₂)) in
-        let a = and-split (nameOk s e) _ w in
-        let b = and-split (attributesOk s e) _ (a .1) in
-        eqb-true _ _ (and-split (eqb (blocksOf s e) (blocksFor (sizeOf s e))) _ (b .1) .0)
 
     pub file-blocks : blocksAt s k ≡ fileBlocks s e
     unfolding fileBlocks
@@ -153,3 +138,57 @@ module _ (s : List ℕ) (S : Sound s) where
         let v = named-slot s other too in
         let q : k ≡ fileSlot s (root s) other = one-owner b k (fileSlot s (root s) other) (w .1) (v .1) here (rw (file-blocks (fileSlot s (root s) other) (v .1) (v .2)) i) in
         sym (named-name s name there) ∙ ap (λ (j : ℕ). nameOf s (slotAt (root s) j)) q ∙ named-name s other too
+
+-- the free blocks are as many as the header tells
+pub free-count : (s : List ℕ) → Sound s → length (freeBlocks (next s) (blockCount s)) ≡ be32 s 24
+unfolding freeBlocks occupied
+free-count s S = let a = select-split (λ b. eqb (next s b) 0) (blockCount s) 0 in let b = S .free-is in omega arith
+
+-- different blocks of the volume that are free
+pub record Fresh (n : ℕ) (v : ℕ → ℕ) (bs : List ℕ) : Type 0 where
+  pub above : (x : ℕ) → In x bs → tableBlocks n < x
+  pub below : (x : ℕ) → In x bs → x < n
+  pub empty : (x : ℕ) → In x bs → v x ≡ 0
+  pub distinct-all : distinct eqb bs ≡ true
+
+pub free-fresh : (s : List ℕ) → Sound s → (j : ℕ) → Fresh (blockCount s) (next s) (take j (freeBlocks (next s) (blockCount s)))
+unfolding freeBlocks
+free-fresh s S j =
+    record {
+      above = λ x i. high x (fact x i) (lt-or-ge (tableBlocks n) x);
+      below = λ x i. let w = fact x i in omega arith;
+      empty = λ x i. eqb-true (next s x) 0 (fact x i .2);
+      distinct-all = distinct-left eqb eqb-true (λ x. eq-eqb x x refl) (take j all) (drop j all) (rw (take-append-drop j all) (select-distinct (λ b. eqb (next s b) 0) 0 n));
+    }
+  where
+    n : ℕ
+    n = blockCount s
+
+    all : List ℕ
+    all = select (λ b. eqb (next s b) 0) (range 0 n)
+
+    fact : (x : ℕ) → In x (take j all) → (0 ≤ x) × (x < 0 + n) × (eqb (next s x) 0 ≡ true)
+    fact x i = select-in (λ b. eqb (next s b) 0) 0 n x (in-take x j all i)
+
+    high : (x : ℕ) → (0 ≤ x) × (x < 0 + n) × (eqb (next s x) 0 ≡ true) → (tableBlocks n < x) ⊎ (x ≤ tableBlocks n) → tableBlocks n < x
+    high x w (inl h) = h
+    high x w (inr h) = absurd (omega (arith, S .table .low x h, eqb-true (next s x) 0 (w .2)))
+
+-- the lowest free blocks, in ascending order
+pub record LowestFree (s bs : List ℕ) : Type 0 where
+  pub free : (b : ℕ) → In b bs → (b < blockCount s) × (next s b ≡ 0)
+  pub rising : (i j : ℕ) → i < j → j < length bs → getD bs i 0 < getD bs j 0
+  pub lowest : (b c : ℕ) → In c bs → b < c → next s b ≡ 0 → In b bs
+
+pub free-lowest : (s : List ℕ) (j : ℕ) → LowestFree s (take j (freeBlocks (next s) (blockCount s)))
+unfolding freeBlocks
+free-lowest s j =
+    record {
+      free = λ b i. let w = select-in (λ x. eqb (next s x) 0) 0 (blockCount s) b (in-take b j all i) in (omega arith, eqb-true (next s b) 0 (w .2));
+      rising = λ i k h g. let l = length-take j all in
+          rw (getD-take j all i 0 (omega arith), getD-take j all k 0 (omega arith)) (select-ascends (λ x. eqb (next s x) 0) (blockCount s) 0 i k h (omega arith));
+      lowest = λ b c i lt z. select-lowest (λ x. eqb (next s x) 0) (blockCount s) 0 j b c i lt (omega arith) (eq-eqb (next s b) 0 z);
+    }
+  where
+    all : List ℕ
+    all = select (λ x. eqb (next s x) 0) (range 0 (blockCount s))
