@@ -280,7 +280,7 @@ pub const DIRECTORY: &[Clause] = &[
     Clause { stage: 5, what: "size in blocks", make: |r, i| { let f = any_file(r, i)?; put_other(r, i, f.at + slot::BLOCKS) } },
     Clause { stage: 5, what: "size past its blocks", make: |r, i| {
         let f = any_file(r, i)?;
-        let size = f.blocks * 512 + r.pick(&[1, 2, 512]);
+        let size = f.blocks.wrapping_mul(512) + r.pick(&[1, 2, 512]);
         put_number(i, f.at + slot::SIZE, size);
         Some(())
     } },
