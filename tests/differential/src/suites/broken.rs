@@ -63,7 +63,7 @@ pub fn two_clauses(rng: &mut Rng, _: u64, t: &mut Tester) {
     let sound = images::of(rng, n);
     let mut image = sound.clone();
     let high = damage::any(rng, &mut image);
-    for low in [damage::LENGTH, damage::HEADER, damage::ROOT, damage::DIRECTORY] {
+    for low in damage::ALL {
         let clause = &low[rng.below(low.len())];
         let mut both = image.clone();
         // Two of one stage could mend each other.
