@@ -138,6 +138,34 @@ static void make_calls(const side *s, const uint8_t *name, size_t len, double *s
     sum[DELETE] += t[6] - t[5];
 }
 
+/* Ends the program if the two sides differ in an answer, the image or the journal. */
+static void compare_sides(const uint8_t *name, size_t len)
+{
+    static uint8_t images[SIDES][sizeof image], journals[SIDES][JOURNAL], buffers[SIDES][4096];
+    bulgefs_found found[SIDES];
+    bulgefs_changed changed[SIDES][4];
+    for (int s = 0; s < SIDES; s++) {
+        uint8_t *i = images[s], *j = journals[s];
+        memcpy(i, image, image_len);
+        memcpy(j, journal, JOURNAL);
+        require(sides[s].check(i, image_len), "check");
+        found[s] = sides[s].lookup(i, image_len, name, len);
+        sides[s].read(i, image_len, name, len, 0, buffers[s], sizeof buffers[s]);
+        changed[s][0] = sides[s].write(i, image_len, j, JOURNAL, name, len, 1000, data, DATA, 3);
+        changed[s][1] = sides[s].write(i, image_len, j, JOURNAL, name, len, 2000, data, 1, 4);
+        changed[s][2] = sides[s].undo(i, image_len, j, JOURNAL);
+        changed[s][3] = sides[s].delete(i, image_len, j, JOURNAL, name, len);
+    }
+    if (memcmp(&found[OURS], &found[BASELINE], sizeof found[OURS]) != 0
+        || memcmp(changed[OURS], changed[BASELINE], sizeof changed[OURS]) != 0
+        || memcmp(buffers[OURS], buffers[BASELINE], sizeof buffers[OURS]) != 0
+        || memcmp(images[OURS], images[BASELINE], image_len) != 0
+        || memcmp(journals[OURS], journals[BASELINE], JOURNAL) != 0) {
+        fprintf(stderr, "bench: the two sides do not do the same work\n");
+        exit(EXIT_FAILURE);
+    }
+}
+
 static int ascending(const void *a, const void *b)
 {
     double x = *(const double *)a, y = *(const double *)b;
@@ -152,6 +180,7 @@ static void measure(uint32_t n_index, uint32_t file_index)
     if (!make_volume(block_counts[n_index], file_counts[file_index]))
         return;
     size_t len = file_name(file_counts[file_index] - 1, name);
+    compare_sides(name, len);
     for (int i = 0; i < SAMPLES; i++) {
         for (int s = 0; s < SIDES; s++) {
             double sum[CALLS] = {0};

@@ -101,8 +101,11 @@ static void set(const char *name, const char *key, const char *value, uint64_t t
                                     (uint8_t *)text, sizeof text - 1);
     require(r.number, "read", name);
     const char *found = strstr(text, key);
-    if (found != NULL)
-        put(name, (uint64_t)(found - text) + strlen(key), value, time);
+    if (found == NULL) {
+        fprintf(stderr, "installer: %s has no setting %s\n", name, key);
+        exit(EXIT_FAILURE);
+    }
+    put(name, (uint64_t)(found - text) + strlen(key), value, time);
 }
 
 static void append(const char *name, const char *text, uint64_t time)
@@ -165,9 +168,10 @@ static void install(void)
 /* A text that is longer than a block. */
 static const char *calibration(void)
 {
-    static char text[800] = " cal=";
+    static char text[800];
+    size_t len = (size_t)snprintf(text, sizeof text, " cal=");
     for (int i = 0; i < 160; i++)
-        sprintf(text + strlen(text), "%d,", 500 + i * i % 97);
+        len += (size_t)snprintf(text + len, sizeof text - len, "%d,", 500 + i * i % 97);
     return text;
 }
 

@@ -114,7 +114,7 @@ fn rename(image: &mut [u8], file: &File, field: &[u8]) {
 }
 
 #[rustfmt::skip]
-pub const LENGTH: &[Clause] = &[
+const LENGTH: &[Clause] = &[
     Clause { stage: 1, what: "no bytes", make: |_, i| { i.clear(); Some(()) } },
     Clause { stage: 1, what: "too short", make: |r, i| {
         i.truncate(r.pick(&[1, 4, 31, 511, 512, 513, 1023, 1024, 1025, 1535]));
@@ -127,7 +127,7 @@ pub const LENGTH: &[Clause] = &[
 ];
 
 #[rustfmt::skip]
-pub const HEADER: &[Clause] = &[
+const HEADER: &[Clause] = &[
     Clause { stage: 2, what: "signature", make: |r, i| { i[r.below(8)] ^= 1 << r.below(8); Some(()) } },
     Clause { stage: 2, what: "version", make: |r, i| { i[r.between(8, 11)] ^= 1 << r.below(8); Some(()) } },
     Clause { stage: 2, what: "version of other byte order", make: |_, i| { i[8..12].copy_from_slice(&[0, 0, 1, 0]); Some(()) } },
@@ -151,7 +151,7 @@ pub const HEADER: &[Clause] = &[
 ];
 
 #[rustfmt::skip]
-pub const ROOT: &[Clause] = &[
+const ROOT: &[Clause] = &[
     Clause { stage: 4, what: "self type", make: |r, i| {
         let at = self_at(i);
         i[at] = r.pick(&[0x00, 0x02, 0x60, 0x81, 0xFF]);
@@ -227,7 +227,7 @@ pub const ROOT: &[Clause] = &[
 ];
 
 #[rustfmt::skip]
-pub const DIRECTORY: &[Clause] = &[
+const DIRECTORY: &[Clause] = &[
     Clause { stage: 5, what: "end type", make: |r, i| {
         let at = *slot_offsets(i).last().unwrap();
         i[at] = r.pick(&[0x00, 0x01, 0x60, 0x7F, 0xFE]);
@@ -280,7 +280,7 @@ pub const DIRECTORY: &[Clause] = &[
     Clause { stage: 5, what: "size in blocks", make: |r, i| { let f = any_file(r, i)?; put_other(r, i, f.at + slot::BLOCKS) } },
     Clause { stage: 5, what: "size past its blocks", make: |r, i| {
         let f = any_file(r, i)?;
-        let size = f.blocks * 512 + r.pick(&[1, 2, 512]);
+        let size = f.blocks.wrapping_mul(512) + r.pick(&[1, 2, 512]);
         put_number(i, f.at + slot::SIZE, size);
         Some(())
     } },
@@ -309,7 +309,7 @@ pub const DIRECTORY: &[Clause] = &[
 ];
 
 #[rustfmt::skip]
-pub const CHAINS: &[Clause] = &[
+const CHAINS: &[Clause] = &[
     Clause { stage: 6, what: "first outside", make: |r, i| {
         let f = file_with_blocks(r, i)?;
         let value = outside(r, i);
@@ -474,8 +474,11 @@ pub const CHAINS: &[Clause] = &[
     } },
 ];
 
+/// All clauses, by what they break.
+pub const ALL: [&[Clause]; 5] = [LENGTH, HEADER, ROOT, DIRECTORY, CHAINS];
+
 pub fn clauses() -> impl Iterator<Item = &'static Clause> {
-    [LENGTH, HEADER, ROOT, DIRECTORY, CHAINS].into_iter().flatten()
+    ALL.into_iter().flatten()
 }
 
 /// Damages a sound image in one random way; gives the stage that it breaks.

@@ -56,17 +56,14 @@ fn damaged(rng: &mut Rng, t: &mut Tester, clause: &Clause, n: fn(&mut Rng) -> us
     true
 }
 
-/// Two clauses at once: the lower stage must win. The stages before the
-/// directory are broken last, since the others need a sound root.
+/// Two clauses at once: the lower stage must win. It is broken last, since the
+/// damage of a stage needs what the stages before it say.
 pub fn two_clauses(rng: &mut Rng, _: u64, t: &mut Tester) {
     let n = images::small_n(rng);
     let sound = images::of(rng, n);
     let mut image = sound.clone();
     let high = damage::any(rng, &mut image);
-    if high.stage < 5 {
-        return;
-    }
-    for low in [damage::LENGTH, damage::HEADER, damage::ROOT] {
+    for low in damage::ALL {
         let clause = &low[rng.below(low.len())];
         let mut both = image.clone();
         // Two of one stage could mend each other.

@@ -59,6 +59,7 @@ pub fn edges(rng: &mut Rng, _: u64, t: &mut Tester) {
     most_records(rng, t);
     largest_record(rng, t);
     widest_changes(rng, t);
+    largest_file(rng, t);
     for len in [0, 1, 511, 512, 1024, 1535, 1536, 1537, 2_097_152, 2_097_153, 2_097_664] {
         t.report.about(format!("image of {len} bytes"));
         let image = rng.bytes(len);
@@ -140,10 +141,10 @@ fn largest_record(rng: &mut Rng, t: &mut Tester) {
     }
 }
 
-/// The write that names the most blocks: it reaches from the file's last block
-/// over eight more, and the entries of the nine lie in nine table blocks. And
-/// a delete with entries in every table block.
-fn widest_changes(rng: &mut Rng, t: &mut Tester) {
+/// The largest image with a file of one byte and one that takes all blocks but
+/// eight. The small file's block and the eight free ones have their entries in
+/// nine table blocks.
+fn nearly_full(rng: &mut Rng) -> Vec<u8> {
     let mut image = build(rng, MAX_BLOCKS, 2, Fill::Empty);
     let slots = slot_offsets(&image);
     let mut pool = free_blocks(&image);
@@ -155,12 +156,19 @@ fn widest_changes(rng: &mut Rng, t: &mut Tester) {
     put_file(rng, &mut image, slots[1], b"small", 1, &mut vec![spread[4]]);
     put_file(rng, &mut image, slots[2], b"large", size, &mut pool);
     put_header(&mut image);
+    image
+}
 
+/// The write that names the most blocks, from the file's last block over eight
+/// more, and a delete with entries in every table block.
+fn widest_changes(rng: &mut Rng, t: &mut Tester) {
+    let image = nearly_full(rng);
     let state = State { image, journal: reference::start(40_000).unwrap() };
     let data = rng.bytes(MAX_DATA);
+    let near_end = u64::from(files(&state.image)[1].blocks) * 512 - MAX_DATA as u64;
     for (change, blocks) in [
         (write(b"small", 1, &data), 1 + 1 + 9 + 9),
-        (write(b"large", size as u64 + 3 - MAX_DATA as u64, &data), 1 + 8),
+        (write(b"large", near_end, &data), 1 + 8),
         (delete(b"large"), 1 + 1 + 32),
     ] {
         t.report.about(format!("a change of {blocks} blocks"));
@@ -169,13 +177,18 @@ fn widest_changes(rng: &mut Rng, t: &mut Tester) {
         t.report.agree("record", after.record, 4 + 516 * blocks);
         t.undo(&after.state);
     }
+}
+
+/// Looks at a file of nearly all blocks, and ends it with a block of another.
+fn largest_file(rng: &mut Rng, t: &mut Tester) {
+    let image = nearly_full(rng);
+    let (small, large) = (&files(&image)[0], &files(&image)[1]);
     t.report.about("the largest file");
-    t.look(&state.image, b"large", 0, &rng.bytes(size + 3), (size / BLOCK) as u64);
-    let large = &files(&state.image)[1];
-    for owned in [spread[4], root_chain(&state.image)[1]] {
-        let mut image = state.image.clone();
-        join(&mut image, large, owned);
-        t.report.agree("plan", reference::check(&image), 6);
-        t.check(&image);
+    t.look(&image, b"large", 0, &rng.bytes(large.size as usize + 3), u64::from(large.blocks) - 1);
+    for owned in [small.first as usize, root_chain(&image)[1]] {
+        let mut joined = image.clone();
+        join(&mut joined, large, owned);
+        t.report.agree("plan", reference::check(&joined), 6);
+        t.check(&joined);
     }
 }

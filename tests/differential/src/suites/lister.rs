@@ -34,6 +34,12 @@ fn any_input(rng: &mut Rng) -> Vec<u8> {
             image = rng.bytes(len);
         }
         2 => image.resize(rng.pick(&[MAX_INPUT, MAX_INPUT + 1]), 0),
+        3 => {
+            // Too long and damaged: the length comes first.
+            let n = rng.between(129, 200);
+            image = images::of(rng, n);
+            damage::any(rng, &mut image);
+        }
         _ => {}
     }
     image

@@ -19,16 +19,18 @@ struct Kind {
 }
 
 const KINDS: &[Kind] = &[
-    Kind { what: "other last byte", make: |rng| one_byte_apart(rng, |name| name.len() - 1) },
-    Kind { what: "other first byte", make: |rng| one_byte_apart(rng, |_| 0) },
-    Kind { what: "other byte within", make: |rng| one_byte_apart(rng, |name| name.len() / 2) },
+    Kind { what: "other last byte", make: |rng| one_byte_apart(rng, 40, 39) },
+    Kind { what: "other first byte", make: |rng| one_byte_apart(rng, 40, 0) },
+    Kind { what: "other byte within", make: |rng| one_byte_apart(rng, MAX_NAME, 40) },
     Kind { what: "prefixes of one another", make: |_| prefixes() },
     Kind { what: "79 bytes", make: |rng| different(|| any_bytes(rng, MAX_NAME)) },
-    Kind { what: "79 bytes, other last byte", make: last_of_79 },
-    Kind { what: "permutations", make: permutations },
+    Kind { what: "79 bytes, other last byte", make: |rng| one_byte_apart(rng, MAX_NAME, 78) },
+    Kind { what: "bytes in another order", make: |rng| permutations(rng, 1) },
+    Kind { what: "words in another order", make: |rng| permutations(rng, 4) },
+    Kind { what: "double words in another order", make: |rng| permutations(rng, 8) },
     Kind { what: "one byte", make: |_| (1..=PLACES).map(|b| vec![b as u8]).collect() },
-    Kind { what: "one print in all", make: one_print },
-    Kind { what: "a print for every two", make: equal_prints },
+    Kind { what: "one hash", make: one_hash },
+    Kind { what: "one hash for every two", make: equal_hashes },
     Kind { what: "any", make: |rng| different(|| images::good_name(rng)) },
 ];
 
@@ -110,22 +112,14 @@ fn any_bytes(rng: &mut Rng, len: usize) -> Vec<u8> {
     (0..len).map(|_| rng.nonzero_byte()).collect()
 }
 
-/// Names of one length that differ in one byte, at the given place.
-fn one_byte_apart(rng: &mut Rng, place: fn(&[u8]) -> usize) -> Vec<Vec<u8>> {
-    let len = rng.between(2, MAX_NAME);
+/// Names of one length that differ in one byte.
+fn one_byte_apart(rng: &mut Rng, len: usize, at: usize) -> Vec<Vec<u8>> {
     let mut name = any_bytes(rng, len);
-    let at = place(&name);
     let with = |byte| {
         name[at] = byte;
         name.clone()
     };
     (1..=PLACES as u8).map(with).collect()
-}
-
-/// Names of 79 bytes that differ in the last.
-fn last_of_79(rng: &mut Rng) -> Vec<Vec<u8>> {
-    let start = any_bytes(rng, MAX_NAME - 1);
-    (1..=PLACES as u8).map(|byte| [&start[..], &[byte]].concat()).collect()
 }
 
 /// Four names of 79 bytes, each with most of its prefixes.
@@ -134,26 +128,25 @@ fn prefixes() -> Vec<Vec<u8>> {
     all.take(PLACES).collect()
 }
 
-/// The same bytes in any order.
-fn permutations(rng: &mut Rng) -> Vec<Vec<u8>> {
-    let len = rng.between(7, MAX_NAME);
-    let mut name: Vec<u8> = (1..=len as u8).collect();
+/// The same groups of bytes in any order.
+fn permutations(rng: &mut Rng, group: usize) -> Vec<Vec<u8>> {
+    let count = rng.between(8, MAX_NAME / group);
+    let mut groups: Vec<Vec<u8>> = (0..count).map(|_| any_bytes(rng, group)).collect();
     different(|| {
-        rng.shuffle(&mut name);
-        name.clone()
+        rng.shuffle(&mut groups);
+        groups.concat()
     })
 }
 
-/// A print of names: the usual sum with a multiplier, cut to 24 bits. A check
-/// that compares prints first must not stop there.
-fn print_of(name: &[u8]) -> u32 {
+/// A polynomial hash of 24 bits. A check that compares hashes must not stop there.
+fn hash_of(name: &[u8]) -> u32 {
     name.iter().fold(0, |sum, &byte| (sum * 251 + u32::from(byte)) % (1 << 24))
 }
 
-/// Names that have one print in all, cut to whatever number of bits. Of two
-/// neighbouring bytes the first may be one more and the second 251 less; each
-/// of eight such pairs is there in both forms.
-fn one_print(rng: &mut Rng) -> Vec<Vec<u8>> {
+/// Names that have one hash, whatever number of bits it has. Of two neighbouring
+/// bytes the first may be one more and the second 251 less; each of eight such
+/// pairs is there in both forms.
+fn one_hash(rng: &mut Rng) -> Vec<Vec<u8>> {
     let start = any_bytes(rng, 5);
     let pairs: Vec<(u8, u8)> =
         (0..8).map(|_| (rng.between(1, 254) as u8, rng.between(252, 255) as u8)).collect();
@@ -168,20 +161,20 @@ fn one_print(rng: &mut Rng) -> Vec<Vec<u8>> {
         [&start[..], &bytes.collect::<Vec<u8>>()].concat()
     };
     let names: Vec<Vec<u8>> = (0..PLACES).map(form).collect();
-    assert!(names.iter().all(|name| print_of(name) == print_of(&names[0])));
+    assert!(names.iter().all(|name| hash_of(name) == hash_of(&names[0])));
     names
 }
 
-/// Names of six bytes, each of which shares its print with one other.
-fn equal_prints(rng: &mut Rng) -> Vec<Vec<u8>> {
+/// Names of six bytes, each of which has its hash in common with one other.
+fn equal_hashes(rng: &mut Rng) -> Vec<Vec<u8>> {
     let mut seen: HashMap<u32, Vec<u8>> = HashMap::new();
     let mut names = BTreeSet::new();
     while names.len() < PLACES {
         let name = any_bytes(rng, 6);
-        match seen.remove(&print_of(&name)) {
+        match seen.remove(&hash_of(&name)) {
             Some(other) if other != name => names.extend([name, other]),
             _ => {
-                seen.insert(print_of(&name), name);
+                seen.insert(hash_of(&name), name);
             }
         }
     }

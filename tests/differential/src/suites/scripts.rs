@@ -1,57 +1,161 @@
 //! Scripts: runs of calls through the program that runs a script on a fresh
 //! volume, held against the reference's replay. docs/SCRIPT.md has the form.
 
-use super::runs::{any_call, MIXES};
+use super::runs::{any_call, Mix, MIXES};
+use crate::arguments::any_name;
 use crate::lent::difference;
 use crate::rng::Rng;
 use crate::suites::lister::output_of;
 use crate::tester::Tester;
-use reference::{Answer, Call, Change, Replay, State};
+use reference::layout::put_number;
+use reference::{Answer, Call, Change, Create, Replay, State};
 
 const IMAGE: usize = 8192;
 const JOURNAL: usize = 16_384;
 const ANSWERS: usize = 16_384;
 const SCRIPT: usize = 65_536;
 
+/// The header of an item, and the offsets of two of its fields.
+const HEADER: usize = 33;
+const NAME_LENGTH: usize = 25;
+const DATA_LENGTH: usize = 29;
+
+/// A script, and what the replay has answered to it.
+struct Script {
+    bytes: Vec<u8>,
+    /// Where its items begin.
+    items: Vec<usize>,
+    answers: Vec<u8>,
+    replay: Replay,
+}
+
 pub fn run(rng: &mut Rng, round: u64, t: &mut Tester) {
-    let program = t.scripts.clone().expect("a program was given");
-    let image = reference::format(IMAGE, 2, 0, [0; 16], &[0; 128]).unwrap();
-    let first = State { image, journal: reference::start(JOURNAL).unwrap() };
-    let mut replay = Replay::new(first.clone());
-    let mut script = Vec::new();
-    let mut answers = Vec::new();
-    for _ in 0..rng.between(0, 60) {
-        let call = any_call(rng, &replay, &MIXES[round as usize % MIXES.len()]);
-        let item = item_of(rng, &call);
-        if script.len() + item.len() > SCRIPT || answers.len() + answer_size(&call) > ANSWERS {
-            break;
-        }
-        script.extend(item);
-        answers.extend(encoded(&replay.call(&call)));
+    if round == 0 {
+        example(t);
     }
-    t.report.about(format!("script of {} bytes", script.len()));
-    let expected = match rng.below(8) {
-        0 if damage(rng, &mut script) => outcome(1, &first, &[]),
-        _ => outcome(0, replay.replayed(), &answers),
+    let mut script = any_script(rng, &MIXES[round as usize % MIXES.len()]);
+    let number = match round % 8 {
+        0 => {
+            spoil(rng, &mut script);
+            1
+        }
+        1 => 2 * fill(rng, &mut script, 0),
+        2 => 2 * fill(rng, &mut script, 1),
+        3 => {
+            fill(rng, &mut script, 300);
+            spoil(rng, &mut script);
+            1
+        }
+        _ => 0,
     };
-    let got = output_of(&program, &script).unwrap_or_default();
+    t.report.about(format!("script of {} bytes, number {number}", script.bytes.len()));
+    let expected = match number {
+        0 => outcome(0, script.replay.replayed(), &script.answers),
+        number => outcome(number, &fresh(), &[]),
+    };
+    compare(t, &script.bytes, &expected);
+}
+
+fn compare(t: &mut Tester, script: &[u8], expected: &[u8]) {
+    let program = t.scripts.clone().expect("a program was given");
+    let got = output_of(&program, script).unwrap_or_default();
     t.report.agree("length of the outcome", got.len(), expected.len());
     if got.len() == expected.len() {
-        t.report.agree("script", difference("outcome", &got, &expected), None);
+        t.report.agree("script", difference("outcome", &got, expected), None);
     }
 }
 
-/// Makes a script that is not of the form: cut off within an item, or with an unknown op.
-fn damage(rng: &mut Rng, script: &mut Vec<u8>) -> bool {
-    if script.is_empty() {
-        return false;
+/// The example of docs/SCRIPT.md. All that it changes, it takes back but the create.
+fn example(t: &mut Tester) {
+    let script = bytes_of(&[
+        "05 60010207 00000000 0000000000000000 0000000000000064 00000001 00000000 41",
+        "06 00000000 00000000 0000000000000000 0000000000000065 00000001 00000003 41 616263",
+        "03 00000000 00000000 0000000000000001 0000000000000000 00000001 00000004 41 FFFFFFFF",
+        "08 00000000 00000000 0000000000000000 0000000000000000 00000000 00000000",
+    ]);
+    let answers = bytes_of(&[
+        "00000000 00000001 00000208 00000000",
+        "00000000 00000000 00000814 00000000",
+        "00000000 00000002 00000000 00000000 6263FFFF",
+        "00000000 00000000 00000814 00000000",
+    ]);
+    let (name, kind, time) = (b"A".to_vec(), 0x60, 100);
+    let create = Create { name, kind, user: 1, group: 2, permissions: 7, flags: 0, time };
+    let after = reference::apply(&fresh(), &Change::Create(create)).unwrap().state;
+    t.report.about("the example of docs/SCRIPT.md");
+    compare(t, &script, &outcome(0, &after, &answers));
+}
+
+/// The bytes that lines of hexadecimal digits stand for.
+fn bytes_of(lines: &[&str]) -> Vec<u8> {
+    let digits: String = lines.concat().split_whitespace().collect();
+    let byte = |i: usize| u8::from_str_radix(&digits[i..i + 2], 16).unwrap();
+    (0..digits.len()).step_by(2).map(byte).collect()
+}
+
+/// The volume and the journal that a script begins with.
+fn fresh() -> State {
+    let image = reference::format(IMAGE, 2, 0, [0; 16], &[0; 128]).unwrap();
+    State { image, journal: reference::start(JOURNAL).unwrap() }
+}
+
+impl Script {
+    fn new() -> Script {
+        let replay = Replay::new(fresh());
+        Script { bytes: vec![], items: vec![], answers: vec![], replay }
     }
-    if rng.once_in(2) {
-        script[0] = rng.pick(&[0, 9, 255]);
-    } else {
-        script.push(8);
+
+    fn push(&mut self, rng: &mut Rng, call: &Call) {
+        self.items.push(self.bytes.len());
+        self.bytes.extend(item_of(rng, call));
+        self.answers.extend(encoded(&self.replay.call(call)));
     }
-    true
+}
+
+/// A script with room for one long item and its answer.
+fn any_script(rng: &mut Rng, mix: &Mix) -> Script {
+    let mut script = Script::new();
+    for _ in 0..rng.between(0, 60) {
+        let call = any_call(rng, &script.replay, mix);
+        let item = item_of(rng, &call).len();
+        if script.bytes.len() + item > SCRIPT - 2 * ANSWERS
+            || script.answers.len() + answer_size(&call) > ANSWERS - 16
+        {
+            break;
+        }
+        script.push(rng, &call);
+    }
+    script
+}
+
+/// Adds a read whose answer leaves no room, or is so many bytes too long: gives
+/// 0 if all answers fit, else 1.
+fn fill(rng: &mut Rng, script: &mut Script, more: usize) -> u8 {
+    let buffer = rng.bytes(ANSWERS - 16 - script.answers.len() + more);
+    let name = any_name(rng, &script.replay.replayed().image);
+    script.push(rng, &Call::Read { name, offset: 0, buffer });
+    u8::from(more > 0)
+}
+
+/// Makes a script that is not of the form.
+fn spoil(rng: &mut Rng, script: &mut Script) {
+    if script.items.is_empty() {
+        script.push(rng, &Call::Lookup { name: b"A".to_vec() });
+    }
+    let (any, last) = (rng.pick(&script.items), script.items[script.items.len() - 1]);
+    let end = script.bytes.len();
+    match rng.below(5) {
+        0 => script.bytes[any] = rng.pick(&[0, 9, 255]),
+        1 => script.bytes.truncate(rng.between(last + 1, end - 1)),
+        2 => script.bytes.extend(vec![8; rng.between(1, HEADER - 1)]),
+        3 => put_number(&mut script.bytes, last + NAME_LENGTH, (end - last) as u32),
+        _ => {
+            // The two lengths have the right sum in 32 bits.
+            put_number(&mut script.bytes, last + NAME_LENGTH, u32::MAX);
+            let rest = (end - last - HEADER) as u32;
+            put_number(&mut script.bytes, last + DATA_LENGTH, rest + 1);
+        }
+    }
 }
 
 /// What the program writes: the number, then image, journal and answers.
@@ -66,7 +170,7 @@ fn outcome(number: u8, state: &State, answers: &[u8]) -> Vec<u8> {
 
 fn item_of(rng: &mut Rng, call: &Call) -> Vec<u8> {
     // What an op does not use may be anything, but the lengths count.
-    let mut header = rng.bytes(33);
+    let mut header = rng.bytes(HEADER);
     let (op, name, data): (u8, &[u8], &[u8]) = match call {
         Call::Check => (1, &[], &[]),
         Call::Lookup { name } => (2, name, &[]),
@@ -93,8 +197,8 @@ fn item_of(rng: &mut Rng, call: &Call) -> Vec<u8> {
         Call::Undo => (8, &[], &[]),
     };
     header[0] = op;
-    header[25..29].copy_from_slice(&(name.len() as u32).to_be_bytes());
-    header[29..33].copy_from_slice(&(data.len() as u32).to_be_bytes());
+    put_number(&mut header, NAME_LENGTH, name.len() as u32);
+    put_number(&mut header, DATA_LENGTH, data.len() as u32);
     [&header[..], name, data].concat()
 }
 
