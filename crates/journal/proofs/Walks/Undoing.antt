@@ -7,18 +7,19 @@ use native.Mathlib.Omega.{arith}
 use borrow.Author.Tests.{ne-eqb}
 use lib.ListN.{length}
 use Rattle.layout.specs.Lists.{range, every, lastOr}
-use Rattle.layout.specs.Refusals.{firstOf, accept}
+use Rattle.layout.specs.Refusals.{require, firstOf, accept}
 use Rattle.layout.specs.Bytes.{be32, bytes4, zeros, splice}
 use Rattle.layout.specs.Geometry.{blockCount}
 use Rattle.layout.specs.Check.{check}
 use Rattle.journal.specs.Journal.{used, copies, recordOk, records, wellFormed, lastRecord, restored, undoneImage, undoneJournal}
 use Rattle.journal.specs.Run.{State, Answer, undone, undoRefusal, afterUndo, undoAnswer, state}
 use Rattle.journal.specs.Walks.Undoing.{Last, Saved}
+use Rattle.journal.specs.Walks.Changes.{readyRefusal, Ready}
 use Rattle.layout.proofs.Laws.Tests.{and-split}
 use Rattle.layout.proofs.Laws.Sound.{sound}
 use Rattle.journal.proofs.Laws.Append.{Fine, fine, WellFormed, well}
 
--- a refusal is the first number, and leaves all as it was
+-- a refusal is the first number, and leaves all as it was; 1 to 8 come before what else is weighed
 pub first-refusal : (a b : ℕ) → (a ≡ 0 → ⊥) → firstOf a b ≡ a
 first-refusal zero b h = absurd (h refl)
 first-refusal (suc a) b h = refl
@@ -26,6 +27,11 @@ first-refusal (suc a) b h = refl
 pub not-accepted : {A : Type 0} (k : ℕ) (x y : A) → (k ≡ 0 → ⊥) → accept k x y ≡ y
 not-accepted zero x y h = absurd (h refl)
 not-accepted (suc k) x y h = refl
+
+pub unready : (a rest : ℕ) (t : Bool) (r : ℕ) → r ≡ firstOf a (require t 8 0) → (r ≡ 0 → ⊥) → firstOf a (require t 8 rest) ≡ r
+unready zero rest true r e h = absurd (h e)
+unready zero rest false r e h = sym e
+unready (suc a) rest t r e h = sym e
 
 -- what undo answers and leaves
 abbrev pub Undoes : State → Answer → State → Type 0
@@ -36,17 +42,18 @@ module _ (s j : List ℕ) where
   unfolding undoAnswer afterUndo
   refused r e h = rw e (sym (not-accepted r _ (undone r 0) h), sym (not-accepted r _ (state s j) h))
 
-  pub undo-unsound : (r : ℕ) → r ≡ check s → (r ≡ 0 → ⊥) → Undoes (state s j) (undone r 0) (state s j)
-  unfolding undoRefusal
-  undo-unsound r e h = refused r (rw (← e) (first-refusal r _ h)) h
+  -- 1 to 8
+  pub undo-unready : (r : ℕ) → r ≡ readyRefusal (state s j) → (r ≡ 0 → ⊥) → Undoes (state s j) (undone r 0) (state s j)
+  unfolding undoRefusal readyRefusal
+  undo-unready r e h = refused r (unready (check s) _ (wellFormed j (blockCount s)) r e h) h
 
-  pub undo-malformed : check s ≡ 0 → wellFormed j (blockCount s) ≡ false → Undoes (state s j) (undone 8 0) (state s j)
+  -- 16
+  pub undo-none : Ready s j → lastRecord j ≡ 0 → Undoes (state s j) (undone 16 0) (state s j)
   unfolding undoRefusal
-  undo-malformed c w = refused 8 (rw (c, w)) (λ e. omega arith)
+  undo-none w l = refused 16 (rw (w .sound, w .well-formed, l)) (λ e. omega arith)
 
-  pub undo-none : check s ≡ 0 → wellFormed j (blockCount s) ≡ true → lastRecord j ≡ 0 → Undoes (state s j) (undone 16 0) (state s j)
-  unfolding undoRefusal
-  undo-none c w l = refused 16 (rw (c, w, l)) (λ e. omega arith)
+pub last-ready : {s j : List ℕ} {at : ℕ} → Ready s j → at ≡ lastRecord j → (at ≡ 0 → ⊥) → Last s j at
+last-ready w l h = record { sound = w .sound; well-formed = w .well-formed; last = l; some = h }
 
 -- the last of a list passes if all do
 last-passes : (p : ℕ → Bool) (xs : List ℕ) (x : ℕ) → p x ≡ true → every p xs ≡ true → p (lastOr x xs) ≡ true
