@@ -3,7 +3,7 @@ ghost use mathlib.Core.Path.{_≡_};
 ghost use lib.ListN.{length};
 ghost use Rattle.volume.specs.Change.{create, write, delete};
 ghost use Rattle.journal.specs.Run.{afterUndo, undoAnswer, afterChange, changeAnswer, state};
-ghost use Rattle.journal.specs.Walks.Changes.{readyRefusal};
+ghost use Rattle.journal.specs.Walks.Changes.{Inspects};
 ghost use Rattle.journal.specs.Answers.{changedAnswer, undoneAnswer};
 
 // What undo gives: the length of the record taken back, or the number of the refusal.
@@ -18,44 +18,52 @@ pub enum Changed {
     Refused(u32),
 }
 
+// What is found of an image and its journal: the refusal, 1 to 8, or 0 and the offset of the last record, 0 if there is none.
+struct Inspected {
+    number: u32,
+    last: usize,
+}
+
+// Weighs what every call weighs first.
+fn inspect(image: &[u8], journal: &[u8]) -> Inspected
+    ensures { λ r. ⌜ Inspects (state (now (image .entry)) (now (journal .entry))) (r .number) (r .last) ⌝ }
+{
+    let refusal = layout::check::check(image);
+    if refusal != 0 {
+        return Inspected {
+            number: refusal,
+            last: 0,
+        };
+    }
+    let n = image.len() / 512;
+    let found = super::scan::scan(journal, n);
+    let ok = found.ok;
+    let last = found.last;
+    if !ok {
+        return Inspected { number: 8, last: 0 };
+    }
+    Inspected {
+        number: 0,
+        last: last,
+    }
+}
+
 // Undo: takes the last record back.
 pub fn undo(image: &mut [u8], journal: &mut [u8]) -> Undone
     ensures answer { λ r. ⌜ undoneAnswer r ≡ undoAnswer (state (now (image .entry)) (now (journal .entry))) ⌝ }
     ensures state { λ _. ⌜ state (now (image .exit)) (now (journal .exit)) ≡ afterUndo (state (now (image .entry)) (now (journal .entry))) ⌝ }
 {
-    let refusal = layout::check::check(image);
-    if refusal != 0 {
-        return Undone::Refused(refusal);
-    }
-    let n = image.len() / 512;
-    let found = super::scan::scan(journal, n);
-    let ok = found.ok;
+    let found = inspect(image, journal);
+    let unready = found.number;
     let at = found.last;
-    if !ok {
-        return Undone::Refused(8);
+    if unready != 0 {
+        return Undone::Refused(unready);
     }
     if at == 0 {
         return Undone::Refused(16);
     }
     let size = super::restoring::take_back(image, journal, at);
     Undone::Done(size)
-}
-
-// The refusals 1 to 8, which every change weighs first.
-fn ready_refusal(image: &[u8], journal: &[u8]) -> u32
-    ensures { λ r. ⌜ r ≡ readyRefusal (state (now (image .entry)) (now (journal .entry))) ⌝ }
-{
-    let refusal = layout::check::check(image);
-    if refusal != 0 {
-        return refusal;
-    }
-    let n = image.len() / 512;
-    let found = super::scan::scan(journal, n);
-    let ok = found.ok;
-    if !ok {
-        return 8;
-    }
-    0
 }
 
 // Create: a new empty file, in the lowest free slot.
@@ -73,7 +81,7 @@ pub fn create(
     ensures answer { λ r. ⌜ changedAnswer r ≡ changeAnswer (state (now (image .entry)) (now (journal .entry))) (create (now (name .entry)) kind user group permissions flags time) ⌝ }
     ensures state { λ _. ⌜ state (now (image .exit)) (now (journal .exit)) ≡ afterChange (state (now (image .entry)) (now (journal .entry))) (create (now (name .entry)) kind user group permissions flags time) ⌝ }
 {
-    let unready = ready_refusal(image, journal);
+    let unready = inspect(image, journal).number;
     if unready != 0 {
         return Changed::Refused(unready);
     }
@@ -104,7 +112,7 @@ pub fn write(
     ensures answer { λ r. ⌜ changedAnswer r ≡ changeAnswer (state (now (image .entry)) (now (journal .entry))) (write (now (name .entry)) offset (now (bytes .entry)) time) ⌝ }
     ensures state { λ _. ⌜ state (now (image .exit)) (now (journal .exit)) ≡ afterChange (state (now (image .entry)) (now (journal .entry))) (write (now (name .entry)) offset (now (bytes .entry)) time) ⌝ }
 {
-    let unready = ready_refusal(image, journal);
+    let unready = inspect(image, journal).number;
     if unready != 0 {
         return Changed::Refused(unready);
     }
@@ -129,7 +137,7 @@ pub fn delete(image: &mut [u8], journal: &mut [u8], name: &[u8]) -> Changed
     ensures answer { λ r. ⌜ changedAnswer r ≡ changeAnswer (state (now (image .entry)) (now (journal .entry))) (delete (now (name .entry))) ⌝ }
     ensures state { λ _. ⌜ state (now (image .exit)) (now (journal .exit)) ≡ afterChange (state (now (image .entry)) (now (journal .entry))) (delete (now (name .entry))) ⌝ }
 {
-    let unready = ready_refusal(image, journal);
+    let unready = inspect(image, journal).number;
     if unready != 0 {
         return Changed::Refused(unready);
     }

@@ -13,36 +13,37 @@ use Rattle.layout.specs.Bytes.{zeros}
 use Rattle.layout.specs.Geometry.{blockCount}
 use Rattle.layout.specs.Check.{check}
 use Rattle.volume.specs.Change.{Change, refusal, after, named, slotGiven}
-use Rattle.journal.specs.Journal.{used, wellFormed, ascending, recordBytes, added}
+use Rattle.journal.specs.Journal.{used, wellFormed, ascending, recordBytes, added, lastRecord}
 use Rattle.journal.specs.Run.{State, Answer, changed, recordOf, changeRefusal, afterChange, changeAnswer, state}
 use Rattle.journal.specs.Walks.Saves.{Marks, markedFrom}
-use Rattle.journal.specs.Walks.Changes.{readyRefusal, Ready, roomRefusal, recordNamed, Recorded}
+use Rattle.journal.specs.Walks.Changes.{readyRefusal, Ready, Inspects, roomRefusal, recordNamed, Recorded}
 use Rattle.volume.specs.Walks.Marks.{marked}
 use Rattle.layout.proofs.Laws.Tests.{firstOf-zero, require-zero, firstOf-refused, accept-refused}
 use Rattle.layout.proofs.Laws.Sound.{sound}
 use Rattle.journal.proofs.Laws.Ascending.{ascending-below}
 use Rattle.journal.proofs.Laws.Records.{length-record}
 use Rattle.journal.proofs.Walks.Marked.{marked-ascending}
+use Rattle.journal.proofs.Walks.Undoing.{unready}
 
 -- what weighing 1 to 8 gives
-pub ready-unsound : (s j : List ℕ) (r : ℕ) → r ≡ check s → (r ≡ 0 → ⊥) → r ≡ readyRefusal (state s j)
-unfolding readyRefusal
-ready-unsound s j r e h = rw (← e) (sym (firstOf-refused r _ h))
+module _ (s j : List ℕ) where
+  pub inspects-unsound : {last : ℕ} (r : ℕ) → r ≡ check s → (r ≡ 0 → ⊥) → Inspects (state s j) r last
+  unfolding readyRefusal
+  inspects-unsound r e h = record { weighed = rw (← e) (sym (firstOf-refused r _ h)); found = λ z. absurd (h z) }
 
-pub ready-scanned : (s j : List ℕ) (ok : Bool) → check s ≡ 0 → ok ≡ wellFormed j (blockCount s) → require ok 8 0 ≡ readyRefusal (state s j)
-unfolding readyRefusal
-ready-scanned s j ok c w = rw (c, w)
+  pub inspects-malformed : {last : ℕ} → check s ≡ 0 → false ≡ wellFormed j (blockCount s) → Inspects (state s j) 8 last
+  unfolding readyRefusal
+  inspects-malformed c w = record { weighed = rw (c, ← w); found = λ z. omega arith }
+
+  pub inspects-ready : {last : ℕ} → check s ≡ 0 → true ≡ wellFormed j (blockCount s) → last ≡ lastRecord j → Inspects (state s j) 0 last
+  unfolding readyRefusal
+  inspects-ready c w l = record { weighed = rw (c, ← w); found = λ z. l }
 
 pub ready : (s j : List ℕ) → readyRefusal (state s j) ≡ 0 → Ready s j
 unfolding readyRefusal
 ready s j e =
     let a = firstOf-zero (check s) _ e in
     record { sound = a .0; well-formed = require-zero (wellFormed j (blockCount s)) 7 0 (a .1) .0 }
-
-unready : (a rest : ℕ) (t : Bool) (r : ℕ) → r ≡ firstOf a (require t 8 0) → (r ≡ 0 → ⊥) → firstOf a (require t 8 rest) ≡ r
-unready zero rest true r e h = absurd (h e)
-unready zero rest false r e h = sym e
-unready (suc a) rest t r e h = sym e
 
 -- the room is refused by 15 or not at all
 room-fifteen : (t : Bool) (k : ℕ) → require t 15 0 ≡ suc k → require t 15 0 ≡ 15

@@ -8,16 +8,24 @@ use native.Mathlib.Omega.{arith}
 use borrow.Author.Tests.{ne-eqb}
 use lib.ListN.{length}
 use Rattle.layout.specs.Lists.{range, lastOr}
+use Rattle.layout.specs.Refusals.{require, firstOf}
 use Rattle.layout.specs.Bytes.{be32, bytes4, zeros, splice}
 use Rattle.layout.specs.Geometry.{blockCount}
 use Rattle.layout.specs.Check.{check}
 use Rattle.journal.specs.Journal.{used, copies, recordOk, records, wellFormed, lastRecord, restored, undoneImage, undoneJournal}
 use Rattle.journal.specs.Run.{State, Answer, undone, undoRefusal, afterUndo, undoAnswer, state}
 use Rattle.journal.specs.Walks.Undoing.{Last, Saved}
-use Rattle.layout.proofs.Laws.Tests.{firstOf-refused, accept-refused}
+use Rattle.journal.specs.Walks.Changes.{readyRefusal, Ready}
+use Rattle.layout.proofs.Laws.Tests.{accept-refused}
 use Rattle.layout.proofs.Laws.Sound.{sound}
 use Rattle.journal.proofs.Laws.Append.{Fine, fine, WellFormed, well}
 use Rattle.layout.proofs.Laws.Lists.{In, every-in, last-in}
+
+-- 1 to 8 come before what else is weighed
+pub unready : (a rest : ℕ) (t : Bool) (r : ℕ) → r ≡ firstOf a (require t 8 0) → (r ≡ 0 → ⊥) → firstOf a (require t 8 rest) ≡ r
+unready zero rest true r e h = absurd (h e)
+unready zero rest false r e h = sym e
+unready (suc a) rest t r e h = sym e
 
 -- what undo answers and leaves
 abbrev pub Undoes : State → Answer → State → Type 0
@@ -28,17 +36,18 @@ module _ (s j : List ℕ) where
   unfolding undoAnswer afterUndo
   refused r e h = rw e (sym (accept-refused r _ (undone r 0) h), sym (accept-refused r _ (state s j) h))
 
-  pub undo-unsound : (r : ℕ) → r ≡ check s → (r ≡ 0 → ⊥) → Undoes (state s j) (undone r 0) (state s j)
-  unfolding undoRefusal
-  undo-unsound r e h = refused r (rw (← e) (firstOf-refused r _ h)) h
+  -- 1 to 8
+  pub undo-unready : (r : ℕ) → r ≡ readyRefusal (state s j) → (r ≡ 0 → ⊥) → Undoes (state s j) (undone r 0) (state s j)
+  unfolding undoRefusal readyRefusal
+  undo-unready r e h = refused r (unready (check s) _ (wellFormed j (blockCount s)) r e h) h
 
-  pub undo-malformed : check s ≡ 0 → wellFormed j (blockCount s) ≡ false → Undoes (state s j) (undone 8 0) (state s j)
+  -- 16
+  pub undo-none : Ready s j → lastRecord j ≡ 0 → Undoes (state s j) (undone 16 0) (state s j)
   unfolding undoRefusal
-  undo-malformed c w = refused 8 (rw (c, w)) (λ e. omega arith)
+  undo-none w l = refused 16 (rw (w .sound, w .well-formed, l)) (λ e. omega arith)
 
-  pub undo-none : check s ≡ 0 → wellFormed j (blockCount s) ≡ true → lastRecord j ≡ 0 → Undoes (state s j) (undone 16 0) (state s j)
-  unfolding undoRefusal
-  undo-none c w l = refused 16 (rw (c, w, l)) (λ e. omega arith)
+pub last-ready : {s j : List ℕ} {at : ℕ} → Ready s j → at ≡ lastRecord j → (at ≡ 0 → ⊥) → Last s j at
+last-ready w l h = record { sound = w .sound; well-formed = w .well-formed; last = l; some = h }
 
 module _ (s j : List ℕ) (at : ℕ) (l : Last s j at) where
   pub last-well : WellFormed j (blockCount s)

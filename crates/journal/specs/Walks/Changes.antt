@@ -1,4 +1,4 @@
--- What a change weighs first, and what recording it gives.
+-- What every call that is lent a journal weighs first, and what recording a change gives.
 use Prim.Native.Nat.{ℕ, _+_}
 use mathlib.Core.Path.{_≡_}
 use mathlib.Core.List.{List}
@@ -9,15 +9,19 @@ use Rattle.layout.specs.Refusals.{require, firstOf, accept}
 use Rattle.layout.specs.Geometry.{blockCount}
 use Rattle.layout.specs.Check.{check}
 use Rattle.journal.specs.Run.{State}
-use Rattle.journal.specs.Journal.{used, wellFormed, ascending, recordBytes, added}
+use Rattle.journal.specs.Journal.{used, wellFormed, ascending, recordBytes, added, lastRecord}
 
--- the refusals 1 to 8, which every change weighs first; and what holds where they are passed
+-- the refusals 1 to 8; what holds where they are passed; and what inspecting gives: their number, and if it is 0, where the last record begins
 unfoldable pub readyRefusal : State → ℕ
 readyRefusal p = firstOf (check (p .image)) (require (wellFormed (p .journal) (blockCount (p .image))) 8 0)
 
 pub record Ready (s j : List ℕ) : Type 0 where
   pub sound : check s ≡ 0
   pub well-formed : wellFormed j (blockCount s) ≡ true
+
+pub record Inspects (p : State) (number last : ℕ) : Type 0 where
+  pub weighed : number ≡ readyRefusal p
+  pub found : number ≡ 0 → last ≡ lastRecord (p .journal)
 
 -- the record of named blocks
 abbrev pub recordNamed : List ℕ → List ℕ → List ℕ

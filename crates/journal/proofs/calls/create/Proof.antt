@@ -8,8 +8,8 @@ use Rattle.journal.proofs.calls.create.Tie as tie
 use Rattle.journal.proofs.Walks.Changes.{ready, change-unready, change-refused, change-full, change-done}
 use Rattle.volume.proofs.Laws.Accepted.{create-given}
 
-ready-refusal-requires : tie.Need-ready-refusal-requires
-ready-refusal-requires c κs = search needs
+inspect-requires : tie.Need-inspect-requires
+inspect-requires c κs = search needs
 
 same-length : tie.Need-same-length
 same-length c = search needs
@@ -18,10 +18,10 @@ same-length-2 : tie.Need-same-length-2
 same-length-2 c = search needs
 
 returns : tie.Need-returns
-returns c = change-unready _ _ _ _ (c .before .ready-refusal .ensures) (c .if1 .taken)
+returns c = change-unready _ _ _ _ (c .before .inspect .ensures .weighed) (c .if1 .taken)
 
 create-refusal-requires : tie.Need-create-refusal-requires
-create-refusal-requires c κs = ready _ _ (sym (c .before .before .ready-refusal .ensures) ∙ c .before .if1 .left) .sound
+create-refusal-requires c κs = ready _ _ (sym (c .before .before .inspect .ensures .weighed) ∙ c .before .if1 .left) .sound
 
 same-length-3 : tie.Need-same-length-3
 same-length-3 c = search needs
@@ -31,10 +31,10 @@ same-length-4 c = search needs
 
 returns-2 : tie.Need-returns-2
 unfolding refusal
-returns-2 c = change-refused _ _ _ (ready _ _ (sym (c .before .before .before .before .ready-refusal .ensures) ∙ c .before .before .before .if1 .left)) _ (c .before .create-refusal .ensures) (c .if2 .taken)
+returns-2 c = change-refused _ _ _ (ready _ _ (sym (c .before .before .before .before .inspect .ensures .weighed) ∙ c .before .before .before .if1 .left)) _ (c .before .create-refusal .ensures) (c .if2 .taken)
 
 record-create-requires : tie.Need-record-create-requires
-record-create-requires c κs = (ready _ _ (sym (c .before .before .before .before .before .before .ready-refusal .ensures) ∙ c .before .before .before .before .before .if1 .left), create-given _ _ _ (sym (c .before .before .before .create-refusal .ensures) ∙ c .before .before .if2 .left) .some)
+record-create-requires c κs = (ready _ _ (sym (c .before .before .before .before .before .before .inspect .ensures .weighed) ∙ c .before .before .before .before .before .if1 .left), create-given _ _ _ (sym (c .before .before .before .create-refusal .ensures) ∙ c .before .before .if2 .left) .some)
 
 same-length-5 : tie.Need-same-length-5
 same-length-5 c = search needs
@@ -44,10 +44,10 @@ same-length-6 c = search needs
 
 returns-3 : tie.Need-returns-3
 unfolding refusal recordOf named
-returns-3 c = change-full _ _ _ (ready _ _ (sym (c .before .before .before .before .before .before .before .before .before .before .ready-refusal .ensures) ∙ c .before .before .before .before .before .before .before .before .before .if1 .left)) (sym (c .before .before .before .before .before .before .before .create-refusal .ensures) ∙ c .before .before .before .before .before .before .if2 .left) _ _ (c .before .before .before .record-create .ensures) (c .if3 .taken)
+returns-3 c = change-full _ _ _ (ready _ _ (sym (c .before .before .before .before .before .before .before .before .before .before .inspect .ensures .weighed) ∙ c .before .before .before .before .before .before .before .before .before .if1 .left)) (sym (c .before .before .before .before .before .before .before .create-refusal .ensures) ∙ c .before .before .before .before .before .before .if2 .left) _ _ (c .before .before .before .record-create .ensures) (c .if3 .taken)
 
 create-requires : tie.Need-create-requires
-create-requires c κs = (ready _ _ (sym (c .before .before .before .before .before .before .before .before .before .before .before .ready-refusal .ensures) ∙ c .before .before .before .before .before .before .before .before .before .before .if1 .left) .sound, sym (c .before .before .before .before .before .before .before .before .create-refusal .ensures) ∙ c .before .before .before .before .before .before .before .if2 .left)
+create-requires c κs = (ready _ _ (sym (c .before .before .before .before .before .before .before .before .before .before .before .inspect .ensures .weighed) ∙ c .before .before .before .before .before .before .before .before .before .before .if1 .left) .sound, sym (c .before .before .before .before .before .before .before .before .create-refusal .ensures) ∙ c .before .before .before .before .before .before .before .if2 .left)
 
 same-length-7 : tie.Need-same-length-7
 same-length-7 c = search needs
@@ -57,13 +57,13 @@ same-length-8 c = search needs
 
 returns-4 : tie.Need-returns-4
 unfolding refusal recordOf named slotGiven after
-returns-4 c = change-done _ _ _ (ready _ _ (sym (c .before .before .before .before .before .before .before .before .before .before .before .before .before .before .ready-refusal .ensures) ∙ c .before .before .before .before .before .before .before .before .before .before .before .before .before .if1 .left)) (sym (c .before .before .before .before .before .before .before .before .before .before .before .create-refusal .ensures) ∙ c .before .before .before .before .before .before .before .before .before .before .if2 .left) _ _ (c .before .before .before .before .before .before .before .record-create .ensures) (c .before .before .before .before .if3 .left) _ (c .before .before .create .ensures .0) _ (c .before .before .create .ensures .1)
+returns-4 c = change-done _ _ _ (ready _ _ (sym (c .before .before .before .before .before .before .before .before .before .before .before .before .before .before .inspect .ensures .weighed) ∙ c .before .before .before .before .before .before .before .before .before .before .before .before .before .if1 .left)) (sym (c .before .before .before .before .before .before .before .before .before .before .before .create-refusal .ensures) ∙ c .before .before .before .before .before .before .before .before .before .before .if2 .left) _ _ (c .before .before .before .before .before .before .before .record-create .ensures) (c .before .before .before .before .if3 .left) _ (c .before .before .create .ensures .0) _ (c .before .before .create .ensures .1)
 
 pub create-spec : {M : Type 1} → statement M
 create-spec =
     tie.close
     (tie.spec
-    ready-refusal-requires
+    inspect-requires
     same-length
     same-length-2
     returns

@@ -6,8 +6,8 @@ use Rattle.journal.proofs.calls.delete.Statement.{statement}
 use Rattle.journal.proofs.calls.delete.Tie as tie
 use Rattle.journal.proofs.Walks.Changes.{ready, change-unready, change-refused, change-full, change-done}
 
-ready-refusal-requires : tie.Need-ready-refusal-requires
-ready-refusal-requires c κs = search needs
+inspect-requires : tie.Need-inspect-requires
+inspect-requires c κs = search needs
 
 same-length : tie.Need-same-length
 same-length c = search needs
@@ -16,10 +16,10 @@ same-length-2 : tie.Need-same-length-2
 same-length-2 c = search needs
 
 returns : tie.Need-returns
-returns c = change-unready _ _ _ _ (c .before .ready-refusal .ensures) (c .if1 .taken)
+returns c = change-unready _ _ _ _ (c .before .inspect .ensures .weighed) (c .if1 .taken)
 
 delete-refusal-requires : tie.Need-delete-refusal-requires
-delete-refusal-requires c κs = ready _ _ (sym (c .before .before .ready-refusal .ensures) ∙ c .before .if1 .left) .sound
+delete-refusal-requires c κs = ready _ _ (sym (c .before .before .inspect .ensures .weighed) ∙ c .before .if1 .left) .sound
 
 same-length-3 : tie.Need-same-length-3
 same-length-3 c = search needs
@@ -29,10 +29,10 @@ same-length-4 c = search needs
 
 returns-2 : tie.Need-returns-2
 unfolding refusal
-returns-2 c = change-refused _ _ _ (ready _ _ (sym (c .before .before .before .before .ready-refusal .ensures) ∙ c .before .before .before .if1 .left)) _ (c .before .delete-refusal .ensures) (c .if2 .taken)
+returns-2 c = change-refused _ _ _ (ready _ _ (sym (c .before .before .before .before .inspect .ensures .weighed) ∙ c .before .before .before .if1 .left)) _ (c .before .delete-refusal .ensures) (c .if2 .taken)
 
 record-delete-requires : tie.Need-record-delete-requires
-record-delete-requires c κs = (ready _ _ (sym (c .before .before .before .before .before .before .ready-refusal .ensures) ∙ c .before .before .before .before .before .if1 .left), sym (c .before .before .before .delete-refusal .ensures) ∙ c .before .before .if2 .left)
+record-delete-requires c κs = (ready _ _ (sym (c .before .before .before .before .before .before .inspect .ensures .weighed) ∙ c .before .before .before .before .before .if1 .left), sym (c .before .before .before .delete-refusal .ensures) ∙ c .before .before .if2 .left)
 
 same-length-5 : tie.Need-same-length-5
 same-length-5 c = search needs
@@ -42,10 +42,10 @@ same-length-6 c = search needs
 
 returns-3 : tie.Need-returns-3
 unfolding refusal recordOf named
-returns-3 c = change-full _ _ _ (ready _ _ (sym (c .before .before .before .before .before .before .before .before .before .before .ready-refusal .ensures) ∙ c .before .before .before .before .before .before .before .before .before .if1 .left)) (sym (c .before .before .before .before .before .before .before .delete-refusal .ensures) ∙ c .before .before .before .before .before .before .if2 .left) _ _ (c .before .before .before .record-delete .ensures) (c .if3 .taken)
+returns-3 c = change-full _ _ _ (ready _ _ (sym (c .before .before .before .before .before .before .before .before .before .before .inspect .ensures .weighed) ∙ c .before .before .before .before .before .before .before .before .before .if1 .left)) (sym (c .before .before .before .before .before .before .before .delete-refusal .ensures) ∙ c .before .before .before .before .before .before .if2 .left) _ _ (c .before .before .before .record-delete .ensures) (c .if3 .taken)
 
 delete-requires : tie.Need-delete-requires
-delete-requires c κs = (ready _ _ (sym (c .before .before .before .before .before .before .before .before .before .before .before .ready-refusal .ensures) ∙ c .before .before .before .before .before .before .before .before .before .before .if1 .left) .sound, sym (c .before .before .before .before .before .before .before .before .delete-refusal .ensures) ∙ c .before .before .before .before .before .before .before .if2 .left)
+delete-requires c κs = (ready _ _ (sym (c .before .before .before .before .before .before .before .before .before .before .before .inspect .ensures .weighed) ∙ c .before .before .before .before .before .before .before .before .before .before .if1 .left) .sound, sym (c .before .before .before .before .before .before .before .before .delete-refusal .ensures) ∙ c .before .before .before .before .before .before .before .if2 .left)
 
 same-length-7 : tie.Need-same-length-7
 same-length-7 c = search needs
@@ -55,13 +55,13 @@ same-length-8 c = search needs
 
 returns-4 : tie.Need-returns-4
 unfolding refusal recordOf named slotGiven after
-returns-4 c = change-done _ _ _ (ready _ _ (sym (c .before .before .before .before .before .before .before .before .before .before .before .before .before .before .ready-refusal .ensures) ∙ c .before .before .before .before .before .before .before .before .before .before .before .before .before .if1 .left)) (sym (c .before .before .before .before .before .before .before .before .before .before .before .delete-refusal .ensures) ∙ c .before .before .before .before .before .before .before .before .before .before .if2 .left) _ _ (c .before .before .before .before .before .before .before .record-delete .ensures) (c .before .before .before .before .if3 .left) _ refl _ (c .before .before .delete .ensures)
+returns-4 c = change-done _ _ _ (ready _ _ (sym (c .before .before .before .before .before .before .before .before .before .before .before .before .before .before .inspect .ensures .weighed) ∙ c .before .before .before .before .before .before .before .before .before .before .before .before .before .if1 .left)) (sym (c .before .before .before .before .before .before .before .before .before .before .before .delete-refusal .ensures) ∙ c .before .before .before .before .before .before .before .before .before .before .if2 .left) _ _ (c .before .before .before .before .before .before .before .record-delete .ensures) (c .before .before .before .before .if3 .left) _ refl _ (c .before .before .delete .ensures)
 
 pub delete-spec : {M : Type 1} → statement M
 delete-spec =
     tie.close
     (tie.spec
-    ready-refusal-requires
+    inspect-requires
     same-length
     same-length-2
     returns
