@@ -1,7 +1,8 @@
 /*
  * Times the library beside the plain C baseline, in one run, and prints a
  * Markdown table: microseconds per call, their ratio, and how much longer a
- * call takes when the number of blocks doubles.
+ * call takes when the number of blocks doubles.  Before it times a volume it
+ * makes the calls on both sides, which must agree in every byte.
  *
  * The baseline is baseline.c compiled with -DBULGEFS_PREFIX=baseline_.
  */

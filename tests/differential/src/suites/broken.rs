@@ -5,7 +5,7 @@ use crate::damage::Clause;
 use crate::rng::Rng;
 use crate::tester::Tester;
 use crate::{damage, images, journals};
-use reference::layout::{block_count, root_block, root_chain};
+use reference::layout::{block_count, root_block, root_chain, MAX_BLOCKS};
 use reference::State;
 
 /// Every call on an image, sound or not, with arguments that were made for
@@ -24,18 +24,20 @@ fn every_call(rng: &mut Rng, t: &mut Tester, sound: &[u8], image: &[u8]) {
     t.undo(&state);
 }
 
-/// Every clause of every stage, one at a time.
+/// Every clause of every stage three times, one at a time.
 pub fn clauses(rng: &mut Rng, _: u64, t: &mut Tester) {
     for clause in damage::clauses() {
-        for _ in 0..3 {
-            while !damaged(rng, t, clause, images::small_n) {}
+        let mut made = 0;
+        while made < 3 {
+            let n = images::small_n(rng);
+            made += u32::from(damaged(rng, t, clause, n));
         }
     }
 }
 
 /// The same on images of the greatest lengths, where a clause has three tries.
 pub fn largest(rng: &mut Rng, round: u64, t: &mut Tester) {
-    let n: fn(&mut Rng) -> usize = if round % 2 == 0 { |_| 4096 } else { |_| 4095 };
+    let n = MAX_BLOCKS - round as usize % 2;
     for clause in damage::clauses() {
         let _ = (0..3).any(|_| damaged(rng, t, clause, n));
     }
@@ -43,8 +45,7 @@ pub fn largest(rng: &mut Rng, round: u64, t: &mut Tester) {
 
 /// Makes every call on an image damaged so; false if a random image does not
 /// have what it takes.
-fn damaged(rng: &mut Rng, t: &mut Tester, clause: &Clause, n: fn(&mut Rng) -> usize) -> bool {
-    let n = n(rng);
+fn damaged(rng: &mut Rng, t: &mut Tester, clause: &Clause, n: usize) -> bool {
     let sound = images::of(rng, n);
     let mut image = sound.clone();
     if (clause.make)(rng, &mut image).is_none() {
