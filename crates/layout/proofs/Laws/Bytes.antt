@@ -6,7 +6,7 @@ use mathlib.Core.Path.{_≡_, refl, sym, ap, _∙_}
 use native.Mathlib.Nat.{add-assoc, div-div-eq-div-mul, zero-add}
 use native.Mathlib.Numerals.{add-one, add-three, add-two}
 use native.Mathlib.Omega.{arith}
-use lib.ListN.{length, getD, set, take, drop, List·getD-append, List·getD-eq-default, length-append, length-drop, length-replicate, length-set, length-take, replicate-append-replicate, take-append-drop, drop-of-length-le}
+use lib.ListN.{length, getD, set, take, drop, List·getD-append, List·getD-eq-default, length-append, length-drop, length-replicate, length-set, length-take, replicate-append-replicate, take-append-drop, drop-of-length-le, replicate}
 use lib.Seq.{append-snoc, drop-append-add, drop-append-le, drop-at, drop-cons, drop-drop, drop-length, ext-getD, getD-append-add, getD-drop, getD-take, length-take-le, set-at, sets, sets-eq, take-all, take-append-add, take-append-le, take-at, take-suc, take-take, take-add}
 use borrow.Rule.Slice.PartMut.{putMid}
 use Rattle.layout.specs.Bytes.{be32, bytes4, bytes8, zeros, part, block, splice}
@@ -411,3 +411,11 @@ lent-part s at n k p ys e hs hp =
 -- the same for the header, which begins at 0
 pub lent-header : (s : List ℕ) (n k : ℕ) (p ys : List ℕ) → ys ≡ splice (take n s) k p → n ≤ length s → k + length p ≤ n → ys ++ drop n s ≡ splice s k p
 lent-header s n k p ys e hs hp = lent-part s 0 n k p ys e (omega arith) hp ∙ rw zero-add
+
+-- the same, where the callee zeroed the part
+pub lent-zeros : (s : List ℕ) (at size k : ℕ) (ys : List ℕ) → ys ≡ replicate (length (part s at k)) 0 → k ≡ size → at + size ≤ length s
+    → take at s ++ (ys ++ drop k (drop at s)) ≡ splice s at (zeros size)
+unfolding zeros
+lent-zeros s at size k ys e d h =
+    let l : length (part s at k) ≡ size = length-part s at k (omega arith) ∙ d in
+    lent s at k ys (replicate size 0) (e ∙ rw l) (length-replicate {A = ℕ} size 0 ∙ sym d)

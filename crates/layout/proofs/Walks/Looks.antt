@@ -1,32 +1,32 @@
 -- What looking up, opening and reading a file give.
-use Prim.Native.Nat.{ℕ, zero, suc, _+_, _-_, _*_, _/_, _≤_, _<_, min}
+use Prim.Native.Nat.{ℕ, _+_, _-_, _*_, _/_, _≤_, _<_, min}
 use mathlib.Core.Bool.{true, false}
 use mathlib.Core.List.{List, _++_}
-use mathlib.Core.Path.{_≡_, refl, sym, ap, _∙_}
+use mathlib.Core.Path.{_≡_, sym, ap, _∙_}
 use native.Mathlib.Omega.{arith}
 use lib.Dec.{leb}
 use lib.ListN.{length, getD, take, drop, length-drop, length-take}
 use borrow.Author.Tests.{eq-eqb, le-leb, lt-leb, ne-eqb}
-use Rattle.layout.specs.Refusals.{require, firstOf, accept}
+use Rattle.layout.specs.Refusals.{require}
 use Rattle.layout.specs.Bytes.{be32, part, splice}
 use Rattle.layout.specs.Geometry.{blockCount, blocksFor}
 use Rattle.layout.specs.Table.{next, chain}
 use Rattle.layout.specs.Directory.{slotAt, sizeOf, goodName, fileSlot, root, fileBlocks, content}
 use Rattle.layout.specs.Check.{check}
-use Rattle.layout.specs.Looks.{nameRefusal, entryOf, lookupRefusal, lookup, ReadAnswer, readRefusal, read, extentOf}
+use Rattle.layout.specs.Looks.{nameRefusal, entryOf, lookupRefusal, lookup, readRefusal, read, extentOf}
 use Rattle.layout.specs.Walks.Looks.{Opens}
 use Rattle.layout.specs.Walks.Shapes.{ChainBelow}
 use Rattle.layout.proofs.Laws.Bytes.{part-part, lent}
 use Rattle.layout.proofs.Laws.Looks.{lookup-sound, lookup-file, extent-refused, extent-past, extent-found}
 use Rattle.layout.proofs.Walks.Content.{chainBytes, length-chainBytes, below-nth}
 use Rattle.layout.proofs.Walks.Shapes.{sound-chain}
+use Rattle.layout.proofs.Laws.Tests.{firstOf-refused, accept-refused}
 
 -- the answers of look up, in the order in which the code takes its tests
 module _ (s name : List ℕ) where
   pub lookup-check : (r : ℕ) → r ≡ check s → (r ≡ 0 → ⊥) → lookup s name ≡ record { number = r; slot = 0; size = 0; blocks = 0 }
   unfolding lookup lookupRefusal
-  lookup-check zero e h = absurd (h refl)
-  lookup-check (suc r) e h = rw (← e)
+  lookup-check r e h = rw (← e, firstOf-refused r (nameRefusal s name) h) (accept-refused r _ _ h)
 
   module _ (e : check s ≡ 0) where
     pub lookup-name : false ≡ goodName name → lookup s name ≡ record { number = 9; slot = 0; size = 0; blocks = 0 }
@@ -43,29 +43,43 @@ module _ (s name : List ℕ) where
       unfolding lookup lookupRefusal nameRefusal entryOf
       lookup-found h at size blocks ea es eb = rw (e, ← g, ← ek, ne-eqb k 0 h, ← ea, ← es, ← eb)
 
+-- the refusals of a name
+module _ (s name : List ℕ) where
+  pub nameRefusal-bad : false ≡ goodName name → 9 ≡ nameRefusal s name
+  unfolding nameRefusal
+  nameRefusal-bad h = rw (← h)
+
+  module _ (g : true ≡ goodName name) (k : ℕ) (e : k ≡ fileSlot s (root s) name) where
+    pub nameRefusal-none : k ≡ 0 → 10 ≡ nameRefusal s name
+    unfolding nameRefusal
+    nameRefusal-none h = rw (← g, ← e, eq-eqb k 0 h)
+
+    pub nameRefusal-there : (k ≡ 0 → ⊥) → 0 ≡ nameRefusal s name
+    unfolding nameRefusal
+    nameRefusal-there h = rw (← g, ← e, ne-eqb k 0 h)
+
 -- the refusal, and the file that was opened
 module _ (s name : List ℕ) where
   pub lookupRefusal-check : (r : ℕ) → r ≡ check s → (r ≡ 0 → ⊥) → r ≡ lookupRefusal s name
   unfolding lookupRefusal
-  lookupRefusal-check zero e h = absurd (h refl)
-  lookupRefusal-check (suc r) e h = rw (← e)
+  lookupRefusal-check r e h = rw (← e) (sym (firstOf-refused r (nameRefusal s name) h))
 
   module _ (e : check s ≡ 0) where
     pub lookupRefusal-name : false ≡ goodName name → 9 ≡ lookupRefusal s name
-    unfolding lookupRefusal nameRefusal
-    lookupRefusal-name h = rw (e, ← h)
+    unfolding lookupRefusal
+    lookupRefusal-name h = rw e (nameRefusal-bad s name h)
 
     module _ (g : true ≡ goodName name) (k : ℕ) (ek : k ≡ fileSlot s (root s) name) where
       pub lookupRefusal-none : k ≡ 0 → 10 ≡ lookupRefusal s name
-      unfolding lookupRefusal nameRefusal
-      lookupRefusal-none h = rw (e, ← g, ← ek, eq-eqb k 0 h)
+      unfolding lookupRefusal
+      lookupRefusal-none h = rw e (nameRefusal-none s name g k ek h)
 
       pub opens-found : (k ≡ 0 → ⊥) → (at first size blocks : ℕ) → at ≡ slotAt (root s) k → first ≡ be32 s (at + 4) → size ≡ be32 s (at + 8)
           → blocks ≡ be32 s (at + 12) → Opens s name 0 first size blocks
-      unfolding lookupRefusal nameRefusal entryOf
+      unfolding lookupRefusal entryOf
       opens-found h at first size blocks ea ef es eb =
           record {
-            refusal = rw (e, ← g, ← ek, ne-eqb k 0 h);
+            refusal = rw e (nameRefusal-there s name g k ek h);
             start = λ z. rw (← ek, ← ea) ef;
             bytes = λ z. rw (← ek, ← ea) es;
             count = λ z. rw (← ek, ← ea) eb;
@@ -81,22 +95,7 @@ module _ (s name : List ℕ) (number first size blocks : ℕ) (o : Opens s name 
 
   pub read-refused : (offset : ℕ) (buffer : List ℕ) → (number ≡ 0 → ⊥) → read s name offset buffer ≡ record { number = number; count = 0; buffer = buffer }
   unfolding read readRefusal
-  read-refused offset buffer h = rw (← o .refusal) (go number h)
-    where
-      y : ℕ
-      y = require (leb offset (sizeOf s (entryOf s name))) 12 0
-
-      d : ReadAnswer
-      d = record {
-        number = 0;
-        count = min (length buffer) (sizeOf s (entryOf s name) - offset);
-        buffer = splice buffer 0 (part (content s (entryOf s name)) offset (min (length buffer) (sizeOf s (entryOf s name) - offset)));
-      }
-
-      go : (r : ℕ) → (r ≡ 0 → ⊥)
-          → accept (firstOf r y) d (record { number = firstOf r y; count = 0; buffer = buffer }) ≡ record { number = r; count = 0; buffer = buffer }
-      go zero z = absurd (z refl)
-      go (suc r) z = refl
+  read-refused offset buffer h = rw (← o .refusal, firstOf-refused number (require (leb offset (sizeOf s (entryOf s name))) 12 0) h) (accept-refused number _ _ h)
 
   module _ (z : number ≡ 0) where
     accepted : lookupRefusal s name ≡ 0

@@ -1,15 +1,14 @@
 -- The file of a name on a sound image: its refusals, and what stands when it is opened.
 use Prim.Native.Nat.{ℕ, _+_, _/_, _≤_, _<_}
 use mathlib.Core.Path.{_≡_, sym, ap, _∙_}
-use mathlib.Core.Bool.{true, false}
+use mathlib.Core.Bool.{true}
 use mathlib.Core.List.{List}
 use native.Mathlib.Omega.{arith}
 use lib.ListN.{length}
-use borrow.Author.Tests.{eq-eqb, ne-eqb}
 use Rattle.layout.specs.Bytes.{be32}
 use Rattle.layout.specs.Geometry.{blockCount}
 use Rattle.layout.specs.Table.{next, chain, chainOk}
-use Rattle.layout.specs.Directory.{slotAt, firstBlock, sizeOf, blocksOf, goodName, fileSlot, root, fileBlocks}
+use Rattle.layout.specs.Directory.{slotAt, firstBlock, sizeOf, blocksOf, fileSlot, root, fileBlocks}
 use Rattle.layout.specs.Check.{check}
 use Rattle.layout.specs.Looks.{nameRefusal, entryOf}
 use Rattle.volume.specs.Walks.Files.{Opened}
@@ -20,21 +19,6 @@ use Rattle.layout.proofs.Laws.Files.{File, file-of}
 use Rattle.layout.proofs.Laws.Sound.{sound}
 use Rattle.layout.proofs.Laws.Names.{goodName-length}
 use Rattle.layout.proofs.Laws.Looks.{good-given, file-given}
-
--- the refusals
-module _ (s name : List ℕ) where
-  pub name-bad : false ≡ goodName name → 9 ≡ nameRefusal s name
-  unfolding nameRefusal
-  name-bad h = rw (← h)
-
-  module _ (g : true ≡ goodName name) (k : ℕ) (e : k ≡ fileSlot s (root s) name) where
-    pub name-none : k ≡ 0 → 10 ≡ nameRefusal s name
-    unfolding nameRefusal
-    name-none h = rw (← g, ← e, eq-eqb k 0 h)
-
-    pub name-there : (k ≡ 0 → ⊥) → 0 ≡ nameRefusal s name
-    unfolding nameRefusal
-    name-there h = rw (← g, ← e, ne-eqb k 0 h)
 
 -- an accepted name
 module _ (s name : List ℕ) (r : nameRefusal s name ≡ 0) where
