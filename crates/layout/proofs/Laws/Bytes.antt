@@ -164,6 +164,9 @@ module _ (s : List ℕ) (at : ℕ) (p : List ℕ) (h : at + length p ≤ length 
       (getD-append-add (take at s) _ (length p + m) 0 ∙ getD-append-add p _ m 0 ∙ getD-drop (length p) (drop at s) m 0 ∙ getD-drop at s (length p + m) 0
       ∙ ap (λ (x : ℕ). getD s x 0) (d ∙ e))
 
+pub splice-first : (s : List ℕ) (at : ℕ) (p : List ℕ) → at + length p ≤ length s → 0 < length p → getD (splice s at p) at 0 ≡ getD p 0 0
+splice-first s at p h pos = let z : at + 0 ≡ at = omega arith in rw z at (getD-splice-inside s at p h 0 pos)
+
 -- a list that is s outside and p inside is the splice
 pub splice-ext : (l s : List ℕ) (at : ℕ) (p : List ℕ) → at + length p ≤ length s → length l ≡ length s
     → ((i : ℕ) → i < at → getD l i 0 ≡ getD s i 0)
