@@ -16,11 +16,12 @@ use Rattle.layout.specs.Looks.{nameRefusal, entryOf}
 use Rattle.volume.specs.Write.{newSize, needed, writeAtRefusal, writeRefusal}
 use Rattle.volume.specs.Walks.Files.{Opened}
 use Rattle.volume.proofs.Walks.Files.{file-of-name, opened-ok}
-use Rattle.volume.proofs.Theorems.{free-count}
 use Rattle.layout.proofs.Laws.Chains.{chainOk-split}
 use Rattle.layout.proofs.Laws.Counts.{chain-most}
 use Rattle.layout.proofs.Walks.Shapes.{sound-shape}
 use Rattle.layout.proofs.Laws.Tests.{firstOf-refused}
+use Rattle.layout.proofs.Laws.Owners.{free-count}
+use Rattle.layout.proofs.Laws.Sound.{sound}
 
 module _ (s name : List ℕ) (offset count : ℕ) where
   pub data-long : 4096 < count → 9 ≡ writeRefusal s name offset count
@@ -51,7 +52,7 @@ module _ (s name : List ℕ) (offset count : ℕ) where
       module _ (ok : check s ≡ 0) (near : offset ≤ size) (free need : ℕ) (ef : free ≡ be32 s 24) (en : need ≡ blocksFor (max size (offset + count)) - blocks) where
         decided : writeRefusal s name offset count ≡ require (leb need free) 14 0
         unfolding writeAtRefusal needed newSize
-        decided = at-entry ∙ rw (free-count s ok, ← o .bytes, ← o .count, le-leb offset size near, ← en, ← ef)
+        decided = at-entry ∙ rw (free-count s (sound s ok), ← o .bytes, ← o .count, le-leb offset size near, ← en, ← ef)
 
         pub room-none : free < need → 14 ≡ writeRefusal s name offset count
         room-none h = sym (decided ∙ rw (lt-leb need free h))
