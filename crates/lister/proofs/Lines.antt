@@ -1,5 +1,5 @@
 -- The parts of the listing, by the code's steps.
-use Prim.Native.Nat.{ℕ, zero, suc, _+_, _*_, _-_, _<_}
+use Prim.Native.Nat.{ℕ, _+_, _*_, _-_, _<_}
 use mathlib.Core.Path.{_≡_, refl, sym, ap, _∙_}
 use mathlib.Core.Bool.{Bool, true, false, cond}
 use mathlib.Core.List.{List, [], _∷_, _++_}
@@ -9,7 +9,7 @@ use lib.Seq.{drop-length}
 use Rattle.layout.specs.Lists.{within, keep, joined}
 use Rattle.layout.specs.Bytes.{be32, part}
 use Rattle.layout.specs.Limits.{maxListed}
-use Rattle.layout.specs.Refusals.{require, accept}
+use Rattle.layout.specs.Refusals.{require}
 use Rattle.layout.specs.Geometry.{blockCount, rootBlock}
 use Rattle.layout.specs.Table.{next, chain}
 use Rattle.layout.specs.Directory.{slotAt, typeOf, isFile, unpadded, nameOf, files, root}
@@ -17,7 +17,7 @@ use Rattle.layout.specs.Check.{check}
 use Rattle.layout.specs.Listing.{decimal, printed, fileLine, countLine, refusedLine, listing}
 use Rattle.lister.specs.Text.{entryLine, slotLine, slotLines}
 use Rattle.layout.specs.Walks.Slots.{Place, entryAt}
-use Rattle.layout.proofs.Laws.Tests.{require-zero}
+use Rattle.layout.proofs.Laws.Tests.{require-zero, accept-refused}
 use Rattle.layout.proofs.Walks.Shapes.{sound-root, sound-directory}
 use Rattle.layout.proofs.Walks.Names.{unpadded-end, unpadded-next}
 use Rattle.layout.proofs.Walks.Slots.{place-entry}
@@ -104,11 +104,7 @@ list-pieces s e d ed =
 module _ (s : List ℕ) (number : ℕ) (e : number ≡ require (leb (length s) maxListed) 1 (check s)) where
   pub refused-listing : (number ≡ 0 → ⊥) → refusedLine number ≡ listing s
   unfolding listing
-  refused-listing h = rw (← e) (go number h)
-    where
-      go : (x : ℕ) → (x ≡ 0 → ⊥) → refusedLine x ≡ accept x (countLine s ++ joined (fileLine s) (files s (root s))) (refusedLine x)
-      go zero z = absurd (z refl)
-      go (suc x) z = refl
+  refused-listing h = rw (← e) (sym (accept-refused number _ (refusedLine number) h))
 
   module _ (z : number ≡ 0) where
     pub listed-sound : check s ≡ 0

@@ -1,6 +1,4 @@
-use mathlib.Core.Path.{_≡_, ap, sym, _∙_}
 use native.Mathlib.Omega.{arith}
-use Rattle.layout.specs.Looks.{Extent, extentOf}
 use borrow.Author.Needs.{needs}
 use Rattle.capi.proofs.bulgefs_look_in_place.Statement.{statement}
 use Rattle.layout.proofs.Laws.Looks.{extent-small}

@@ -1,4 +1,4 @@
-use mathlib.Core.Path.{_≡_, ap, sym, _∙_}
+use mathlib.Core.Path.{ap, sym, _∙_}
 use Rattle.layout.specs.Answers.{lookupAnswer}
 use borrow.Author.Needs.{needs}
 use Rattle.capi.proofs.bulgefs_lookup.Statement.{statement}

@@ -1,5 +1,5 @@
 use Rattle.capi.proofs.Bounds.{read-case}
-use mathlib.Core.Path.{_≡_, ap, sym, _∙_}
+use mathlib.Core.Path.{ap}
 use native.Mathlib.Omega.{arith}
 use Rattle.layout.specs.Looks.{ReadAnswer}
 use borrow.Author.Needs.{needs}

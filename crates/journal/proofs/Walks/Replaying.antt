@@ -1,5 +1,5 @@
 -- The outcome of a script, from a sound image and a journal just started, is that of the replay: the theorem over whole runs.
-use Prim.Native.Nat.{ℕ, _≤_}
+use Prim.Native.Nat.{ℕ}
 use mathlib.Core.Path.{_≡_, sym, ap, subst, _∙_}
 use mathlib.Core.List.{List, []}
 use borrow.Author.Tests.{leb-true}
@@ -9,7 +9,7 @@ use Rattle.layout.specs.Lists.{within}
 use Rattle.layout.specs.Limits.{minJournal, maxJournal}
 use Rattle.journal.specs.Journal.{startRefusal}
 use Rattle.journal.specs.Run.{State, Answer, answers, state}
-use Rattle.journal.specs.Replay.{MatchesReplay, replayed, standing, replayAnswers}
+use Rattle.journal.specs.Replay.{MatchesReplay, replayed, standing}
 use Rattle.journal.specs.Script.{callsOf, Outcome, given, outcome, replayOutcome, Fresh}
 use Rattle.layout.proofs.Laws.Tests.{and-split, require-zero}
 use Rattle.journal.proofs.Theorems.{every-run}

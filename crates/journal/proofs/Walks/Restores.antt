@@ -2,17 +2,16 @@
 use Prim.Native.Nat.{ℕ, _+_, _-_, _*_, _≤_, _<_}
 use mathlib.Core.Path.{_≡_, refl, sym, _∙_}
 use mathlib.Core.Bool.{true}
-use mathlib.Core.List.{List, _++_, map}
+use mathlib.Core.List.{List, map}
 use native.Mathlib.Omega.{arith}
 use native.Mathlib.Nat.{sub-zero}
 use borrow.Author.Tests.{ltb-true}
 use lib.Dec.{ltb}
-use lib.ListN.{length, take, drop, replicate, length-replicate}
+use lib.ListN.{length}
 use Rattle.layout.specs.Lists.{range, every}
-use Rattle.layout.specs.Bytes.{part, splice, zeros}
+use Rattle.layout.specs.Bytes.{splice}
 use Rattle.journal.specs.Journal.{blockAt, bytesAt, restored}
 use Rattle.layout.proofs.Laws.Tests.{and-split}
-use Rattle.layout.proofs.Laws.Bytes.{lent, length-part}
 use Rattle.layout.proofs.Laws.Lists.{range-from}
 
 -- what is left to put back, put back onto the image as it is now, gives what all gives
@@ -39,11 +38,3 @@ module _ (old j : List ℕ) (n at k : ℕ) (s : List ℕ) (i : ℕ) (r : Restori
   pub restore-end : k ≤ i → s ≡ restored old j at (range 0 k)
   unfolding restored
   restore-end h = let e : k - i ≡ 0 = omega arith in sym (r .whole ∙ rw e)
-
--- a part of the journal, zeroed
-pub cleared-part : (j : List ℕ) (at size k : ℕ) (ys : List ℕ) → ys ≡ replicate (length (part j at k)) 0 → k ≡ size → at + size ≤ length j
-    → take at j ++ (ys ++ drop k (drop at j)) ≡ splice j at (zeros size)
-unfolding zeros
-cleared-part j at size k ys e d h =
-    let l : length (part j at k) ≡ size = length-part j at k (omega arith) ∙ d in
-    lent j at k ys (replicate size 0) (e ∙ rw l) (length-replicate {A = ℕ} size 0 ∙ sym d)

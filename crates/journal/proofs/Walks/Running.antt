@@ -2,16 +2,15 @@
 use Prim.Native.Nat.{ℕ, _+_, _-_, _≤_, _<_}
 use mathlib.Core.Path.{_≡_, refl, sym, ap, _∙_}
 use mathlib.Core.Bool.{true, false}
-use mathlib.Core.List.{List, [], _∷_, _++_}
+use mathlib.Core.List.{List, [], _∷_}
 use native.Mathlib.Omega.{arith}
 use borrow.Rule.Slice.PartMut.{putMid}
 use lib.Dec.{leb}
 use lib.ListN.{length, length-append}
 use Rattle.layout.specs.Lists.{every, joined}
 use Rattle.layout.specs.Bytes.{splice}
-use Rattle.layout.specs.Check.{check}
 use Rattle.journal.specs.Run.{Call, State, step, answer, run, answers, state}
-use Rattle.journal.specs.Script.{itemSize, callAt, itemOk, itemsFrom, callsFrom, callsOf, encoded, answerSize, answersSize, scriptRefusal, Outcome, leaves, given, outcome, replayOutcome, Fresh}
+use Rattle.journal.specs.Script.{itemSize, callAt, itemOk, itemsFrom, callsFrom, callsOf, encoded, answerSize, answersSize, scriptRefusal, Outcome, leaves, given, outcome}
 use Rattle.journal.specs.Walks.Scripts.{Made}
 use Rattle.layout.proofs.Laws.Bytes.{putMid-splice, length-splice, splice-nil, splice-append}
 use Rattle.journal.proofs.Walks.Scripts.{Next, next, calls-none, calls-step, sizes-step}

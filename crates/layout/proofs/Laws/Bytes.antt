@@ -6,7 +6,7 @@ use mathlib.Core.Path.{_≡_, refl, sym, ap, _∙_}
 use native.Mathlib.Nat.{add-assoc, div-div-eq-div-mul, zero-add}
 use native.Mathlib.Numerals.{add-one, add-three, add-two}
 use native.Mathlib.Omega.{arith}
-use lib.ListN.{length, getD, set, take, drop, List·getD-append, List·getD-eq-default, length-append, length-drop, length-replicate, length-set, length-take, replicate-append-replicate, take-append-drop, drop-of-length-le}
+use lib.ListN.{length, getD, set, take, drop, List·getD-append, List·getD-eq-default, length-append, length-drop, length-replicate, length-set, length-take, replicate-append-replicate, take-append-drop, drop-of-length-le, replicate}
 use lib.Seq.{append-snoc, drop-append-add, drop-append-le, drop-at, drop-cons, drop-drop, drop-length, ext-getD, getD-append-add, getD-drop, getD-take, length-take-le, set-at, sets, sets-eq, take-all, take-append-add, take-append-le, take-at, take-suc, take-take, take-add}
 use borrow.Rule.Slice.PartMut.{putMid}
 use Rattle.layout.specs.Bytes.{be32, bytes4, bytes8, zeros, part, block, splice}
@@ -163,6 +163,9 @@ module _ (s : List ℕ) (at : ℕ) (p : List ℕ) (h : at + length p ≤ length 
       rw e
       (getD-append-add (take at s) _ (length p + m) 0 ∙ getD-append-add p _ m 0 ∙ getD-drop (length p) (drop at s) m 0 ∙ getD-drop at s (length p + m) 0
       ∙ ap (λ (x : ℕ). getD s x 0) (d ∙ e))
+
+pub splice-first : (s : List ℕ) (at : ℕ) (p : List ℕ) → at + length p ≤ length s → 0 < length p → getD (splice s at p) at 0 ≡ getD p 0 0
+splice-first s at p h pos = let z : at + 0 ≡ at = omega arith in rw z at (getD-splice-inside s at p h 0 pos)
 
 -- a list that is s outside and p inside is the splice
 pub splice-ext : (l s : List ℕ) (at : ℕ) (p : List ℕ) → at + length p ≤ length s → length l ≡ length s
@@ -411,3 +414,11 @@ lent-part s at n k p ys e hs hp =
 -- the same for the header, which begins at 0
 pub lent-header : (s : List ℕ) (n k : ℕ) (p ys : List ℕ) → ys ≡ splice (take n s) k p → n ≤ length s → k + length p ≤ n → ys ++ drop n s ≡ splice s k p
 lent-header s n k p ys e hs hp = lent-part s 0 n k p ys e (omega arith) hp ∙ rw zero-add
+
+-- the same, where the callee zeroed the part
+pub lent-zeros : (s : List ℕ) (at size k : ℕ) (ys : List ℕ) → ys ≡ replicate (length (part s at k)) 0 → k ≡ size → at + size ≤ length s
+    → take at s ++ (ys ++ drop k (drop at s)) ≡ splice s at (zeros size)
+unfolding zeros
+lent-zeros s at size k ys e d h =
+    let l : length (part s at k) ≡ size = length-part s at k (omega arith) ∙ d in
+    lent s at k ys (replicate size 0) (e ∙ rw l) (length-replicate {A = ℕ} size 0 ∙ sym d)

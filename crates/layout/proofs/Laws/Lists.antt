@@ -9,12 +9,12 @@ use native.Mathlib.Numerals.{add-one}
 use native.Mathlib.Omega.{arith}
 use native.Mathlib.Decide.{ℕ-discrete}
 use lib.Dec.{eqb, ltb}
-use lib.ListN.{length, getD, take, drop, length-append, length-drop}
+use lib.ListN.{length, getD, take, drop, length-append, length-drop, List·getD-eq-default}
 use borrow.Author.Tests.{eqb-true, lt-ltb, not-true}
 use lib.Seq.{take-all, drop-append-le}
 use Rattle.layout.specs.Lists.{range, every, has, distinct, keep, select, lowest, joined, lastOr}
 use Rattle.layout.specs.Bytes.{part}
-use Rattle.layout.proofs.Laws.Tests.{and-split, and-join, or-split, true-not-false, is-false, eqb-self}
+use Rattle.layout.proofs.Laws.Tests.{and-split, and-join, or-split, true-not-false, is-false, eqb-self, lt-or-ge}
 
 -- x is in a list
 abbrev pub In : {A : Type 0} → A → List A → Type 0
@@ -137,16 +137,8 @@ module _ (p : ℕ → Bool) where
   range-every a zero f = refl
   range-every a (suc k) f = and-join (f a (omega arith) (omega arith)) (range-every (suc a) k (λ i h g. f i (omega arith) (omega arith)))
 
--- the numbers of a range that pass a test
+-- a number of a range that passes a test is selected
 module _ (p : ℕ → Bool) where
-  pub select-below : (n k a : ℕ) → a + k ≤ n → every (λ b. ltb b n) (select p (range a k)) ≡ true
-  select-below n zero a h = refl
-  select-below n (suc k) a h = go (p a) refl (select-below n k (suc a) (omega arith))
-    where
-      go : (b : Bool) → p a ≡ b → every (λ b. ltb b n) (select p (range (suc a) k)) ≡ true → every (λ b. ltb b n) (select p (range a (suc k))) ≡ true
-      go true e r = rw (e, lt-ltb a n (omega arith)) r
-      go false e r = rw e r
-
   pub select-all : (x k a : ℕ) → p x ≡ true → a ≤ x → x < a + k → In x (select p (range a k))
   select-all x zero a t h g = absurd (omega arith)
   select-all x (suc k) a t h g = ⊎-elim (λ e. here e) (λ l. later (p a) (select-all x k (suc a) t l (omega arith))) (eq-or-lt-of-le h)
@@ -225,6 +217,9 @@ module _ (p : ℕ → Bool) where
       go true e ih (inr q) = let r = ih q in (omega arith, omega arith, r .2)
       go false e ih q = let r = ih q in (omega arith, omega arith, r .2)
 
+  pub select-below : (n k a : ℕ) → a + k ≤ n → every (λ b. ltb b n) (select p (range a k)) ≡ true
+  select-below n k a h = in-every (λ b. ltb b n) (select p (range a k)) (λ x m. let w = select-in a k x m in lt-ltb x n (omega arith))
+
   pub select-distinct : (a k : ℕ) → distinct eqb (select p (range a k)) ≡ true
   select-distinct a zero = refl
   select-distinct a (suc k) = go (p a) (select-distinct (suc a) k)
@@ -281,27 +276,14 @@ select-split p (suc k) a = go (p a) (select-split p k (suc a))
 -- the lowest of them, or 0
 module _ (p : ℕ → Bool) where
   pub lowest-met : (a k : ℕ) → lowest p (range a k) ≢ 0 → (a ≤ lowest p (range a k)) × (lowest p (range a k) < a + k) × (p (lowest p (range a k)) ≡ true)
-  lowest-met a zero ne = absurd (ne refl)
-  lowest-met a (suc k) ne = go (p a) refl (lowest-met (suc a) k) ne
-    where
-      r : List ℕ
-      r = select p (range (suc a) k)
-
-      go : (t : Bool) → p a ≡ t → (lowest p (range (suc a) k) ≢ 0 → (suc a ≤ getD r 0 0) × (getD r 0 0 < suc a + k) × (p (getD r 0 0) ≡ true))
-          → getD (keep t a r) 0 0 ≢ 0 → (a ≤ getD (keep t a r) 0 0) × (getD (keep t a r) 0 0 < a + suc k) × (p (getD (keep t a r) 0 0) ≡ true)
-      go true e ih n = (omega arith, omega arith, e)
-      go false e ih n = let x = ih n in (omega arith, omega arith, x .2)
+  lowest-met a k ne =
+      select-in p a k (lowest p (range a k)) (getD-in (select p (range a k)) 0 0
+      (⊎-elim (λ h. h) (λ h. absurd (ne (List·getD-eq-default (select p (range a k)) 0 h))) (lt-or-ge 0 (length (select p (range a k))))))
 
   pub lowest-none : (a k : ℕ) → 1 ≤ a → lowest p (range a k) ≡ 0 → (j : ℕ) → a ≤ j → j < a + k → p j ≡ true → ⊥
-  lowest-none a zero h z j g l t = absurd (omega arith)
-  lowest-none a (suc k) h z j g l t = go (p a) refl z (lowest-none (suc a) k (omega arith))
-    where
-      r : List ℕ
-      r = select p (range (suc a) k)
-
-      go : (b : Bool) → p a ≡ b → getD (keep b a r) 0 0 ≡ 0 → (getD r 0 0 ≡ 0 → (i : ℕ) → suc a ≤ i → i < suc a + k → p i ≡ true → ⊥) → ⊥
-      go true e q ih = omega arith
-      go false e q ih = ⊎-elim (λ d. true-not-false (ap p d ∙ t) e) (λ d. ih q j d (omega arith) t) (eq-or-lt-of-le g)
+  lowest-none a k h z j g l t =
+      let w = select-in p a k (lowest p (range a k)) (getD-in (select p (range a k)) 0 0 (in-some j (select p (range a k)) (select-all p j k a t g l))) in
+      omega arith
 
   module _ (a k : ℕ) (a₁ : 1 ≤ a) where
     pub lowest-only : (j : ℕ) → a ≤ j → j < a + k → p j ≡ true → ((i : ℕ) → a ≤ i → i < a + k → i ≢ j → p i ≡ false) → lowest p (range a k) ≡ j

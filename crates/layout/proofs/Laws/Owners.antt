@@ -97,6 +97,9 @@ module _ (s : List ℕ) (S : Sound s) where
     pub file-used : (q : ℕ) → In q (fileBlocks s e) → next s q ≢ 0
     file-used q i = let r = file-at q i in rw (r .2) (held-used k k₂ (r .0) (r .1))
 
+    pub file-apart : (j : ℕ) → j < 4 * dirSize s - 1 → j ≢ k → (x : ℕ) → x < l j → In (nth (next s) x (f j)) (fileBlocks s e) → ⊥
+    file-apart j h ne x g i = let r = file-at (nth (next s) x (f j)) i in held-apart j h x g k k₂ ne (r .0) (r .1) (r .2)
+
     pub file-blocks : blocksAt s k ≡ fileBlocks s e
     unfolding fileBlocks
     file-blocks = ap (chain (next s) (f k)) file-holds

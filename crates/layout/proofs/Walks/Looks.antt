@@ -1,19 +1,19 @@
 -- What looking up, opening and reading a file give.
-use Prim.Native.Nat.{ℕ, zero, suc, _+_, _-_, _*_, _/_, _≤_, _<_, min}
+use Prim.Native.Nat.{ℕ, _+_, _-_, _*_, _/_, _≤_, _<_, min}
 use mathlib.Core.Bool.{true, false}
 use mathlib.Core.List.{List, _++_}
-use mathlib.Core.Path.{_≡_, refl, sym, ap, _∙_}
+use mathlib.Core.Path.{_≡_, sym, ap, _∙_}
 use native.Mathlib.Omega.{arith}
 use lib.Dec.{leb}
 use lib.ListN.{length, getD, take, drop, length-drop, length-take}
 use borrow.Author.Tests.{eq-eqb, le-leb, lt-leb, ne-eqb}
-use Rattle.layout.specs.Refusals.{require, firstOf, accept}
+use Rattle.layout.specs.Refusals.{require}
 use Rattle.layout.specs.Bytes.{be32, part, splice}
 use Rattle.layout.specs.Geometry.{blockCount, blocksFor}
 use Rattle.layout.specs.Table.{next, chain}
 use Rattle.layout.specs.Directory.{slotAt, firstBlock, sizeOf, blocksOf, goodName, fileSlot, root, fileBlocks, content}
 use Rattle.layout.specs.Check.{check}
-use Rattle.layout.specs.Looks.{nameRefusal, entryOf, lookupRefusal, lookup, ReadAnswer, readRefusal, read, extentOf}
+use Rattle.layout.specs.Looks.{nameRefusal, entryOf, lookupRefusal, lookup, readRefusal, read, extentOf}
 use Rattle.layout.specs.Walks.Looks.{Located, Opens}
 use Rattle.layout.specs.Walks.Shapes.{Shape, ChainBelow}
 use Rattle.layout.specs.Walks.Slots.{Stands, entryAt}
@@ -21,7 +21,7 @@ use Rattle.layout.proofs.Laws.Bytes.{part-part, lent}
 use Rattle.layout.proofs.Laws.Chains.{Chain, chainOk-split}
 use Rattle.layout.proofs.Laws.Counts.{chain-most}
 use Rattle.layout.proofs.Laws.Looks.{lookup-sound, lookup-file, extent-refused, extent-past, extent-found}
-use Rattle.layout.proofs.Laws.Tests.{accept-refused}
+use Rattle.layout.proofs.Laws.Tests.{firstOf-refused, accept-refused}
 use Rattle.layout.proofs.Walks.Content.{chainBytes, length-chainBytes, below-nth}
 use Rattle.layout.proofs.Walks.Shapes.{sound-shape, sound-chain}
 
@@ -61,8 +61,7 @@ module _ (s name : List ℕ) where
 
   pub lookupRefusal-check : (r : ℕ) → r ≡ check s → (r ≡ 0 → ⊥) → r ≡ lookupRefusal s name
   unfolding lookupRefusal
-  lookupRefusal-check zero e h = absurd (h refl)
-  lookupRefusal-check (suc r) e h = rw (← e)
+  lookupRefusal-check r e h = rw (← e) (sym (firstOf-refused r (nameRefusal s name) h))
 
   pub opens-checked : check s ≡ 0 → {number slot b first size blocks : ℕ} → Opens s name (nameRefusal s name) number slot b first size blocks
       → Opens s name (lookupRefusal s name) number slot b first size blocks
@@ -81,22 +80,7 @@ module _ {s name : List ℕ} {number slot b first size blocks : ℕ} (o : Opens 
 
   pub read-refused : (offset : ℕ) (buffer : List ℕ) → (number ≡ 0 → ⊥) → read s name offset buffer ≡ record { number = number; count = 0; buffer = buffer }
   unfolding read readRefusal
-  read-refused offset buffer h = rw (← o .weighed) (go number h)
-    where
-      y : ℕ
-      y = require (leb offset (sizeOf s (entryOf s name))) 12 0
-
-      d : ReadAnswer
-      d = record {
-        number = 0;
-        count = min (length buffer) (sizeOf s (entryOf s name) - offset);
-        buffer = splice buffer 0 (part (content s (entryOf s name)) offset (min (length buffer) (sizeOf s (entryOf s name) - offset)));
-      }
-
-      go : (r : ℕ) → (r ≡ 0 → ⊥)
-          → accept (firstOf r y) d (record { number = firstOf r y; count = 0; buffer = buffer }) ≡ record { number = r; count = 0; buffer = buffer }
-      go zero z = absurd (z refl)
-      go (suc r) z = refl
+  read-refused offset buffer h = rw (← o .weighed, firstOf-refused number (require (leb offset (sizeOf s (entryOf s name))) 12 0) h) (accept-refused number _ _ h)
 
   module _ (z : number ≡ 0) where
     accepted : lookupRefusal s name ≡ 0

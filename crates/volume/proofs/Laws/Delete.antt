@@ -16,8 +16,7 @@ use Rattle.volume.specs.Entries.{released, freed}
 use Rattle.volume.specs.Delete.{deleteAt}
 use Rattle.volume.proofs.Laws.Table.{released-next, freed-size, freed-same, freed-at, freed-other, freed-used, freed-free}
 use Rattle.volume.proofs.Laws.Frame.{entries-low, released-agree}
-use Rattle.layout.proofs.Laws.Bytes.{length-splice, length-zeros, getD-splice-inside}
-use Rattle.layout.proofs.Laws.Lists.{In}
+use Rattle.layout.proofs.Laws.Bytes.{length-splice, length-zeros, splice-first}
 use Rattle.layout.proofs.Laws.Tests.{true-not-false}
 use Rattle.layout.proofs.Laws.Frames.{Same, same-then, same-beside, agree-block}
 use Rattle.layout.proofs.Laws.Chains.{nth, Chain, chain-used, rest-same}
@@ -25,7 +24,7 @@ use Rattle.layout.proofs.Laws.Sound.{firstAt, heldAt, rootOf, dirSize, Sound, s
 use Rattle.layout.proofs.Laws.Files.{slot-low, slot-high, named-slot}
 use Rattle.layout.proofs.Laws.Tables.{table-popped}
 use Rattle.layout.proofs.Laws.Looks.{file-given}
-use Rattle.layout.proofs.Laws.Owners.{held-above, held-apart, file-holds, file-at, file-below}
+use Rattle.layout.proofs.Laws.Owners.{held-above, file-holds, file-below, file-apart}
 use Rattle.layout.proofs.Laws.Steps.{Midway, midway-start, dir-apart, over, over-same, over-other, midway-end}
 use Rattle.layout.proofs.Laws.Others.{Others, slot-changed}
 
@@ -106,7 +105,7 @@ module _ (s : List ℕ) (S : Sound s) (k : ℕ) (k₁ : 1 ≤ k) (k₂ : k < 4 *
 
     pub deleted-type : typeOf (deleteAt s e) e ≡ 0
     unfolding deleteAt zeros
-    deleted-type = let z : e + 0 ≡ e = omega arith in rw z at (getD-splice-inside freer e (zeros 128) fits 0 (omega (arith, length-zeros 128)))
+    deleted-type = splice-first freer e (zeros 128) fits (omega (arith, length-zeros 128))
 
     pub deleted-sound : Sound (deleteAt s e)
     unfolding deleteAt slotOk
@@ -119,11 +118,8 @@ module _ (s : List ℕ) (S : Sound s) (k : ℕ) (k₁ : 1 ≤ k) (k₂ : k < 4 *
       abbrev q : ℕ
       q = nth (next s) x (f j)
 
-      not-old : In q old → ⊥
-      not-old i = let r = file-at s S k k₂ file q i in held-apart s S j h x g k k₂ ne (r .0) (r .1) (r .2)
-
       next-kept : next freer q ≡ next s q
-      next-kept = released-next n (S .least) old s q (S .whole) (file-below s S k k₂ file) not-old
+      next-kept = released-next n (S .least) old s q (S .whole) (file-below s S k k₂ file) (file-apart s S k k₂ file j h ne x g)
 
       data-kept : block freer q ≡ block s q
       data-kept =

@@ -18,7 +18,7 @@ use Rattle.layout.specs.Check.{stage1, stage2, stage3, slotOk, check}
 use Rattle.volume.specs.Entries.{entryBytes, directoryMade}
 use Rattle.volume.specs.Format.{formatRefusal, firstEntries, headerBytes, formatImage}
 use Rattle.volume.proofs.Laws.Entries.{entry-type, entry-first, entry-size, entry-blocks, entry-length}
-use Rattle.layout.proofs.Laws.Bytes.{length-splice, length-zeros, getD-splice-inside, be32-same, part-same, be32-bytes4, getD-zeros, length-joined4, joined4-at, zeros-32}
+use Rattle.layout.proofs.Laws.Bytes.{length-splice, length-zeros, be32-same, part-same, be32-bytes4, getD-zeros, length-joined4, joined4-at, zeros-32, splice-first}
 use Rattle.layout.proofs.Laws.Tests.{and-split, and-join, true-not-false, lt-or-ge, lt-or-gt, require-zero, within-split}
 use Rattle.layout.proofs.Laws.Names.{same-refl}
 use Rattle.layout.proofs.Laws.Frames.{Same, same-then, same-be32, same-byte, same-below, same-above, same-inside}
@@ -276,9 +276,7 @@ module _ (n d : ℕ) (uuid name : List ℕ) (time : ℕ) (n₁ : 3 ≤ n) (n₂ 
         ∙ getD-zeros (512 * n) (slotAt ds k)
 
     end-type : typeOf done (slotAt ds (4 * d - 1)) ≡ 255
-    end-type =
-        let z : slotAt ds (4 * d - 1) + 0 ≡ slotAt ds (4 * d - 1) = omega arith in
-        rw z at (getD-splice-inside begun (slotAt ds (4 * d - 1)) (0xFF ∷ []) fit-done 0 (omega arith))
+    end-type = splice-first begun (slotAt ds (4 * d - 1)) (0xFF ∷ []) fit-done (omega arith)
 
     root-first : firstAt done ds 0 ≡ rootBlock n
     root-first = rw slot-first self-block

@@ -1,4 +1,4 @@
--- Space: the free blocks, those that a write takes, and the refusal for want of room.
+-- Space: the blocks that a write takes, and the refusal for want of room.
 use Prim.Native.Nat.{ℕ, _≤_, _<_, _+_, _-_, _*_}
 use mathlib.Core.List.{_++_, List}
 use mathlib.Core.Logic.{⊎-elim, _≢_}

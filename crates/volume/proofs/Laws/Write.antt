@@ -35,7 +35,7 @@ use Rattle.layout.proofs.Laws.Chains.{nth, Chain, getD-chain, in-chain, chain-a
 use Rattle.layout.proofs.Laws.Counts.{chain-most}
 use Rattle.layout.proofs.Laws.Sound.{firstAt, heldAt, file-held, rootOf, dirSize, Sound, sound, check-zero, slotOk-split}
 use Rattle.layout.proofs.Laws.Files.{slot-high, slot-low, named-slot, file-in, length-fileBlocks, length-blocks}
-use Rattle.layout.proofs.Laws.Owners.{held-above, held-below, held-used, held-apart, file-holds, file-at, file-above, file-below, file-used, slot-elsewhere, Fresh}
+use Rattle.layout.proofs.Laws.Owners.{held-above, held-below, held-used, file-holds, file-above, file-below, file-used, slot-elsewhere, Fresh, file-apart}
 use Rattle.layout.proofs.Laws.Steps.{over-same, Midway, midway-start, dir-apart, midway-end, bytes-step}
 use Rattle.layout.proofs.Laws.Others.{Others, other-name, slot-changed}
 
@@ -250,7 +250,7 @@ module _ (s : List ℕ) (S : Sound s) (k : ℕ) (k₁ : 1 ≤ k) (k₂ : k < 4 *
       q = nth (next s) x (firstAt s (root s) j)
 
       not-old : In q old → ⊥
-      not-old i = let r = file-at s S k k₂ file q i in held-apart s S j h x g k k₂ ne (r .0) (r .1) (r .2)
+      not-old = file-apart s S k k₂ file j h ne x g
 
       not-new : In q new → ⊥
       not-new i = held-used s S j h x g (fresh .empty q i)

@@ -1,26 +1,27 @@
 -- The refusals of a write, and what an accepted one has.
-use Prim.Native.Nat.{ℕ, zero, suc, _+_, _-_, _*_, _≤_, _<_, max}
+use Prim.Native.Nat.{ℕ, _+_, _-_, _≤_, _<_, max}
 use mathlib.Core.Path.{_≡_, refl, sym, ap, _∙_}
 use mathlib.Core.Bool.{Bool, true, false, not, _&&_, and-false}
 use mathlib.Core.List.{List}
 use native.Mathlib.Omega.{arith}
-use lib.ListN.{length}
 use lib.Dec.{eqb, leb}
 use borrow.Author.Tests.{le-leb, lt-leb}
 use Rattle.layout.specs.Refusals.{require, firstOf}
 use Rattle.layout.specs.Bytes.{be32}
 use Rattle.layout.specs.Geometry.{blockCount, blocksFor}
-use Rattle.layout.specs.Table.{next, freeBlocks}
+use Rattle.layout.specs.Table.{next}
 use Rattle.layout.specs.Directory.{goodName, fileSlot, root}
 use Rattle.layout.specs.Check.{check}
 use Rattle.layout.specs.Looks.{nameRefusal, entryOf}
 use Rattle.volume.specs.Write.{newSize, needed, writeAtRefusal, writeRefusal}
 use Rattle.layout.specs.Walks.Looks.{Located}
 use Rattle.volume.proofs.Walks.Files.{file-of-name, opened-ok}
-use Rattle.volume.proofs.Theorems.{free-count}
 use Rattle.layout.proofs.Laws.Chains.{chainOk-split}
 use Rattle.layout.proofs.Laws.Counts.{chain-most}
 use Rattle.layout.proofs.Walks.Shapes.{sound-shape}
+use Rattle.layout.proofs.Laws.Tests.{firstOf-refused}
+use Rattle.layout.proofs.Laws.Owners.{free-count}
+use Rattle.layout.proofs.Laws.Sound.{sound}
 
 module _ (s name : List ℕ) (offset count : ℕ) where
   pub data-long : 4096 < count → 9 ≡ writeRefusal s name offset count
@@ -38,8 +39,7 @@ module _ (s name : List ℕ) (offset count : ℕ) where
         go false b x = refl
 
     pub name-refused : (r : ℕ) → r ≡ nameRefusal s name → (r ≡ 0 → ⊥) → r ≡ writeRefusal s name offset count
-    name-refused zero e h = absurd (h refl)
-    name-refused (suc r) e h = sym (by-name ∙ rw (← e))
+    name-refused r e h = sym (by-name ∙ rw (← e) (firstOf-refused r (writeAtRefusal s (entryOf s name) offset count) h))
 
     module _ (z : nameRefusal s name ≡ 0) {slot b first size blocks : ℕ} (o : Located s name slot b first size blocks) where
       at-entry : writeRefusal s name offset count ≡ writeAtRefusal s (entryOf s name) offset count
@@ -52,7 +52,7 @@ module _ (s name : List ℕ) (offset count : ℕ) where
       module _ (ok : check s ≡ 0) (near : offset ≤ size) (free need : ℕ) (ef : free ≡ be32 s 24) (en : need ≡ blocksFor (max size (offset + count)) - blocks) where
         decided : writeRefusal s name offset count ≡ require (leb need free) 14 0
         unfolding writeAtRefusal needed newSize
-        decided = at-entry ∙ rw (free-count s ok, ← o .bytes, ← o .count, le-leb offset size near, ← en, ← ef)
+        decided = at-entry ∙ rw (free-count s (sound s ok), ← o .bytes, ← o .count, le-leb offset size near, ← en, ← ef)
 
         pub room-none : free < need → 14 ≡ writeRefusal s name offset count
         room-none h = sym (decided ∙ rw (lt-leb need free h))

@@ -5,8 +5,8 @@ use mathlib.Core.List.{List}
 use Rattle.layout.specs.Bytes.{bytes4, splice}
 use borrow.Author.Needs.{needs}
 use Rattle.journal.proofs.restoring.drop_record.Statement.{statement}
+use Rattle.layout.proofs.Laws.Bytes.{lent-zeros}
 use Rattle.journal.proofs.restoring.drop_record.Tie as tie
-use Rattle.journal.proofs.Walks.Restores.{cleared-part}
 
 add-e : tie.Need-add-e
 add-e c = search needs
@@ -35,7 +35,7 @@ same-length c = search needs
 returns : tie.Need-returns
 returns c =
     let a = c .before .before .before .before .before .before .before .before .before .args in
-    c .before .before .put32 .ensures ∙ ap (λ (x : List ℕ). splice x 1 (bytes4 (a .at))) (cleared-part (a .journal .now) (a .at) (a .size) (a .at + a .size - a .at) _ (c .before .before .before .before .before .before .clear .ensures) (omega arith) (omega arith))
+    c .before .before .put32 .ensures ∙ ap (λ (x : List ℕ). splice x 1 (bytes4 (a .at))) (lent-zeros (a .journal .now) (a .at) (a .size) (a .at + a .size - a .at) _ (c .before .before .before .before .before .before .clear .ensures) (omega arith) (omega arith))
 
 pub drop-record-spec : {M : Type 1} → statement M
 drop-record-spec =

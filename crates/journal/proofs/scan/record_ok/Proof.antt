@@ -1,6 +1,5 @@
 -- Each refused exit contradicts what a right record is; what is left are its numbers.
 use mathlib.Core.Path.{sym, _∙_}
-use Prim.Native.Nat.{_-_}
 use native.Mathlib.Omega.{arith}
 use Rattle.journal.specs.Journal.{copies}
 use borrow.Author.Needs.{needs}

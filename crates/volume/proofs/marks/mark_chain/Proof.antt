@@ -1,5 +1,5 @@
-use mathlib.Core.Path.{_≡_, sym, ap, _∙_}
-use mathlib.Core.List.{List, map-id}
+use mathlib.Core.Path.{sym, ap, _∙_}
+use mathlib.Core.List.{map-id}
 use native.Mathlib.Omega.{arith}
 use Rattle.layout.specs.Table.{next, chain}
 use Rattle.volume.proofs.marks.mark_chain.Statement.{statement}

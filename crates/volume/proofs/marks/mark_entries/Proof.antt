@@ -1,4 +1,4 @@
-use mathlib.Core.Path.{_≡_, sym, _∙_}
+use mathlib.Core.Path.{sym, _∙_}
 use borrow.Author.Needs.{needs}
 use Rattle.volume.proofs.marks.mark_entries.Statement.{statement}
 use Rattle.volume.proofs.marks.mark_entries.Tie as tie

@@ -1,5 +1,5 @@
 use borrow.Author.Needs.{needs}
-use mathlib.Core.Path.{_≡_, sym, _∙_}
+use mathlib.Core.Path.{sym, _∙_}
 use Rattle.volume.proofs.Walks.WriteNamed.{grown-none, grown-first, grown-behind}
 use Rattle.volume.proofs.marks.mark_grown.Statement.{statement}
 use Rattle.volume.proofs.marks.mark_grown.Tie as tie

@@ -1,5 +1,5 @@
-use mathlib.Core.Path.{_≡_, refl, sym, ap, _∙_}
-use mathlib.Core.List.{List, map}
+use mathlib.Core.Path.{refl, sym, _∙_}
+use mathlib.Core.List.{map}
 use native.Mathlib.Omega.{arith}
 use Rattle.layout.specs.Table.{next, chain, tableBlockOf}
 use Rattle.volume.proofs.marks.mark_tables.Statement.{statement}

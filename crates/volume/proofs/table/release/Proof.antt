@@ -1,4 +1,3 @@
-use mathlib.Core.Path.{_≡_, ap, _∙_}
 use native.Mathlib.Omega.{arith}
 use Rattle.volume.proofs.table.release.Statement.{statement}
 use Rattle.volume.proofs.table.release.Tie as tie

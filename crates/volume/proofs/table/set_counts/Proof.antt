@@ -1,4 +1,3 @@
-use mathlib.Core.Path.{_≡_, _∙_}
 use native.Mathlib.Omega.{arith}
 use Rattle.layout.specs.Bytes.{bytes4}
 use Rattle.volume.specs.Entries.{setOccupied}

@@ -1,4 +1,4 @@
-use mathlib.Core.Path.{_≡_, _∙_}
+use mathlib.Core.Path.{_∙_}
 use Rattle.volume.specs.Entries.{taken}
 use borrow.Author.Needs.{needs}
 use Rattle.volume.proofs.table.take_block.Statement.{statement}
