@@ -20,7 +20,8 @@ same-length-2 c = search needs
 
 returns : tie.Need-returns
 returns c =
-    (change-case _ (c .before .slot .given .1) (c .before .before .before .before .before .before .before .create .ensures .0), c .before .before .before .before .before .before .before .create .ensures .1)
+    let create = c .before .before .before .before .before .before .before .create in
+    (change-case _ (c .before .slot .given .1) (create .ensures .0), create .ensures .1)
 
 same-length-3 : tie.Need-same-length-3
 same-length-3 c = search needs
@@ -30,7 +31,8 @@ same-length-4 c = search needs
 
 returns-2 : tie.Need-returns-2
 returns-2 c =
-    (change-case _ (c .before .number .given .1) (c .before .before .before .before .before .before .before .create .ensures .0), c .before .before .before .before .before .before .before .create .ensures .1)
+    let create = c .before .before .before .before .before .before .before .create in
+    (change-case _ (c .before .number .given .1) (create .ensures .0), create .ensures .1)
 
 pub bulgefs-create-spec : {M : Type 1} → statement M
 bulgefs-create-spec =

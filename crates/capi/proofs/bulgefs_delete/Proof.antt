@@ -23,7 +23,8 @@ same-length-2 c = search needs
 returns : tie.Need-returns
 unfolding slotGiven
 returns c =
-    (no-slot _ _ refl _ _ (change-case _ (c .before .size .given .1) (c .before .before .before .before .before .before .before .delete .ensures .0)), c .before .before .before .before .before .before .before .delete .ensures .1)
+    let delete = c .before .before .before .before .before .before .before .delete in
+    (no-slot _ _ refl _ _ (change-case _ (c .before .size .given .1) (delete .ensures .0)), delete .ensures .1)
 
 same-length-3 : tie.Need-same-length-3
 same-length-3 c = search needs
@@ -33,7 +34,8 @@ same-length-4 c = search needs
 
 returns-2 : tie.Need-returns-2
 returns-2 c =
-    (change-case _ (c .before .number .given .1) (c .before .before .before .before .before .before .before .delete .ensures .0), c .before .before .before .before .before .before .before .delete .ensures .1)
+    let delete = c .before .before .before .before .before .before .before .delete in
+    (change-case _ (c .before .number .given .1) (delete .ensures .0), delete .ensures .1)
 
 pub bulgefs-delete-spec : {M : Type 1} → statement M
 bulgefs-delete-spec =

@@ -8,10 +8,14 @@ extent-in-place-requires : tie.Need-extent-in-place-requires
 extent-in-place-requires c κs = search needs
 
 cast-t6 : tie.Need-cast-t6
-cast-t6 c = omega (arith, extent-small (c .before .before .before .before .args .image .now) (c .before .before .before .before .args .name .now) (c .before .before .before .before .args .index))
+cast-t6 c =
+    let a = c .before .before .before .before .args in
+    omega (arith, extent-small (a .image .now) (a .name .now) (a .index))
 
 cast-t7 : tie.Need-cast-t7
-cast-t7 c = omega (arith, extent-small (c .before .before .before .before .before .args .image .now) (c .before .before .before .before .before .args .name .now) (c .before .before .before .before .before .args .index))
+cast-t7 c =
+    let a = c .before .before .before .before .before .args in
+    omega (arith, extent-small (a .image .now) (a .name .now) (a .index))
 
 returns : tie.Need-returns
 returns c =

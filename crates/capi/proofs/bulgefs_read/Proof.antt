@@ -15,8 +15,11 @@ enum-known-count c = search needs
 
 cast-t12 : tie.Need-cast-t12
 cast-t12 c =
-    let e = ap (λ (x : ReadAnswer). x .count) (read-case _ _ (c .before .count .given .1) (c .before .before .before .before .before .read .ensures)) in
-    omega (arith, count-small (c .before .before .before .before .before .before .before .before .before .before .args .image .now) (c .before .before .before .before .before .before .before .before .before .before .args .name .now) (c .before .before .before .before .before .before .before .before .before .before .args .offset) (c .before .before .before .before .before .before .before .before .before .before .args .buffer .now) (λ i. omega (arith, c .before .before .before .before .before .before .before .before .before .shared-slice-known .given i)))
+    let read = c .before .before .before .before .before .read in
+    let shared-slice-known = c .before .before .before .before .before .before .before .before .before .shared-slice-known in
+    let a = c .before .before .before .before .before .before .before .before .before .before .args in
+    let e = ap (λ (x : ReadAnswer). x .count) (read-case _ _ (c .before .count .given .1) (read .ensures)) in
+    omega (arith, count-small (a .image .now) (a .name .now) (a .offset) (a .buffer .now) (λ i. omega (arith, shared-slice-known .given i)))
 
 enum-known-number : tie.Need-enum-known-number
 enum-known-number c = search needs

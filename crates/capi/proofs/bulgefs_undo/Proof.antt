@@ -20,7 +20,8 @@ same-length-2 c = search needs
 
 returns : tie.Need-returns
 returns c =
-    (undo-case _ (c .before .size .given .1) (c .before .before .before .before .before .before .before .undo .ensures .0), c .before .before .before .before .before .before .before .undo .ensures .1)
+    let undo = c .before .before .before .before .before .before .before .undo in
+    (undo-case _ (c .before .size .given .1) (undo .ensures .0), undo .ensures .1)
 
 same-length-3 : tie.Need-same-length-3
 same-length-3 c = search needs
@@ -30,7 +31,8 @@ same-length-4 c = search needs
 
 returns-2 : tie.Need-returns-2
 returns-2 c =
-    (undo-case _ (c .before .number .given .1) (c .before .before .before .before .before .before .before .undo .ensures .0), c .before .before .before .before .before .before .before .undo .ensures .1)
+    let undo = c .before .before .before .before .before .before .before .undo in
+    (undo-case _ (c .before .number .given .1) (undo .ensures .0), undo .ensures .1)
 
 pub bulgefs-undo-spec : {M : Type 1} → statement M
 bulgefs-undo-spec =

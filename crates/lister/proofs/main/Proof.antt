@@ -32,10 +32,24 @@ render-requires : tie.Need-render-requires
 render-requires c κs = search needs
 
 array-share-prefix-out : tie.Need-array-share-prefix-out
-array-share-prefix-out c = omega (arith, listing-short (take (c .before .before .before .before .before .before .read-full .result) (c .before .before .before .before .before .before .read-full .last .1 .0)), c .before .render .ensures .1, c .before .render .kept .1 .0, c .before .before .before .before .listing-buffer .ensures)
+array-share-prefix-out c =
+    let listing-buffer = c .before .before .before .before .listing-buffer in
+    let read-full = c .before .before .before .before .before .before .read-full in
+    omega (
+      arith,
+      listing-short (take (read-full .result) (read-full .last .1 .0)),
+      c .before .render .ensures .1,
+      c .before .render .kept .1 .0,
+      listing-buffer .ensures,
+    )
 
 slice-aggregate-write-all : tie.Need-slice-aggregate-write-all
-slice-aggregate-write-all c = sym (length-take-le (c .before .before .render .result) (c .before .before .render .last .1 .0) (omega (arith, listing-short (take (c .before .before .before .before .before .before .before .read-full .result) (c .before .before .before .before .before .before .before .read-full .last .1 .0)), c .before .before .render .ensures .1, c .before .before .render .kept .1 .0, c .before .before .before .before .before .listing-buffer .ensures)))
+slice-aggregate-write-all c =
+    let render = c .before .before .render in
+    let listing-buffer = c .before .before .before .before .before .listing-buffer in
+    let read-full = c .before .before .before .before .before .before .before .read-full in
+    sym (length-take-le (render .result) (render .last .1 .0)
+    (omega (arith, listing-short (take (read-full .result) (read-full .last .1 .0)), render .ensures .1, render .kept .1 .0, listing-buffer .ensures)))
 
 write-all-requires : tie.Need-write-all-requires
 write-all-requires c κs = search needs

@@ -17,7 +17,11 @@ same-length c = search needs
 
 returns : tie.Need-returns
 unfolding encoded lookAnswer
-returns c = c .before .before .put-numbers .ensures ∙ numbers-alone _ _ _ _ _ (c .before .before .before .before .before .before .before .pre) ∙ rw (c .before .before .before .before .check .ensures)
+returns c =
+    let put-numbers = c .before .before .put-numbers in
+    let check = c .before .before .before .before .check in
+    let p = c .before .before .before .before .before .before .before .pre in
+    put-numbers .ensures ∙ numbers-alone _ _ _ _ _ (p) ∙ rw (check .ensures)
 
 pub check-spec : {M : Type 1} → statement M
 check-spec = tie.close (tie.spec check-requires put-numbers-requires same-length returns)

@@ -25,7 +25,12 @@ same-length c = search needs
 
 returns : tie.Need-returns
 unfolding lookAnswer
-returns c = c .before .before .put-shown .ensures ∙ rw (c .before .before .before .before .look-in-place .ensures, c .before .before .before .before .before .name-of .ensures, c .before .before .before .before .before .before .get64 .ensures)
+returns c =
+    let put-shown = c .before .before .put-shown in
+    let look-in-place = c .before .before .before .before .look-in-place in
+    let name-of = c .before .before .before .before .before .name-of in
+    let get64 = c .before .before .before .before .before .before .get64 in
+    put-shown .ensures ∙ rw (look-in-place .ensures, name-of .ensures, get64 .ensures)
 
 pub look-in-place-spec : {M : Type 1} → statement M
 look-in-place-spec =

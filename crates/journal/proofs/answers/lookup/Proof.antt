@@ -22,7 +22,13 @@ same-length c = search needs
 
 returns : tie.Need-returns
 unfolding lookAnswer
-returns c = c .before .before .put-numbers .ensures ∙ numbers-alone _ _ _ _ _ (c .before .before .before .before .before .before .before .before .before .before .pre .1) ∙ c .before .before .before .found-numbers .ensures ∙ rw (c .before .before .before .before .before .lookup .ensures, c .before .before .before .before .before .before .name-of .ensures)
+returns c =
+    let put-numbers = c .before .before .put-numbers in
+    let found-numbers = c .before .before .before .found-numbers in
+    let lookup = c .before .before .before .before .before .lookup in
+    let name-of = c .before .before .before .before .before .before .name-of in
+    let p = c .before .before .before .before .before .before .before .before .before .before .pre in
+    put-numbers .ensures ∙ numbers-alone _ _ _ _ _ (p .1) ∙ found-numbers .ensures ∙ rw (lookup .ensures, name-of .ensures)
 
 pub lookup-spec : {M : Type 1} → statement M
 lookup-spec =

@@ -33,8 +33,18 @@ read-into-requires c κs = search needs
 
 filled-numbers-requires : tie.Need-filled-numbers-requires
 filled-numbers-requires c κs =
-    let a = c .before .before .before .before .before .before .before .before .before .args in
-    omega (arith, read-small (c .before .before .before .read-into .last .1 .1 .1 .0) _ _ _ _ (c .before .before .before .read-into .result) (c .before .before .before .read-into .ensures), length-data (a .script .now) (a .at) (c .before .before .before .before .before .before .before .before .before .pre .0), c .before .before .before .before .before .get32 .ensures)
+    let read-into = c .before .before .before .read-into in
+    let get32 = c .before .before .before .before .before .get32 in
+    let a′ = c .before .before .before .before .before .before .before .before .before .args in
+    let p = c .before .before .before .before .before .before .before .before .before .pre in
+    let a = a′ in
+    omega (
+      arith,
+      read-small (read-into .last .1 .1 .1 .0) _ _ _ _ (read-into .result) (read-into .ensures),
+      length-data (a .script .now) (a .at)
+          (p .0),
+      get32 .ensures,
+    )
 
 put-numbers-requires : tie.Need-put-numbers-requires
 put-numbers-requires c κs = search needs
@@ -45,9 +55,16 @@ same-length c = search needs
 returns : tie.Need-returns
 unfolding lookAnswer
 returns c =
-    let a = c .before .before .before .before .before .before .before .before .before .before .before .before .before .args in
-    let l = length-data (a .script .now) (a .at) (c .before .before .before .before .before .before .before .before .before .before .before .before .before .pre .0) ∙ sym (c .before .before .before .before .before .before .before .before .before .get32 .ensures) in
-    read-written (a .part .now) (c .before .before .before .before .before .before .before .read-into .last .1 .1 .1 .0) _ _ _ _ _ (c .before .before .before .before .before .before .before .before .before .get32 .result) (c .before .before .before .before .before .before .before .read-into .result) _ _ _ _ (c .before .before .before .before .before .before .before .read-into .ensures) l (c .before .before .before .before .before .before .before .before .before .before .before .before .before .pre .1 ∙ rw (c .before .before .before .before .before .before .before .before .before .get32 .ensures)) (omega arith) (c .before .before .before .filled-numbers .ensures) (c .before .before .put-numbers .ensures)
+    let put-numbers = c .before .before .put-numbers in
+    let filled-numbers = c .before .before .before .filled-numbers in
+    let read-into = c .before .before .before .before .before .before .before .read-into in
+    let get32 = c .before .before .before .before .before .before .before .before .before .get32 in
+    let a′ = c .before .before .before .before .before .before .before .before .before .before .before .before .before .args in
+    let p = c .before .before .before .before .before .before .before .before .before .before .before .before .before .pre in
+    let a = a′ in
+    let l = length-data (a .script .now) (a .at) (p .0) ∙ sym (get32 .ensures) in
+    read-written (a .part .now) (read-into .last .1 .1 .1 .0) _ _ _ _ _ (get32 .result) (read-into .result) _ _ _ _ (read-into .ensures) l
+    (p .1 ∙ rw (get32 .ensures)) (omega arith) (filled-numbers .ensures) (put-numbers .ensures)
 
 pub read-spec : {M : Type 1} → statement M
 read-spec =

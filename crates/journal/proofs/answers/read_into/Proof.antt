@@ -9,7 +9,9 @@ data-of-requires : tie.Need-data-of-requires
 data-of-requires c κs = search needs
 
 copy-requires : tie.Need-copy-requires
-copy-requires c κs = ap length (c .before .data-of .ensures) ∙ length-data _ _ (c .before .before .before .before .before .pre .0) ∙ sym (c .before .before .before .before .before .pre .1)
+copy-requires c κs =
+    let p = c .before .before .before .before .before .pre in
+    ap length (c .before .data-of .ensures) ∙ length-data _ _ (p .0) ∙ sym (p .1)
 
 add-get64 : tie.Need-add-get64
 add-get64 c = search needs
@@ -27,7 +29,13 @@ same-length : tie.Need-same-length
 same-length c = search needs
 
 returns : tie.Need-returns
-returns c = c .before .before .read .ensures ∙ rw (c .before .before .before .before .before .before .before .before .copy .ensures, c .before .before .before .before .before .before .before .before .before .before .data-of .ensures, c .before .before .before .before .name-of .ensures, c .before .before .before .before .before .get64 .ensures)
+returns c =
+    let read = c .before .before .read in
+    let name-of = c .before .before .before .before .name-of in
+    let get64 = c .before .before .before .before .before .get64 in
+    let copy = c .before .before .before .before .before .before .before .before .copy in
+    let data-of = c .before .before .before .before .before .before .before .before .before .before .data-of in
+    read .ensures ∙ rw (copy .ensures, data-of .ensures, name-of .ensures, get64 .ensures)
 
 pub read-into-spec : {M : Type 1} → statement M
 read-into-spec =

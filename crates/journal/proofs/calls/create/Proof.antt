@@ -31,10 +31,18 @@ same-length-4 c = search needs
 
 returns-2 : tie.Need-returns-2
 unfolding refusal
-returns-2 c = change-refused _ _ _ (ready _ _ (sym (c .before .before .before .before .inspect .ensures .weighed) ∙ c .before .before .before .if1 .left)) _ (c .before .create-refusal .ensures) (c .if2 .taken)
+returns-2 c =
+    let if1 = c .before .before .before .if1 in
+    let inspect = c .before .before .before .before .inspect in
+    change-refused _ _ _ (ready _ _ (sym (inspect .ensures .weighed) ∙ if1 .left)) _ (c .before .create-refusal .ensures) (c .if2 .taken)
 
 record-create-requires : tie.Need-record-create-requires
-record-create-requires c κs = (ready _ _ (sym (c .before .before .before .before .before .before .inspect .ensures .weighed) ∙ c .before .before .before .before .before .if1 .left), create-given _ _ _ (sym (c .before .before .before .create-refusal .ensures) ∙ c .before .before .if2 .left) .some)
+record-create-requires c κs =
+    let if2 = c .before .before .if2 in
+    let create-refusal = c .before .before .before .create-refusal in
+    let if1 = c .before .before .before .before .before .if1 in
+    let inspect = c .before .before .before .before .before .before .inspect in
+    (ready _ _ (sym (inspect .ensures .weighed) ∙ if1 .left), create-given _ _ _ (sym (create-refusal .ensures) ∙ if2 .left) .some)
 
 same-length-5 : tie.Need-same-length-5
 same-length-5 c = search needs
@@ -44,10 +52,22 @@ same-length-6 c = search needs
 
 returns-3 : tie.Need-returns-3
 unfolding refusal recordOf named
-returns-3 c = change-full _ _ _ (ready _ _ (sym (c .before .before .before .before .before .before .before .before .before .before .inspect .ensures .weighed) ∙ c .before .before .before .before .before .before .before .before .before .if1 .left)) (sym (c .before .before .before .before .before .before .before .create-refusal .ensures) ∙ c .before .before .before .before .before .before .if2 .left) _ _ (c .before .before .before .record-create .ensures) (c .if3 .taken)
+returns-3 c =
+    let record-create = c .before .before .before .record-create in
+    let if2 = c .before .before .before .before .before .before .if2 in
+    let create-refusal = c .before .before .before .before .before .before .before .create-refusal in
+    let if1 = c .before .before .before .before .before .before .before .before .before .if1 in
+    let inspect = c .before .before .before .before .before .before .before .before .before .before .inspect in
+    change-full _ _ _ (ready _ _ (sym (inspect .ensures .weighed) ∙ if1 .left)) (sym (create-refusal .ensures) ∙ if2 .left) _ _
+    (record-create .ensures) (c .if3 .taken)
 
 create-requires : tie.Need-create-requires
-create-requires c κs = (ready _ _ (sym (c .before .before .before .before .before .before .before .before .before .before .before .inspect .ensures .weighed) ∙ c .before .before .before .before .before .before .before .before .before .before .if1 .left) .sound, sym (c .before .before .before .before .before .before .before .before .create-refusal .ensures) ∙ c .before .before .before .before .before .before .before .if2 .left)
+create-requires c κs =
+    let if2 = c .before .before .before .before .before .before .before .if2 in
+    let create-refusal = c .before .before .before .before .before .before .before .before .create-refusal in
+    let if1 = c .before .before .before .before .before .before .before .before .before .before .if1 in
+    let inspect = c .before .before .before .before .before .before .before .before .before .before .before .inspect in
+    (ready _ _ (sym (inspect .ensures .weighed) ∙ if1 .left) .sound, sym (create-refusal .ensures) ∙ if2 .left)
 
 same-length-7 : tie.Need-same-length-7
 same-length-7 c = search needs
@@ -57,7 +77,16 @@ same-length-8 c = search needs
 
 returns-4 : tie.Need-returns-4
 unfolding refusal recordOf named slotGiven after
-returns-4 c = change-done _ _ _ (ready _ _ (sym (c .before .before .before .before .before .before .before .before .before .before .before .before .before .before .inspect .ensures .weighed) ∙ c .before .before .before .before .before .before .before .before .before .before .before .before .before .if1 .left)) (sym (c .before .before .before .before .before .before .before .before .before .before .before .create-refusal .ensures) ∙ c .before .before .before .before .before .before .before .before .before .before .if2 .left) _ _ (c .before .before .before .before .before .before .before .record-create .ensures) (c .before .before .before .before .if3 .left) _ (c .before .before .create .ensures .0) _ (c .before .before .create .ensures .1)
+returns-4 c =
+    let create = c .before .before .create in
+    let if3 = c .before .before .before .before .if3 in
+    let record-create = c .before .before .before .before .before .before .before .record-create in
+    let if2 = c .before .before .before .before .before .before .before .before .before .before .if2 in
+    let create-refusal = c .before .before .before .before .before .before .before .before .before .before .before .create-refusal in
+    let if1 = c .before .before .before .before .before .before .before .before .before .before .before .before .before .if1 in
+    let inspect = c .before .before .before .before .before .before .before .before .before .before .before .before .before .before .inspect in
+    change-done _ _ _ (ready _ _ (sym (inspect .ensures .weighed) ∙ if1 .left)) (sym (create-refusal .ensures) ∙ if2 .left) _ _
+    (record-create .ensures) (if3 .left) _ (create .ensures .0) _ (create .ensures .1)
 
 pub create-spec : {M : Type 1} → statement M
 create-spec =

@@ -29,10 +29,18 @@ same-length-4 c = search needs
 
 returns-2 : tie.Need-returns-2
 unfolding refusal
-returns-2 c = change-refused _ _ _ (ready _ _ (sym (c .before .before .before .before .inspect .ensures .weighed) ∙ c .before .before .before .if1 .left)) _ (c .before .delete-refusal .ensures) (c .if2 .taken)
+returns-2 c =
+    let if1 = c .before .before .before .if1 in
+    let inspect = c .before .before .before .before .inspect in
+    change-refused _ _ _ (ready _ _ (sym (inspect .ensures .weighed) ∙ if1 .left)) _ (c .before .delete-refusal .ensures) (c .if2 .taken)
 
 record-delete-requires : tie.Need-record-delete-requires
-record-delete-requires c κs = (ready _ _ (sym (c .before .before .before .before .before .before .inspect .ensures .weighed) ∙ c .before .before .before .before .before .if1 .left), sym (c .before .before .before .delete-refusal .ensures) ∙ c .before .before .if2 .left)
+record-delete-requires c κs =
+    let if2 = c .before .before .if2 in
+    let delete-refusal = c .before .before .before .delete-refusal in
+    let if1 = c .before .before .before .before .before .if1 in
+    let inspect = c .before .before .before .before .before .before .inspect in
+    (ready _ _ (sym (inspect .ensures .weighed) ∙ if1 .left), sym (delete-refusal .ensures) ∙ if2 .left)
 
 same-length-5 : tie.Need-same-length-5
 same-length-5 c = search needs
@@ -42,10 +50,22 @@ same-length-6 c = search needs
 
 returns-3 : tie.Need-returns-3
 unfolding refusal recordOf named
-returns-3 c = change-full _ _ _ (ready _ _ (sym (c .before .before .before .before .before .before .before .before .before .before .inspect .ensures .weighed) ∙ c .before .before .before .before .before .before .before .before .before .if1 .left)) (sym (c .before .before .before .before .before .before .before .delete-refusal .ensures) ∙ c .before .before .before .before .before .before .if2 .left) _ _ (c .before .before .before .record-delete .ensures) (c .if3 .taken)
+returns-3 c =
+    let record-delete = c .before .before .before .record-delete in
+    let if2 = c .before .before .before .before .before .before .if2 in
+    let delete-refusal = c .before .before .before .before .before .before .before .delete-refusal in
+    let if1 = c .before .before .before .before .before .before .before .before .before .if1 in
+    let inspect = c .before .before .before .before .before .before .before .before .before .before .inspect in
+    change-full _ _ _ (ready _ _ (sym (inspect .ensures .weighed) ∙ if1 .left)) (sym (delete-refusal .ensures) ∙ if2 .left) _ _
+    (record-delete .ensures) (c .if3 .taken)
 
 delete-requires : tie.Need-delete-requires
-delete-requires c κs = (ready _ _ (sym (c .before .before .before .before .before .before .before .before .before .before .before .inspect .ensures .weighed) ∙ c .before .before .before .before .before .before .before .before .before .before .if1 .left) .sound, sym (c .before .before .before .before .before .before .before .before .delete-refusal .ensures) ∙ c .before .before .before .before .before .before .before .if2 .left)
+delete-requires c κs =
+    let if2 = c .before .before .before .before .before .before .before .if2 in
+    let delete-refusal = c .before .before .before .before .before .before .before .before .delete-refusal in
+    let if1 = c .before .before .before .before .before .before .before .before .before .before .if1 in
+    let inspect = c .before .before .before .before .before .before .before .before .before .before .before .inspect in
+    (ready _ _ (sym (inspect .ensures .weighed) ∙ if1 .left) .sound, sym (delete-refusal .ensures) ∙ if2 .left)
 
 same-length-7 : tie.Need-same-length-7
 same-length-7 c = search needs
@@ -55,7 +75,16 @@ same-length-8 c = search needs
 
 returns-4 : tie.Need-returns-4
 unfolding refusal recordOf named slotGiven after
-returns-4 c = change-done _ _ _ (ready _ _ (sym (c .before .before .before .before .before .before .before .before .before .before .before .before .before .before .inspect .ensures .weighed) ∙ c .before .before .before .before .before .before .before .before .before .before .before .before .before .if1 .left)) (sym (c .before .before .before .before .before .before .before .before .before .before .before .delete-refusal .ensures) ∙ c .before .before .before .before .before .before .before .before .before .before .if2 .left) _ _ (c .before .before .before .before .before .before .before .record-delete .ensures) (c .before .before .before .before .if3 .left) _ refl _ (c .before .before .delete .ensures)
+returns-4 c =
+    let delete = c .before .before .delete in
+    let if3 = c .before .before .before .before .if3 in
+    let record-delete = c .before .before .before .before .before .before .before .record-delete in
+    let if2 = c .before .before .before .before .before .before .before .before .before .before .if2 in
+    let delete-refusal = c .before .before .before .before .before .before .before .before .before .before .before .delete-refusal in
+    let if1 = c .before .before .before .before .before .before .before .before .before .before .before .before .before .if1 in
+    let inspect = c .before .before .before .before .before .before .before .before .before .before .before .before .before .before .inspect in
+    change-done _ _ _ (ready _ _ (sym (inspect .ensures .weighed) ∙ if1 .left)) (sym (delete-refusal .ensures) ∙ if2 .left) _ _
+    (record-delete .ensures) (if3 .left) _ refl _ (delete .ensures)
 
 pub delete-spec : {M : Type 1} → statement M
 delete-spec =

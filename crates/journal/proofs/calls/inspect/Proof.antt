@@ -23,8 +23,11 @@ returns-2 c =
 
 returns-3 : tie.Need-returns-3
 returns-3 c =
-    let t : c .before .scan .result .ok ≡ true = not-false _ (c .if2 .left) in
-    inspects-ready _ _ (sym (c .before .before .before .check .ensures) ∙ c .before .before .if1 .left) (sym t ∙ c .before .scan .ensures .well) (c .before .scan .ensures .found t)
+    let scan = c .before .scan in
+    let if1 = c .before .before .if1 in
+    let check = c .before .before .before .check in
+    let t : scan .result .ok ≡ true = not-false _ (c .if2 .left) in
+    inspects-ready _ _ (sym (check .ensures) ∙ if1 .left) (sym t ∙ scan .ensures .well) (scan .ensures .found t)
 
 pub inspect-spec : {M : Type 1} → statement M
 inspect-spec = tie.close (tie.spec check-requires returns scan-requires returns-2 returns-3)

@@ -42,10 +42,14 @@ same-length-6 c = search needs
 
 returns-3 : tie.Need-returns-3
 returns-3 c =
-    let t = c .before .before .before .before .take-back .ensures in
+    let take-back = c .before .before .before .before .take-back in
+    let if2 = c .before .before .before .before .before .before .before .if2 in
+    let if1 = c .before .before .before .before .before .before .before .before .if1 in
+    let inspect = c .before .before .before .before .before .before .before .before .before .inspect in
+    let t = take-back .ensures in
     undo-done _ _ _
-    (last-ready (ready _ _ (sym (c .before .before .before .before .before .before .before .before .before .inspect .ensures .weighed) ∙ c .before .before .before .before .before .before .before .before .if1 .left))
-    (c .before .before .before .before .before .before .before .before .before .inspect .ensures .found (c .before .before .before .before .before .before .before .before .if1 .left)) (c .before .before .before .before .before .before .before .if2 .left))
+    (last-ready (ready _ _ (sym (inspect .ensures .weighed) ∙ if1 .left))
+    (inspect .ensures .found (if1 .left)) (if2 .left))
     _ (t .0) _ _ (t .1 .0) (t .1 .1)
 
 pub undo-spec : {M : Type 1} → statement M

@@ -29,10 +29,18 @@ same-length-4 c = search needs
 
 returns-2 : tie.Need-returns-2
 unfolding refusal
-returns-2 c = change-refused _ _ _ (ready _ _ (sym (c .before .before .before .before .inspect .ensures .weighed) ∙ c .before .before .before .if1 .left)) _ (c .before .write-refusal .ensures) (c .if2 .taken)
+returns-2 c =
+    let if1 = c .before .before .before .if1 in
+    let inspect = c .before .before .before .before .inspect in
+    change-refused _ _ _ (ready _ _ (sym (inspect .ensures .weighed) ∙ if1 .left)) _ (c .before .write-refusal .ensures) (c .if2 .taken)
 
 record-write-requires : tie.Need-record-write-requires
-record-write-requires c κs = (ready _ _ (sym (c .before .before .before .before .before .before .inspect .ensures .weighed) ∙ c .before .before .before .before .before .if1 .left), sym (c .before .before .before .write-refusal .ensures) ∙ c .before .before .if2 .left)
+record-write-requires c κs =
+    let if2 = c .before .before .if2 in
+    let write-refusal = c .before .before .before .write-refusal in
+    let if1 = c .before .before .before .before .before .if1 in
+    let inspect = c .before .before .before .before .before .before .inspect in
+    (ready _ _ (sym (inspect .ensures .weighed) ∙ if1 .left), sym (write-refusal .ensures) ∙ if2 .left)
 
 same-length-5 : tie.Need-same-length-5
 same-length-5 c = search needs
@@ -42,10 +50,22 @@ same-length-6 c = search needs
 
 returns-3 : tie.Need-returns-3
 unfolding refusal recordOf named
-returns-3 c = change-full _ _ _ (ready _ _ (sym (c .before .before .before .before .before .before .before .before .before .before .inspect .ensures .weighed) ∙ c .before .before .before .before .before .before .before .before .before .if1 .left)) (sym (c .before .before .before .before .before .before .before .write-refusal .ensures) ∙ c .before .before .before .before .before .before .if2 .left) _ _ (c .before .before .before .record-write .ensures) (c .if3 .taken)
+returns-3 c =
+    let record-write = c .before .before .before .record-write in
+    let if2 = c .before .before .before .before .before .before .if2 in
+    let write-refusal = c .before .before .before .before .before .before .before .write-refusal in
+    let if1 = c .before .before .before .before .before .before .before .before .before .if1 in
+    let inspect = c .before .before .before .before .before .before .before .before .before .before .inspect in
+    change-full _ _ _ (ready _ _ (sym (inspect .ensures .weighed) ∙ if1 .left)) (sym (write-refusal .ensures) ∙ if2 .left) _ _ (record-write .ensures)
+    (c .if3 .taken)
 
 write-requires : tie.Need-write-requires
-write-requires c κs = (ready _ _ (sym (c .before .before .before .before .before .before .before .before .before .before .before .inspect .ensures .weighed) ∙ c .before .before .before .before .before .before .before .before .before .before .if1 .left) .sound, sym (c .before .before .before .before .before .before .before .before .write-refusal .ensures) ∙ c .before .before .before .before .before .before .before .if2 .left)
+write-requires c κs =
+    let if2 = c .before .before .before .before .before .before .before .if2 in
+    let write-refusal = c .before .before .before .before .before .before .before .before .write-refusal in
+    let if1 = c .before .before .before .before .before .before .before .before .before .before .if1 in
+    let inspect = c .before .before .before .before .before .before .before .before .before .before .before .inspect in
+    (ready _ _ (sym (inspect .ensures .weighed) ∙ if1 .left) .sound, sym (write-refusal .ensures) ∙ if2 .left)
 
 same-length-7 : tie.Need-same-length-7
 same-length-7 c = search needs
@@ -55,7 +75,16 @@ same-length-8 c = search needs
 
 returns-4 : tie.Need-returns-4
 unfolding refusal recordOf named slotGiven after
-returns-4 c = change-done _ _ _ (ready _ _ (sym (c .before .before .before .before .before .before .before .before .before .before .before .before .before .before .inspect .ensures .weighed) ∙ c .before .before .before .before .before .before .before .before .before .before .before .before .before .if1 .left)) (sym (c .before .before .before .before .before .before .before .before .before .before .before .write-refusal .ensures) ∙ c .before .before .before .before .before .before .before .before .before .before .if2 .left) _ _ (c .before .before .before .before .before .before .before .record-write .ensures) (c .before .before .before .before .if3 .left) _ refl _ (c .before .before .write .ensures)
+returns-4 c =
+    let write = c .before .before .write in
+    let if3 = c .before .before .before .before .if3 in
+    let record-write = c .before .before .before .before .before .before .before .record-write in
+    let if2 = c .before .before .before .before .before .before .before .before .before .before .if2 in
+    let write-refusal = c .before .before .before .before .before .before .before .before .before .before .before .write-refusal in
+    let if1 = c .before .before .before .before .before .before .before .before .before .before .before .before .before .if1 in
+    let inspect = c .before .before .before .before .before .before .before .before .before .before .before .before .before .before .inspect in
+    change-done _ _ _ (ready _ _ (sym (inspect .ensures .weighed) ∙ if1 .left)) (sym (write-refusal .ensures) ∙ if2 .left) _ _ (record-write .ensures)
+    (if3 .left) _ refl _ (write .ensures)
 
 pub write-spec : {M : Type 1} → statement M
 write-spec =

@@ -22,7 +22,11 @@ same-length : tie.Need-same-length
 same-length c = search needs
 
 returns : tie.Need-returns
-returns c = c .before .before .record-marked .ensures _ (c .before .before .before .before .before .before .create-named .ensures ∙ rw (c .before .before .before .before .before .before .before .before .no-marks .ensures))
+returns c =
+    let record-marked = c .before .before .record-marked in
+    let create-named = c .before .before .before .before .before .before .create-named in
+    let no-marks = c .before .before .before .before .before .before .before .before .no-marks in
+    record-marked .ensures _ (create-named .ensures ∙ rw (no-marks .ensures))
 
 pub record-create-spec : {M : Type 1} → statement M
 record-create-spec =

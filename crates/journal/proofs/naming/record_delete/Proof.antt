@@ -22,7 +22,11 @@ same-length : tie.Need-same-length
 same-length c = search needs
 
 returns : tie.Need-returns
-returns c = c .before .before .record-marked .ensures _ (c .before .before .before .before .before .before .delete-named .ensures ∙ rw (c .before .before .before .before .before .before .before .before .no-marks .ensures))
+returns c =
+    let record-marked = c .before .before .record-marked in
+    let delete-named = c .before .before .before .before .before .before .delete-named in
+    let no-marks = c .before .before .before .before .before .before .before .before .no-marks in
+    record-marked .ensures _ (delete-named .ensures ∙ rw (no-marks .ensures))
 
 pub record-delete-spec : {M : Type 1} → statement M
 record-delete-spec =

@@ -22,7 +22,11 @@ same-length : tie.Need-same-length
 same-length c = search needs
 
 returns : tie.Need-returns
-returns c = c .before .before .record-marked .ensures _ (c .before .before .before .before .before .before .write-named .ensures ∙ rw (c .before .before .before .before .before .before .before .before .no-marks .ensures))
+returns c =
+    let record-marked = c .before .before .record-marked in
+    let write-named = c .before .before .before .before .before .before .write-named in
+    let no-marks = c .before .before .before .before .before .before .before .before .no-marks in
+    record-marked .ensures _ (write-named .ensures ∙ rw (no-marks .ensures))
 
 pub record-write-spec : {M : Type 1} → statement M
 record-write-spec =

@@ -24,14 +24,20 @@ add-save-blocks c = search needs
 
 save-blocks-requires : tie.Need-save-blocks-requires
 unfolding used
-save-blocks-requires c κs = (c .before .before .before .before .before .before .before .before .before .before .pre .0 .0, omega (arith, c .before .before .before .before .before .before .before .before .before .before .pre, c .before .before .before .before .before .get32 .ensures))
+save-blocks-requires c κs =
+    let get32 = c .before .before .before .before .before .get32 in
+    let p = c .before .before .before .before .before .before .before .before .before .before .pre in
+    (p .0 .0, omega (arith, p, get32 .ensures))
 
 add-end : tie.Need-add-end
 add-end c = search needs
 
 cast-put32-2 : tie.Need-cast-put32-2
 unfolding used
-cast-put32-2 c = omega (arith, c .before .before .before .before .before .before .before .before .before .before .before .before .before .before .pre, c .before .before .before .before .before .before .before .before .before .get32 .ensures)
+cast-put32-2 c =
+    let get32 = c .before .before .before .before .before .before .before .before .before .get32 in
+    let p = c .before .before .before .before .before .before .before .before .before .before .before .before .before .before .pre in
+    omega (arith, p, get32 .ensures)
 
 put32-requires-2 : tie.Need-put32-requires-2
 put32-requires-2 c κs = search needs
@@ -42,8 +48,15 @@ same-length c = search needs
 returns : tie.Need-returns
 unfolding used
 returns c =
-    let a = c .before .before .before .before .before .before .before .before .before .before .before .before .before .before .before .before .before .args in
-    c .before .before .put322 .ensures ∙ rw (c .before .before .before .before .before .before .save-blocks .ensures, c .before .before .before .before .before .before .before .before .before .before .put32 .ensures) (record-made (a .image .now) (a .marks .now) (a .journal .now) (a .n) _ (a .size) (c .before .before .before .before .before .before .before .before .before .before .before .before .before .before .before .before .before .pre .0 .0) (c .before .before .before .before .before .before .before .before .before .before .before .before .get32 .ensures) (c .before .before .before .before .before .before .before .before .before .before .before .before .before .before .before .before .before .pre .0 .1) (omega (arith, c .before .before .before .before .before .before .before .before .before .before .before .before .before .before .before .before .before .pre, c .before .before .before .before .before .before .before .before .before .before .before .before .get32 .ensures)))
+    let put322 = c .before .before .put322 in
+    let save-blocks = c .before .before .before .before .before .before .save-blocks in
+    let put32 = c .before .before .before .before .before .before .before .before .before .before .put32 in
+    let get32 = c .before .before .before .before .before .before .before .before .before .before .before .before .get32 in
+    let a′ = c .before .before .before .before .before .before .before .before .before .before .before .before .before .before .before .before .before .args in
+    let p = c .before .before .before .before .before .before .before .before .before .before .before .before .before .before .before .before .before .pre in
+    let a = a′ in
+    put322 .ensures ∙ rw (save-blocks .ensures, put32 .ensures)
+    (record-made (a .image .now) (a .marks .now) (a .journal .now) (a .n) _ (a .size) (p .0 .0) (get32 .ensures) (p .0 .1) (omega (arith, p, get32 .ensures)))
 
 pub add-record-spec : {M : Type 1} → statement M
 add-record-spec =

@@ -30,13 +30,19 @@ same-length c = search needs
 
 returns : tie.Need-returns
 unfolding used
-returns c = λ named e. not-recorded _ _ _ named (c .before .before .before .before .before .before .before .pre .0) e _ (c .before .before .before .record-size .ensures) (omega (arith, c .before .get32 .ensures, c .if1 .taken))
+returns c =
+    let record-size = c .before .before .before .record-size in
+    let p = c .before .before .before .before .before .before .before .pre in
+    λ named e. not-recorded _ _ _ named (p .0) e _ (record-size .ensures) (omega (arith, c .before .get32 .ensures, c .if1 .taken))
 
 add-record-requires : tie.Need-add-record-requires
 unfolding used
 add-record-requires c κs =
-    let w = well _ _ (c .before .before .before .before .before .before .before .before .pre .0 .well-formed) in
-    ((marks-ready _ _ _ (c .before .before .before .before .before .before .before .before .pre .0) (c .before .before .before .before .before .before .before .before .pre .1), c .before .before .before .before .record-size .ensures), (w .used-low, omega (arith, c .before .before .get32 .ensures, c .before .if1 .left), w .short))
+    let get32 = c .before .before .get32 in
+    let record-size = c .before .before .before .before .record-size in
+    let p = c .before .before .before .before .before .before .before .before .pre in
+    let w = well _ _ (p .0 .well-formed) in
+    ((marks-ready _ _ _ (p .0) (p .1), record-size .ensures), (w .used-low, omega (arith, get32 .ensures, c .before .if1 .left), w .short))
 
 cast-result : tie.Need-cast-result
 unfolding used
@@ -49,7 +55,13 @@ same-length-2 c = search needs
 
 returns-2 : tie.Need-returns-2
 unfolding used
-returns-2 c = λ named e. now-recorded _ _ _ named (c .before .before .before .before .before .before .before .before .before .before .before .pre .0) e _ (c .before .before .before .before .before .before .before .record-size .ensures) (omega (arith, c .before .before .before .before .before .get32 .ensures, c .before .before .before .before .if1 .left)) _ (c .before .before .add-record .ensures)
+returns-2 c =
+    let add-record = c .before .before .add-record in
+    let if1 = c .before .before .before .before .if1 in
+    let get32 = c .before .before .before .before .before .get32 in
+    let record-size = c .before .before .before .before .before .before .before .record-size in
+    let p = c .before .before .before .before .before .before .before .before .before .before .before .pre in
+    λ named e. now-recorded _ _ _ named (p .0) e _ (record-size .ensures) (omega (arith, get32 .ensures, if1 .left)) _ (add-record .ensures)
 
 pub record-marked-spec : {M : Type 1} → statement M
 record-marked-spec =

@@ -29,8 +29,10 @@ loop-less c = omega arith
 
 loop-again : tie.Need-loop-again Inv-loop μ-loop
 loop-again c =
-    let e = marked-skip (c .before .before .before .before .args .marks .now) (c .before .before .before .loop .i) (c .before .before .before .before .args .n) (omega arith) (c .if1 .taken) in
-    (omega arith, omega arith, rw (← e) (c .before .before .before .loop .inv .2))
+    let l = c .before .before .before .loop in
+    let a = c .before .before .before .before .args in
+    let e = marked-skip (a .marks .now) (l .i) (a .n) (omega arith) (c .if1 .taken) in
+    (omega arith, omega arith, rw (← e) (l .inv .2))
 
 add-size : tie.Need-add-size Inv-loop μ-loop
 add-size c = omega arith
@@ -43,11 +45,15 @@ loop-less-2 c = omega arith
 
 loop-again-2 : tie.Need-loop-again-2 Inv-loop μ-loop
 loop-again-2 c =
-    let e = ap length (marked-take (c .before .before .before .before .args .marks .now) (c .before .before .before .loop .i) (c .before .before .before .before .args .n) (omega arith) (c .if1 .left)) in
-    (omega arith, omega arith, omega (arith, e, c .before .before .before .loop .inv .2))
+    let l = c .before .before .before .loop in
+    let a = c .before .before .before .before .args in
+    let e = ap length (marked-take (a .marks .now) (l .i) (a .n) (omega arith) (c .if1 .left)) in
+    (omega arith, omega arith, omega (arith, e, l .inv .2))
 
 returns : tie.Need-returns Inv-loop μ-loop
-returns c = omega (arith, ap length (marked-done (c .before .before .args .marks .now) (c .before .loop .i) (c .before .before .args .n) (omega arith)), c .before .loop .inv .2)
+returns c =
+    let a = c .before .before .args in
+    omega (arith, ap length (marked-done (a .marks .now) (c .before .loop .i) (a .n) (omega arith)), c .before .loop .inv .2)
 
 pub record-size-spec : {M : Type 1} → statement M
 record-size-spec =

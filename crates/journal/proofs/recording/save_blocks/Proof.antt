@@ -38,7 +38,9 @@ add-e c = omega arith
 
 add-q : tie.Need-add-q Inv-loop μ-loop
 add-q c =
-    let r = save-room _ _ _ _ _ _ _ _ (c .before .before .before .loop .inv) (omega arith) (c .if1 .left) (c .before .before .before .before .before .before .before .pre .1) in
+    let l = c .before .before .before .loop in
+    let p = c .before .before .before .before .before .before .before .pre in
+    let r = save-room _ _ _ _ _ _ _ _ (l .inv) (omega arith) (c .if1 .left) (p .1) in
     omega arith
 
 sub-save-block : tie.Need-sub-save-block Inv-loop μ-loop
@@ -58,12 +60,17 @@ part-save-block-start-2 c = omega arith
 
 part-save-block-end-2 : tie.Need-part-save-block-end-2 Inv-loop μ-loop
 part-save-block-end-2 c =
-    let r = save-room _ _ _ _ _ _ _ _ (c .before .before .before .before .loop .inv) (omega arith) (c .before .if1 .left) (c .before .before .before .before .before .before .before .before .pre .1) in
+    let l = c .before .before .before .before .loop in
+    let p = c .before .before .before .before .before .before .before .before .pre in
+    let r = save-room _ _ _ _ _ _ _ _ (l .inv) (omega arith) (c .before .if1 .left) (p .1) in
     omega arith
 
 save-block-requires : tie.Need-save-block-requires Inv-loop μ-loop
 save-block-requires c κs =
-    let r = save-room _ _ _ _ _ _ _ _ (c .before .before .before .before .before .loop .inv) (omega arith) (c .before .before .if1 .left) (c .before .before .before .before .before .before .before .before .before .pre .1) in
+    let if1 = c .before .before .if1 in
+    let l = c .before .before .before .before .before .loop in
+    let p = c .before .before .before .before .before .before .before .before .before .pre in
+    let r = save-room _ _ _ _ _ _ _ _ (l .inv) (omega arith) (if1 .left) (p .1) in
     (simp (length-take, length-drop) (omega arith), simp (length-take, length-drop) (omega arith), omega arith)
 
 add-b-2 : tie.Need-add-b-2 Inv-loop μ-loop
@@ -74,12 +81,18 @@ loop-less-2 c = omega arith
 
 loop-again-2 : tie.Need-loop-again-2 Inv-loop μ-loop
 loop-again-2 c =
-    let a = c .before .before .before .before .before .before .before .before .before .before .before .before .args in
-    let b = c .before .before .before .before .before .before .before .before .loop .b in
+    let save-block = c .before .before .save-block in
+    let if1 = c .before .before .before .before .before .if1 in
+    let l = c .before .before .before .before .before .before .before .before .loop in
+    let a′ = c .before .before .before .before .before .before .before .before .before .before .before .before .args in
+    let p = c .before .before .before .before .before .before .before .before .before .before .before .before .pre in
+    let a = a′ in
+    let b = l .b in
     let n : 512 * b + 512 - 512 * b ≡ 512 = omega arith in
-    let k = c .before .before .before .before .before .before .before .before .before .before .before .before .pre .0 in
-    save-one _ _ _ _ _ _ _ _ (c .before .before .before .before .before .before .before .before .loop .inv) k (omega arith) (c .before .before .before .before .before .if1 .left) (c .before .before .before .before .before .before .before .before .before .before .before .before .pre .1) _
-    (lent _ (c .before .before .before .before .before .before .before .before .loop .p) (c .before .before .before .before .before .before .before .before .loop .p + 516 - c .before .before .before .before .before .before .before .before .loop .p) _ (piece (a .image .now) b) (c .before .before .save-block .ensures ∙ rw n) (length-piece (a .n) (a .image .now) (k .whole) (k .blocks) b (omega arith) ∙ omega arith))
+    let k = p .0 in
+    save-one _ _ _ _ _ _ _ _ (l .inv) k (omega arith) (if1 .left) (p .1) _
+    (lent _ (l .p) (l .p + 516 - l .p) _ (piece (a .image .now) b) (save-block .ensures ∙ rw n)
+    (length-piece (a .n) (a .image .now) (k .whole) (k .blocks) b (omega arith) ∙ omega arith))
 
 same-length : tie.Need-same-length Inv-loop μ-loop
 same-length c = c .before .loop .inv .long

@@ -83,16 +83,20 @@ loop-less c = omega arith
 
 loop-again : tie.Need-loop-again Inv-loop μ-loop
 loop-again c =
-    let a = c .before .before .before .before .before .before .before .before .before .before .args in
-    let l = c .before .before .before .before .before .before .before .loop in
-    let g = c .before .before .before .before .before .get32 .ensures in
+    let copy = c .before .before .copy in
+    let get32 = c .before .before .before .before .before .get32 in
+    let l′ = c .before .before .before .before .before .before .before .loop in
+    let a′ = c .before .before .before .before .before .before .before .before .before .before .args in
+    let a = a′ in
+    let l = l′ in
+    let g = get32 .ensures in
     let h = restore-below _ _ _ _ _ _ _ (l .inv) (omega arith) in
-    let b = c .before .before .before .before .before .get32 .result in
+    let b = get32 .result in
     let o : a .at + 4 + 516 * l .i + 4 ≡ a .at + 8 + 516 * l .i = omega arith in
     let w : a .at + 4 + 516 * l .i + 4 + 512 - (a .at + 4 + 516 * l .i + 4) ≡ 512 = omega arith in
     let q : length (bytesAt (a .journal .now) (a .at) (l .i)) ≡ 512 = length-part (a .journal .now) (a .at + 8 + 516 * l .i) 512 (omega arith) in
     restore-one _ _ _ _ _ _ _ (l .inv) (omega arith) _ (omega arith)
-    (lent (l .image) (512 * b) (512 * b + 512 - 512 * b) _ (bytesAt (a .journal .now) (a .at) (l .i)) (c .before .before .copy .ensures ∙ rw (w, o)) (q ∙ omega arith) ∙ rw g)
+    (lent (l .image) (512 * b) (512 * b + 512 - 512 * b) _ (bytesAt (a .journal .now) (a .at) (l .i)) (copy .ensures ∙ rw (w, o)) (q ∙ omega arith) ∙ rw g)
 
 same-length : tie.Need-same-length Inv-loop μ-loop
 same-length c = c .before .loop .inv .long

@@ -42,13 +42,17 @@ same-length-2 c = search needs
 
 returns : tie.Need-returns
 unfolding copies
-returns c = (
-  c .before .before .before .before .before .before .before .before .before .get32 .ensures ∙ rw (c .before .before .before .before .before .before .before .before .before .before .before .before .before .pre .last),
-  (
-    c .before .before .before .before .before .before .restore .ensures ∙ last-image _ _ _ (c .before .before .before .before .before .before .before .before .before .before .before .before .before .pre) _ (ap (λ (x : ℕ). (x - 4) / 516) (c .before .before .before .before .before .before .before .before .before .get32 .ensures)),
-    c .before .before .drop-record .ensures ∙ last-journal _ _ _ (c .before .before .before .before .before .before .before .before .before .before .before .before .before .pre) _ (c .before .before .before .before .before .before .before .before .before .get32 .ensures),
-  ),
-)
+returns c =
+    let drop-record = c .before .before .drop-record in
+    let restore = c .before .before .before .before .before .before .restore in
+    let get32 = c .before .before .before .before .before .before .before .before .before .get32 in
+    let p = c .before .before .before .before .before .before .before .before .before .before .before .before .before .pre in (
+      get32 .ensures ∙ rw (p .last),
+      (
+        restore .ensures ∙ last-image _ _ _ (p) _ (ap (λ (x : ℕ). (x - 4) / 516) (get32 .ensures)),
+        drop-record .ensures ∙ last-journal _ _ _ (p) _ (get32 .ensures),
+      ),
+    )
 
 pub take-back-spec : {M : Type 1} → statement M
 take-back-spec =

@@ -61,7 +61,10 @@ returns-3 : tie.Need-returns-3
 returns-3 c = search needs
 
 undo-requires : tie.Need-undo-requires
-undo-requires c κs = c .before .before .before .before .before .before .before .before .before .before .before .before .before .pre .0 .room ∙ size-high (c .before .before .before .before .before .before .before .before .before .before .before .before .before .args .script .now) (c .before .before .before .before .before .before .before .before .before .before .before .before .before .args .at) (c .before .before .before .before .before .before .before .before .before .before .before .before .before .pre .1)
+undo-requires c κs =
+    let a = c .before .before .before .before .before .before .before .before .before .before .before .before .before .args in
+    let p = c .before .before .before .before .before .before .before .before .before .before .before .before .before .pre in
+    p .0 .room ∙ size-high (a .script .now) (a .at) (p .1)
 
 same-length-10 : tie.Need-same-length-10
 same-length-10 c = search needs
@@ -74,8 +77,10 @@ same-length-12 c = search needs
 
 returns-4 : tie.Need-returns-4
 returns-4 c =
-    let op : opAt (c .before .before .before .before .before .before .before .before .before .before .before .before .before .before .before .before .before .before .before .before .args .script .now) (c .before .before .before .before .before .before .before .before .before .before .before .before .before .before .before .before .before .before .before .before .args .at) ≡ 8 = omega arith in
-    rw (is-undo _ _ op) (c .before .before .before .before .before .before .undo .ensures)
+    let undo = c .before .before .before .before .before .before .undo in
+    let a = c .before .before .before .before .before .before .before .before .before .before .before .before .before .before .before .before .before .before .before .before .args in
+    let op : opAt (a .script .now) (a .at) ≡ 8 = omega arith in
+    rw (is-undo _ _ op) (undo .ensures)
 
 pub change-spec : {M : Type 1} → statement M
 change-spec =

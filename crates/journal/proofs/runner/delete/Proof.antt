@@ -15,7 +15,10 @@ changed-numbers-requires : tie.Need-changed-numbers-requires
 changed-numbers-requires c κs = search needs
 
 put-numbers-requires : tie.Need-put-numbers-requires
-put-numbers-requires c κs = omega (arith, c .before .before .before .before .before .before .before .before .before .before .before .before .before .before .pre .0 .room, size-high (c .before .before .before .before .before .before .before .before .before .before .before .before .before .before .args .script .now) (c .before .before .before .before .before .before .before .before .before .before .before .before .before .before .args .at) (omega (arith, c .before .before .before .before .before .before .before .before .before .before .before .before .before .before .pre .1)))
+put-numbers-requires c κs =
+    let a = c .before .before .before .before .before .before .before .before .before .before .before .before .before .before .args in
+    let p = c .before .before .before .before .before .before .before .before .before .before .before .before .before .before .pre in
+    omega (arith, p .0 .room, size-high (a .script .now) (a .at) (omega (arith, p .1)))
 
 same-length : tie.Need-same-length
 same-length c = search needs
@@ -28,8 +31,13 @@ same-length-3 c = search needs
 
 returns : tie.Need-returns
 returns c =
-    let call = delete-call _ _ _ (c .before .before .before .before .before .before .before .before .before .before .before .before .name-of .ensures) (c .before .before .before .before .before .before .before .before .before .before .before .before .before .before .before .before .before .pre .1) in
-    change-made _ _ _ _ _ _ _ _ _ _ (c .before .before .before .changed-numbers .ensures) (c .before .before .put-numbers .ensures) _ _ call (c .before .before .before .before .before .before .before .before .before .before .before .before .before .before .before .before .before .pre .0 .room) (c .before .before .before .before .before .before .before .before .before .delete .ensures .0) (c .before .before .before .before .before .before .before .before .before .delete .ensures .1)
+    let put-numbers = c .before .before .put-numbers in
+    let changed-numbers = c .before .before .before .changed-numbers in
+    let delete = c .before .before .before .before .before .before .before .before .before .delete in
+    let name-of = c .before .before .before .before .before .before .before .before .before .before .before .before .name-of in
+    let p = c .before .before .before .before .before .before .before .before .before .before .before .before .before .before .before .before .before .pre in
+    let call = delete-call _ _ _ (name-of .ensures) (p .1) in
+    change-made _ _ _ _ _ _ _ _ _ _ (changed-numbers .ensures) (put-numbers .ensures) _ _ call (p .0 .room) (delete .ensures .0) (delete .ensures .1)
 
 pub delete-spec : {M : Type 1} → statement M
 delete-spec =

@@ -10,7 +10,8 @@ use Rattle.journal.specs.Run.{state}
 
 abbrev Inv-loop : tie.InvT-loop
 Inv-loop script image₀ journal₀ out₀ at₀ q₀ image journal out at q =
-    Midway (state image₀ journal₀) script out₀ image journal out at q × (length image ≡ length image₀) × (length journal ≡ length journal₀) × (length out ≡ length out₀)
+    Midway (state image₀ journal₀) script out₀ image journal out at q × (length image ≡ length image₀) × (length journal ≡ length journal₀) ×
+    (length out ≡ length out₀)
 
 abbrev μ-loop : tie.MeasureT-loop
 μ-loop script image₀ journal₀ out₀ at₀ q₀ image journal out at q = length script - at
@@ -31,25 +32,61 @@ sub-make : tie.Need-sub-make Inv-loop μ-loop
 sub-make c = omega arith
 
 part-make-start : tie.Need-part-make-start Inv-loop μ-loop
-part-make-start c = omega (arith, c .before .before .answer-size .ensures, run-next _ _ _ _ _ _ _ _ (c .before .before .before .before .before .loop .inv .0) (c .before .before .before .before .loop-test .taken) .1)
+part-make-start c =
+    let answer-size = c .before .before .answer-size in
+    let loop-test = c .before .before .before .before .loop-test in
+    let l = c .before .before .before .before .before .loop in
+    omega (arith, answer-size .ensures, run-next _ _ _ _ _ _ _ _ (l .inv .0) (loop-test .taken) .1)
 
 part-make-end : tie.Need-part-make-end Inv-loop μ-loop
-part-make-end c = omega (arith, c .before .before .answer-size .ensures, run-next _ _ _ _ _ _ _ _ (c .before .before .before .before .before .loop .inv .0) (c .before .before .before .before .loop-test .taken) .1)
+part-make-end c =
+    let answer-size = c .before .before .answer-size in
+    let loop-test = c .before .before .before .before .loop-test in
+    let l = c .before .before .before .before .before .loop in
+    omega (arith, answer-size .ensures, run-next _ _ _ _ _ _ _ _ (l .inv .0) (loop-test .taken) .1)
 
 make-requires : tie.Need-make-requires Inv-loop μ-loop
 make-requires c κs =
-    let n = run-next _ _ _ _ _ _ _ _ (c .before .before .before .before .before .before .loop .inv .0) (c .before .before .before .before .before .loop-test .taken) in
-    let l : c .before .before .before .before .before .before .loop .q + c .before .before .before .answer-size .result - c .before .before .before .before .before .before .loop .q ≡ c .before .before .before .answer-size .result = omega arith in
-    (record { fits = n .0 .fits; room = length-part (c .before .before .before .before .before .before .loop .out) (c .before .before .before .before .before .before .loop .q) (c .before .before .before .before .before .before .loop .q + c .before .before .before .answer-size .result - c .before .before .before .before .before .before .loop .q) (omega (arith, c .before .before .before .answer-size .ensures, n .1)) ∙ l ∙ c .before .before .before .answer-size .ensures }, n .0 .low, n .0 .high)
+    let answer-size = c .before .before .before .answer-size in
+    let loop-test = c .before .before .before .before .before .loop-test in
+    let l′ = c .before .before .before .before .before .before .loop in
+    let n = run-next _ _ _ _ _ _ _ _ (l′ .inv .0) (loop-test .taken) in
+    let l : l′ .q + answer-size .result - l′ .q ≡ answer-size .result = omega arith in (
+      record {
+        fits = n .0 .fits;
+        room = length-part (l′ .out) (l′ .q) (l′ .q + answer-size .result - l′ .q)
+            (omega (arith, answer-size .ensures, n .1)) ∙ l ∙ answer-size .ensures;
+      },
+      n .0 .low,
+      n .0 .high,
+    )
 
 add-at : tie.Need-add-at Inv-loop μ-loop
-add-at c = let n = run-next _ _ _ _ _ _ _ _ (c .before .before .before .before .before .before .before .before .before .before .before .before .before .loop .inv .0) (c .before .before .before .before .before .before .before .before .before .before .before .before .loop-test .taken) in omega (arith, c .before .before .before .before .before .before .before .before .before .before .before .item-size .ensures, n .0 .fits)
+add-at c =
+    let item-size = c .before .before .before .before .before .before .before .before .before .before .before .item-size in
+    let loop-test = c .before .before .before .before .before .before .before .before .before .before .before .before .loop-test in
+    let l = c .before .before .before .before .before .before .before .before .before .before .before .before .before .loop in
+    let n = run-next _ _ _ _ _ _ _ _ (l .inv .0) (loop-test .taken) in omega (arith, item-size .ensures, n .0 .fits)
 
 loop-less : tie.Need-loop-less Inv-loop μ-loop
-loop-less c = let n = run-next _ _ _ _ _ _ _ _ (c .before .before .before .before .before .before .before .before .before .before .before .before .before .loop .inv .0) (c .before .before .before .before .before .before .before .before .before .before .before .before .loop-test .taken) in omega (arith, c .before .before .before .before .before .before .before .before .before .before .before .item-size .ensures, n .0 .fits)
+loop-less c =
+    let item-size = c .before .before .before .before .before .before .before .before .before .before .before .item-size in
+    let loop-test = c .before .before .before .before .before .before .before .before .before .before .before .before .loop-test in
+    let l = c .before .before .before .before .before .before .before .before .before .before .before .before .before .loop in
+    let n = run-next _ _ _ _ _ _ _ _ (l .inv .0) (loop-test .taken) in omega (arith, item-size .ensures, n .0 .fits)
 
 loop-again : tie.Need-loop-again Inv-loop μ-loop
-loop-again c = (run-turn _ _ _ _ _ _ _ _ (c .before .before .before .before .before .before .before .before .before .before .before .before .before .loop .inv .0) (c .before .before .before .before .before .before .before .before .before .before .before .before .loop-test .taken) _ _ (c .before .before .before .before .before .before .before .before .before .before .before .item-size .ensures) (c .before .before .before .before .before .before .before .before .before .before .answer-size .ensures) _ _ _ (c .before .before .before .before .before .before .make .ensures) (omega arith), omega arith, omega arith, omega arith)
+loop-again c =
+    let make = c .before .before .before .before .before .before .make in
+    let answer-size = c .before .before .before .before .before .before .before .before .before .before .answer-size in
+    let item-size = c .before .before .before .before .before .before .before .before .before .before .before .item-size in
+    let loop-test = c .before .before .before .before .before .before .before .before .before .before .before .before .loop-test in
+    let l = c .before .before .before .before .before .before .before .before .before .before .before .before .before .loop in (
+      run-turn _ _ _ _ _ _ _ _ (l .inv .0) (loop-test .taken) _ _ (item-size .ensures) (answer-size .ensures) _ _ _ (make .ensures) (omega arith),
+      omega arith,
+      omega arith,
+      omega arith,
+    )
 
 same-length : tie.Need-same-length Inv-loop μ-loop
 same-length c = c .before .loop .inv .1

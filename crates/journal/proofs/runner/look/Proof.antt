@@ -11,7 +11,10 @@ shared-slice-read-if1 : tie.Need-shared-slice-read-if1
 shared-slice-read-if1 c = search needs
 
 check-requires : tie.Need-check-requires
-check-requires c κs = c .before .before .before .before .before .before .pre .0 .room ∙ size-low (c .before .before .before .before .before .before .args .script .now) (c .before .before .before .before .before .before .args .at) (omega (arith, c .before .if1 .taken))
+check-requires c κs =
+    let a = c .before .before .before .before .before .before .args in
+    let p = c .before .before .before .before .before .before .pre in
+    p .0 .room ∙ size-low (a .script .now) (a .at) (omega (arith, c .before .if1 .taken))
 
 same-length : tie.Need-same-length
 same-length c = search needs
@@ -23,7 +26,10 @@ shared-slice-read-if2 : tie.Need-shared-slice-read-if2
 shared-slice-read-if2 c = search needs
 
 lookup-requires : tie.Need-lookup-requires
-lookup-requires c κs = (c .before .before .before .before .before .before .before .before .pre .0 .fits, c .before .before .before .before .before .before .before .before .pre .0 .room ∙ size-low (c .before .before .before .before .before .before .before .before .args .script .now) (c .before .before .before .before .before .before .before .before .args .at) (omega (arith, c .before .if2 .taken)))
+lookup-requires c κs =
+    let a = c .before .before .before .before .before .before .before .before .args in
+    let p = c .before .before .before .before .before .before .before .before .pre in
+    (p .0 .fits, p .0 .room ∙ size-low (a .script .now) (a .at) (omega (arith, c .before .if2 .taken)))
 
 same-length-2 : tie.Need-same-length-2
 same-length-2 c = search needs
@@ -35,7 +41,9 @@ shared-slice-read-if3 : tie.Need-shared-slice-read-if3
 shared-slice-read-if3 c = search needs
 
 read-requires : tie.Need-read-requires
-read-requires c κs = (c .before .before .before .before .before .before .before .before .before .before .pre .0 .fits, c .before .before .before .before .before .before .before .before .before .before .pre .0 .room ∙ size-read _ _ (c .before .before .before .before .before .before .before .before .before .before .pre .0 .fits) (c .before .if3 .taken))
+read-requires c κs =
+    let p = c .before .before .before .before .before .before .before .before .before .before .pre in
+    (p .0 .fits, p .0 .room ∙ size-read _ _ (p .0 .fits) (c .before .if3 .taken))
 
 same-length-3 : tie.Need-same-length-3
 same-length-3 c = search needs
@@ -45,16 +53,20 @@ returns-3 c = λ j. look-told _ j _ _ _ (is-read _ _ (c .before .before .before 
 
 look-in-place-requires : tie.Need-look-in-place-requires
 look-in-place-requires c κs =
-    let op : opAt (c .before .before .before .before .before .before .before .before .before .before .args .script .now) (c .before .before .before .before .before .before .before .before .before .before .args .at) ≡ 4 = omega arith in
-    (c .before .before .before .before .before .before .before .before .before .before .pre .0 .fits, c .before .before .before .before .before .before .before .before .before .before .pre .0 .room ∙ size-look-in-place _ _ op)
+    let a = c .before .before .before .before .before .before .before .before .before .before .args in
+    let p = c .before .before .before .before .before .before .before .before .before .before .pre in
+    let op : opAt (a .script .now) (a .at) ≡ 4 = omega arith in
+    (p .0 .fits, p .0 .room ∙ size-look-in-place _ _ op)
 
 same-length-4 : tie.Need-same-length-4
 same-length-4 c = search needs
 
 returns-4 : tie.Need-returns-4
 returns-4 c =
-    let op : opAt (c .before .before .before .before .before .before .before .before .before .before .before .before .before .args .script .now) (c .before .before .before .before .before .before .before .before .before .before .before .before .before .args .at) ≡ 4 = omega arith in
-    λ j. look-told _ j _ _ _ (is-look-in-place _ _ op) (c .before .before .look-in-place .ensures)
+    let look-in-place = c .before .before .look-in-place in
+    let a = c .before .before .before .before .before .before .before .before .before .before .before .before .before .args in
+    let op : opAt (a .script .now) (a .at) ≡ 4 = omega arith in
+    λ j. look-told _ j _ _ _ (is-look-in-place _ _ op) (look-in-place .ensures)
 
 pub look-spec : {M : Type 1} → statement M
 look-spec =

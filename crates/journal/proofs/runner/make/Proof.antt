@@ -16,7 +16,11 @@ same-length-2 : tie.Need-same-length-2
 same-length-2 c = search needs
 
 returns : tie.Need-returns
-returns c = look-made _ _ _ _ _ (c .before .before .before .before .before .before .before .before .before .before .before .pre .1) (c .before .before .before .before .before .if1 .taken) (c .before .before .look .ensures)
+returns c =
+    let look = c .before .before .look in
+    let if1 = c .before .before .before .before .before .if1 in
+    let p = c .before .before .before .before .before .before .before .before .before .before .before .pre in
+    look-made _ _ _ _ _ (p .1) (if1 .taken) (look .ensures)
 
 change-requires : tie.Need-change-requires
 change-requires c κs = search needs

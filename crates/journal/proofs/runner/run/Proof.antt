@@ -28,9 +28,13 @@ returns-2 c =
 
 execute-requires : tie.Need-execute-requires
 execute-requires c κs =
-    let e : c .before .before .before .before .before .before .well-formed .result ≡ true = not-false _ (c .before .before .before .before .before .if1 .left) in
-    let f : c .before .before .before .before .answers-fit .result ≡ true = not-false _ (c .before .before .before .if2 .left) in
-    (sym (c .before .before .before .before .before .before .well-formed .ensures) ∙ e, leb-true _ _ (sym (c .before .before .before .before .answers-fit .ensures) ∙ f))
+    let if2 = c .before .before .before .if2 in
+    let answers-fit = c .before .before .before .before .answers-fit in
+    let if1 = c .before .before .before .before .before .if1 in
+    let well-formed = c .before .before .before .before .before .before .well-formed in
+    let e : well-formed .result ≡ true = not-false _ (if1 .left) in
+    let f : answers-fit .result ≡ true = not-false _ (if2 .left) in
+    (sym (well-formed .ensures) ∙ e, leb-true _ _ (sym (answers-fit .ensures) ∙ f))
 
 same-length : tie.Need-same-length
 same-length c = search needs
@@ -43,9 +47,14 @@ same-length-3 c = search needs
 
 returns-3 : tie.Need-returns-3
 returns-3 c =
-    let e : c .before .before .before .before .before .before .before .before .before .before .before .before .before .well-formed .result ≡ true = not-false _ (c .before .before .before .before .before .before .before .before .before .before .before .before .if1 .left) in
-    let f : c .before .before .before .before .before .before .before .before .before .before .before .answers-fit .result ≡ true = not-false _ (c .before .before .before .before .before .before .before .before .before .before .if2 .left) in
-    replays _ _ _ _ _ (all-run _ _ _ _ (sym (c .before .before .before .before .before .before .before .before .before .before .before .before .before .well-formed .ensures) ∙ e) (sym (c .before .before .before .before .before .before .before .before .before .before .before .answers-fit .ensures) ∙ f) _ _ _ (c .before .before .before .before .before .before .execute .ensures .0) (c .before .before .before .before .before .before .execute .ensures .1))
+    let execute = c .before .before .before .before .before .before .execute in
+    let if2 = c .before .before .before .before .before .before .before .before .before .before .if2 in
+    let answers-fit = c .before .before .before .before .before .before .before .before .before .before .before .answers-fit in
+    let if1 = c .before .before .before .before .before .before .before .before .before .before .before .before .if1 in
+    let well-formed = c .before .before .before .before .before .before .before .before .before .before .before .before .before .well-formed in
+    let e : well-formed .result ≡ true = not-false _ (if1 .left) in
+    let f : answers-fit .result ≡ true = not-false _ (if2 .left) in
+    replays _ _ _ _ _ (all-run _ _ _ _ (sym (well-formed .ensures) ∙ e) (sym (answers-fit .ensures) ∙ f) _ _ _ (execute .ensures .0) (execute .ensures .1))
 
 pub run-spec : {M : Type 1} → statement M
 run-spec =

@@ -22,7 +22,12 @@ same-length-3 : tie.Need-same-length-3
 same-length-3 c = search needs
 
 returns : tie.Need-returns
-returns c = undo-made _ _ _ _ _ _ _ _ _ _ (c .before .before .before .undone-numbers .ensures) (c .before .before .put-numbers .ensures) (c .before .before .before .before .before .before .before .before .before .before .before .before .before .before .before .pre) (c .before .before .before .before .before .before .before .before .before .undo .ensures .0) (c .before .before .before .before .before .before .before .before .before .undo .ensures .1)
+returns c =
+    let put-numbers = c .before .before .put-numbers in
+    let undone-numbers = c .before .before .before .undone-numbers in
+    let undo = c .before .before .before .before .before .before .before .before .before .undo in
+    let p = c .before .before .before .before .before .before .before .before .before .before .before .before .before .before .before .pre in
+    undo-made _ _ _ _ _ _ _ _ _ _ (undone-numbers .ensures) (put-numbers .ensures) (p) (undo .ensures .0) (undo .ensures .1)
 
 pub undo-spec : {M : Type 1} → statement M
 undo-spec =

@@ -30,7 +30,10 @@ changed-numbers-requires : tie.Need-changed-numbers-requires
 changed-numbers-requires c κs = search needs
 
 put-numbers-requires : tie.Need-put-numbers-requires
-put-numbers-requires c κs = omega (arith, c .before .before .before .before .before .before .before .before .before .before .before .before .before .before .before .before .before .pre .0 .room, size-high (c .before .before .before .before .before .before .before .before .before .before .before .before .before .before .before .before .before .args .script .now) (c .before .before .before .before .before .before .before .before .before .before .before .before .before .before .before .before .before .args .at) (omega (arith, c .before .before .before .before .before .before .before .before .before .before .before .before .before .before .before .before .before .pre .1)))
+put-numbers-requires c κs =
+    let a = c .before .before .before .before .before .before .before .before .before .before .before .before .before .before .before .before .before .args in
+    let p = c .before .before .before .before .before .before .before .before .before .before .before .before .before .before .before .before .before .pre in
+    omega (arith, p .0 .room, size-high (a .script .now) (a .at) (omega (arith, p .1)))
 
 same-length : tie.Need-same-length
 same-length c = search needs
@@ -43,8 +46,16 @@ same-length-3 c = search needs
 
 returns : tie.Need-returns
 returns c =
-    let call = write-call _ _ _ (c .before .before .before .before .before .before .before .before .before .before .before .before .before .name-of .ensures) _ _ _ (c .before .before .before .before .before .before .before .before .before .before .before .before .before .before .before .get64 .ensures) (c .before .before .before .before .before .before .before .before .before .before .before .before .before .before .get642 .ensures) (c .before .before .before .before .before .before .before .before .before .before .before .before .data-of .ensures) (c .before .before .before .before .before .before .before .before .before .before .before .before .before .before .before .before .before .before .before .before .pre .1) in
-    change-made _ _ _ _ _ _ _ _ _ _ (c .before .before .before .changed-numbers .ensures) (c .before .before .put-numbers .ensures) _ _ call (c .before .before .before .before .before .before .before .before .before .before .before .before .before .before .before .before .before .before .before .before .pre .0 .room) (c .before .before .before .before .before .before .before .before .before .write .ensures .0) (c .before .before .before .before .before .before .before .before .before .write .ensures .1)
+    let put-numbers = c .before .before .put-numbers in
+    let changed-numbers = c .before .before .before .changed-numbers in
+    let write = c .before .before .before .before .before .before .before .before .before .write in
+    let data-of = c .before .before .before .before .before .before .before .before .before .before .before .before .data-of in
+    let name-of = c .before .before .before .before .before .before .before .before .before .before .before .before .before .name-of in
+    let get642 = c .before .before .before .before .before .before .before .before .before .before .before .before .before .before .get642 in
+    let get64 = c .before .before .before .before .before .before .before .before .before .before .before .before .before .before .before .get64 in
+    let p = c .before .before .before .before .before .before .before .before .before .before .before .before .before .before .before .before .before .before .before .before .pre in
+    let call = write-call _ _ _ (name-of .ensures) _ _ _ (get64 .ensures) (get642 .ensures) (data-of .ensures) (p .1) in
+    change-made _ _ _ _ _ _ _ _ _ _ (changed-numbers .ensures) (put-numbers .ensures) _ _ call (p .0 .room) (write .ensures .0) (write .ensures .1)
 
 pub write-spec : {M : Type 1} → statement M
 write-spec =

@@ -23,8 +23,9 @@ record-ok-requires c κs = (c .before .before .before .pre, omega arith)
 
 returns : tie.Need-returns Inv-loop μ-loop
 returns c =
+    let l = c .before .before .before .loop in
     let t : c .before .record-ok .result ≡ false = not-true _ (c .if1 .taken) in
-    record { well = sym (scan-bad _ _ _ _ (c .before .before .before .loop .inv) (omega arith) (sym (c .before .record-ok .ensures) ∙ t)); found = λ e. absurd (false≢true e) }
+    record { well = sym (scan-bad _ _ _ _ (l .inv) (omega arith) (sym (c .before .record-ok .ensures) ∙ t)); found = λ e. absurd (false≢true e) }
 
 get32-requires : tie.Need-get32-requires Inv-loop μ-loop
 get32-requires c κs =

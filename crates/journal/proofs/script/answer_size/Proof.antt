@@ -22,7 +22,10 @@ add-result : tie.Need-add-result
 add-result c = search needs
 
 returns : tie.Need-returns
-returns c = let a = c .before .before .before .before .args in ap (λ (x : ℕ). 16 + x) (c .get32 .ensures) ∙ sym (size-read (a .script .now) (a .at) (c .before .before .before .before .pre) (c .before .if1 .taken))
+returns c =
+    let a′ = c .before .before .before .before .args in
+    let p = c .before .before .before .before .pre in
+    let a = a′ in ap (λ (x : ℕ). 16 + x) (c .get32 .ensures) ∙ sym (size-read (a .script .now) (a .at) (p) (c .before .if1 .taken))
 
 shared-slice-read-if2 : tie.Need-shared-slice-read-if2
 shared-slice-read-if2 c = search needs
@@ -31,7 +34,10 @@ returns-2 : tie.Need-returns-2
 returns-2 c = let a = c .before .before .before .before .before .args in sym (size-look-in-place (a .script .now) (a .at) (c .if2 .taken))
 
 returns-3 : tie.Need-returns-3
-returns-3 c = let a = c .before .before .before .before .before .args in sym (size-plain (a .script .now) (a .at) (ne-eqb _ _ (c .before .before .if1 .left)) (ne-eqb _ _ (c .if2 .left)))
+returns-3 c =
+    let if1 = c .before .before .if1 in
+    let a′ = c .before .before .before .before .before .args in
+    let a = a′ in sym (size-plain (a .script .now) (a .at) (ne-eqb _ _ (if1 .left)) (ne-eqb _ _ (c .if2 .left)))
 
 pub answer-size-spec : {M : Type 1} → statement M
 answer-size-spec =

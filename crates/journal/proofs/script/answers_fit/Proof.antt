@@ -23,21 +23,37 @@ answer-size-requires : tie.Need-answer-size-requires Inv-loop μ-loop
 answer-size-requires c κs = next _ _ (c .loop-test .taken) (c .before .loop .inv .0) .fits
 
 returns : tie.Need-returns Inv-loop μ-loop
-returns c = sym (c .before .before .before .loop .inv .1 ∙ room-short _ _ _ (c .before .before .loop-test .taken) (rw (c .before .answer-size .ensures) at (c .if1 .taken)))
+returns c =
+    let loop-test = c .before .before .loop-test in
+    let l = c .before .before .before .loop in
+    sym (l .inv .1 ∙ room-short _ _ _ (loop-test .taken) (rw (c .before .answer-size .ensures) at (c .if1 .taken)))
 
 item-size-requires : tie.Need-item-size-requires Inv-loop μ-loop
 item-size-requires c κs = let n = next _ _ (c .before .before .loop-test .taken) (c .before .before .before .loop .inv .0) in omega arith
 
 add-at : tie.Need-add-at Inv-loop μ-loop
-add-at c = let n = next _ _ (c .before .before .before .loop-test .taken) (c .before .before .before .before .loop .inv .0) in omega (arith, c .item-size .ensures)
+add-at c =
+    let loop-test = c .before .before .before .loop-test in
+    let l = c .before .before .before .before .loop in
+    let n = next _ _ (loop-test .taken) (l .inv .0) in omega (arith, c .item-size .ensures)
 
 loop-less : tie.Need-loop-less Inv-loop μ-loop
-loop-less c = let n = next _ _ (c .before .before .before .loop-test .taken) (c .before .before .before .before .loop .inv .0) in omega (arith, c .item-size .ensures)
+loop-less c =
+    let loop-test = c .before .before .before .loop-test in
+    let l = c .before .before .before .before .loop in
+    let n = next _ _ (loop-test .taken) (l .inv .0) in omega (arith, c .item-size .ensures)
 
 loop-again : tie.Need-loop-again Inv-loop μ-loop
 loop-again c =
-    let n = next _ _ (c .before .before .before .loop-test .taken) (c .before .before .before .before .loop .inv .0) in
-    rw (c .item-size .ensures) (n .rest, c .before .before .before .before .loop .inv .1 ∙ room-step _ _ _ (c .before .before .before .loop-test .taken) (rw (c .before .before .answer-size .ensures) at (c .before .if1 .left)) ∙ rw (c .before .before .answer-size .ensures))
+    let answer-size = c .before .before .answer-size in
+    let loop-test = c .before .before .before .loop-test in
+    let l = c .before .before .before .before .loop in
+    let n = next _ _ (loop-test .taken) (l .inv .0) in
+    rw (c .item-size .ensures) (
+      n .rest,
+      l .inv .1 ∙ room-step _ _ _ (loop-test .taken) (rw (answer-size .ensures) at (c .before .if1 .left)) ∙ rw
+          (answer-size .ensures),
+    )
 
 returns-2 : tie.Need-returns-2 Inv-loop μ-loop
 returns-2 c = sym (c .before .loop .inv .1 ∙ room-none _ _ _ (c .loop-test .left))

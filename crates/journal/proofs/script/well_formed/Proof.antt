@@ -47,10 +47,13 @@ loop-less c =
 
 loop-again : tie.Need-loop-again Inv-loop μ-loop
 loop-again c =
-    let t : c .before .before .item-ok .result ≡ true = not-false _ (c .before .if1 .left) in
-    let ok = sym (c .before .before .item-ok .ensures) ∙ t in
+    let item-ok = c .before .before .item-ok in
+    let loop-test = c .before .before .before .loop-test in
+    let l = c .before .before .before .before .loop in
+    let t : item-ok .result ≡ true = not-false _ (c .before .if1 .left) in
+    let ok = sym (item-ok .ensures) ∙ t in
     let f = item-fits _ _ ok in
-    (omega (arith, c .item-size .ensures), c .before .before .before .before .loop .inv .1 ∙ every-step _ _ (c .before .before .before .loop-test .taken) ok ∙ rw (c .item-size .ensures))
+    (omega (arith, c .item-size .ensures), l .inv .1 ∙ every-step _ _ (loop-test .taken) ok ∙ rw (c .item-size .ensures))
 
 returns-2 : tie.Need-returns-2 Inv-loop μ-loop
 returns-2 c = sym (c .before .loop .inv .1 ∙ every-end _ _ (c .loop-test .left))

@@ -35,13 +35,22 @@ made j a b h e f = f ∙ rw e (start-stored (length j) h)
 
 same-length : tie.Need-same-length
 same-length c =
-    let j = c .before .before .before .before .before .before .before .before .before .before .before .args .journal .now in
-    ap length (made j _ _ (c .before .before .before .before .before .before .before .before .before .if1 .left) (c .before .before .before .before .before .before .clear .ensures) (c .before .before .put32 .ensures)) ∙ length-started (length j) (c .before .before .before .before .before .before .before .before .before .if1 .left)
+    let put32 = c .before .before .put32 in
+    let clear = c .before .before .before .before .before .before .clear in
+    let if1 = c .before .before .before .before .before .before .before .before .before .if1 in
+    let a = c .before .before .before .before .before .before .before .before .before .before .before .args in
+    let j = a .journal .now in
+    ap length (made j _ _ (if1 .left) (clear .ensures) (put32 .ensures)) ∙ length-started (length j) (if1 .left)
 
 returns-3 : tie.Need-returns-3
 returns-3 c =
-    let j = c .before .before .before .before .before .before .before .before .before .before .before .args .journal .now in
-    rw (start-fits j (c .before .before .before .before .before .before .before .before .before .if1 .left) (c .before .before .before .before .before .before .before .before .if2 .left)) (refl, made j _ _ (c .before .before .before .before .before .before .before .before .before .if1 .left) (c .before .before .before .before .before .before .clear .ensures) (c .before .before .put32 .ensures))
+    let put32 = c .before .before .put32 in
+    let clear = c .before .before .before .before .before .before .clear in
+    let if2 = c .before .before .before .before .before .before .before .before .if2 in
+    let if1 = c .before .before .before .before .before .before .before .before .before .if1 in
+    let a = c .before .before .before .before .before .before .before .before .before .before .before .args in
+    let j = a .journal .now in
+    rw (start-fits j (if1 .left) (if2 .left)) (refl, made j _ _ (if1 .left) (clear .ensures) (put32 .ensures))
 
 pub start-spec : {M : Type 1} → statement M
 start-spec =

@@ -30,10 +30,15 @@ type-at-requires c κs =
 
 returns : tie.Need-returns Inv-loop μ-loop
 returns c =
-    let l = c .before .before .before .loop in
-    let a = c .before .before .before .before .before .args in
-    let bs = c .before .before .before .before .before .pre .blocks in
-    stands-here _ _ (a .d) _ _ _ _ bs (l .inv .0) (freeSlot-from (a .image .now) _ (a .d) (bs .size) ∙ l .inv .1 ∙ slotFrom-here (slotFree (a .image .now)) _ _ _ (entryAt (l .b) (l .slot)) (place-entry _ _ _ _ _ (l .inv .0)) (omega arith) (type-free (a .image .now) _ _ (c .before .type-at .ensures) (c .if1 .taken)))
+    let l′ = c .before .before .before .loop in
+    let a′ = c .before .before .before .before .before .args in
+    let p = c .before .before .before .before .before .pre in
+    let l = l′ in
+    let a = a′ in
+    let bs = p .blocks in
+    stands-here _ _ (a .d) _ _ _ _ bs (l .inv .0)
+    (freeSlot-from (a .image .now) _ (a .d) (bs .size) ∙ l .inv .1 ∙ slotFrom-here (slotFree (a .image .now)) _ _ _ (entryAt (l .b) (l .slot))
+    (place-entry _ _ _ _ _ (l .inv .0)) (omega arith) (type-free (a .image .now) _ _ (c .before .type-at .ensures) (c .if1 .taken)))
 
 add-slot : tie.Need-add-slot Inv-loop μ-loop
 add-slot c = omega arith
@@ -52,15 +57,23 @@ loop-less c = omega arith
 
 loop-again : tie.Need-loop-again Inv-loop μ-loop
 loop-again c =
-    let l = c .before .before .before .before .loop in
-    let a = c .before .before .before .before .before .before .args in
-    (place-then _ _ _ _ _ _ _ (l .inv .0) (omega arith) (c .following .ensures), l .inv .1 ∙ slotFrom-next (slotFree (a .image .now)) _ _ _ (entryAt (l .b) (l .slot)) (place-entry _ _ _ _ _ (l .inv .0)) (omega arith) (type-used (a .image .now) _ _ (c .before .before .type-at .ensures) (c .before .if1 .left)))
+    let type-at = c .before .before .type-at in
+    let l′ = c .before .before .before .before .loop in
+    let a′ = c .before .before .before .before .before .before .args in
+    let l = l′ in
+    let a = a′ in (
+      place-then _ _ _ _ _ _ _ (l .inv .0) (omega arith) (c .following .ensures),
+      l .inv .1 ∙ slotFrom-next (slotFree (a .image .now)) _ _ _
+          (entryAt (l .b) (l .slot)) (place-entry _ _ _ _ _ (l .inv .0)) (omega arith) (type-used (a .image .now) _ _ (type-at .ensures) (c .before .if1 .left)),
+    )
 
 returns-2 : tie.Need-returns-2 Inv-loop μ-loop
 returns-2 c =
+    let a′ = c .before .before .before .args in
+    let p = c .before .before .before .pre in
     let l = c .before .loop in
-    let a = c .before .before .before .args in
-    stands-none _ _ _ (freeSlot-from (a .image .now) _ (a .d) (c .before .before .before .pre .blocks .size) ∙ l .inv .1 ∙ slotFrom-end (slotFree (a .image .now)) _ _ _ (omega arith))
+    let a = a′ in
+    stands-none _ _ _ (freeSlot-from (a .image .now) _ (a .d) (p .blocks .size) ∙ l .inv .1 ∙ slotFrom-end (slotFree (a .image .now)) _ _ _ (omega arith))
 
 pub find-free-spec : {M : Type 1} → statement M
 find-free-spec =

@@ -25,8 +25,10 @@ sub-left c = omega arith
 
 loop-holds : tie.Need-loop-holds Inv-loop μ-loop
 loop-holds c =
-    let a = c .before .before .args in
-    (place-first _ _ _ (omega arith), omega arith, c .before .before .pre .1, taken-none (a .image .now) (chain (next (a .image .now)) (a .first) (a .d)) (a .prints .now))
+    let a′ = c .before .before .args in
+    let p = c .before .before .pre in
+    let a = a′ in
+    (place-first _ _ _ (omega arith), omega arith, p .1, taken-none (a .image .now) (chain (next (a .image .now)) (a .first) (a .d)) (a .prints .now))
 
 print-at-requires : tie.Need-print-at-requires Inv-loop μ-loop
 print-at-requires c κs =

@@ -39,14 +39,17 @@ nearest-requires c κs = (omega arith, omega arith)
 
 loop-holds : tie.Need-loop-holds Inv-loop μ-loop
 loop-holds c =
-    let a = c .before .before .before .before .args in
-    let p = c .before .before .before .before .pre in
+    let a′ = c .before .before .before .before .args in
+    let p′ = c .before .before .before .before .pre in
+    let a = a′ in
+    let p = p′ in
     let r = c .nearest .ensures in (
       omega arith,
       r .high,
       omega arith,
       refl,
-      nameIn-nearest (a .image .now) (a .n) (a .first) (a .d) (a .prints .now) (p .0) (a .k) (p .1) (p .2) (p .3) _ (a .k + 1) (c .nearest .result) (4 * a .d - 2 - a .k) (4 * a .d - 1 - c .nearest .result)
+      nameIn-nearest (a .image .now) (a .n) (a .first) (a .d) (a .prints .now) (p .0) (a .k) (p .1) (p .2) (p .3) _ (a .k + 1) (c .nearest .result)
+          (4 * a .d - 2 - a .k) (4 * a .d - 1 - c .nearest .result)
           refl (omega arith) (omega arith) (omega arith) r,
     )
 
@@ -73,16 +76,21 @@ loop-less c = omega arith
 
 loop-again : tie.Need-loop-again Inv-loop μ-loop
 loop-again c =
-    let l = c .before .before .before .before .loop in
-    let a = c .before .before .before .before .before .before .before .before .before .args in
-    let p = c .before .before .before .before .before .before .before .before .before .pre in
+    let same-names = c .before .before .same-names in
+    let l′ = c .before .before .before .before .loop in
+    let a′ = c .before .before .before .before .before .before .before .before .before .args in
+    let p′ = c .before .before .before .before .before .before .before .before .before .pre in
+    let l = l′ in
+    let a = a′ in
+    let p = p′ in
     let r = c .nearest2 .ensures in (
       omega arith,
       r .high,
       l .inv .2,
       l .inv .3,
       l .inv .4
-          ∙ nameIn-next _ _ _ _ _ (slotAt (chain (next (a .image .now)) (a .first) (a .d)) (l .i)) refl (omega arith) (sym (c .before .if1 .left) ∙ c .before .before .same-names .ensures)
+          ∙ nameIn-next _ _ _ _ _ (slotAt (chain (next (a .image .now)) (a .first) (a .d)) (l .i)) refl (omega arith)
+          (sym (c .before .if1 .left) ∙ same-names .ensures)
           ∙ nameIn-nearest (a .image .now) (a .n) (a .first) (a .d) (a .prints .now) (p .0) (a .k) (p .1) (p .2) (p .3) _ (l .i + 1) (c .nearest2 .result) _ _
           (l .inv .3) (omega arith) (omega arith) (omega arith) r,
     )

@@ -21,12 +21,18 @@ number-at-requires c κs =
     (omega arith, omega arith)
 
 find-requires : tie.Need-find-requires
-find-requires c κs = (sound-directory (c .before .before .before .args .image .now) (c .before .before .before .pre .0) _ (c .number-at .ensures), c .before .before .before .pre .1, c .before .before .before .pre .2)
+find-requires c κs =
+    let a = c .before .before .before .args in
+    let p = c .before .before .before .pre in
+    (sound-directory (a .image .now) (p .0) _ (c .number-at .ensures), p .1, p .2)
 
 returns : tie.Need-returns
 returns c =
-    let s = c .before .before .before .before .args .image .now in
-    subst (λ (ds : List ℕ). Stands ds (blockCount s) (fileSlot s ds (c .before .before .before .before .args .name .now)) (c .find .result .slot) (c .find .result .block)) (sound-root s (c .before .before .before .before .pre .0) _ (c .before .number-at .ensures)) (c .find .ensures)
+    let a = c .before .before .before .before .args in
+    let p = c .before .before .before .before .pre in
+    let s = a .image .now in
+    subst (λ (ds : List ℕ). Stands ds (blockCount s) (fileSlot s ds (a .name .now)) (c .find .result .slot) (c .find .result .block))
+    (sound-root s (p .0) _ (c .before .number-at .ensures)) (c .find .ensures)
 
 pub find-file-spec : {M : Type 1} → statement M
 find-file-spec =

@@ -25,8 +25,11 @@ find-free-requires c κs = sound-directory (c .before .before .args .image .now)
 
 returns : tie.Need-returns
 returns c =
-    let s = c .before .before .before .args .image .now in
-    subst (λ (ds : List ℕ). Stands ds (blockCount s) (freeSlot s ds) (c .find-free .result .slot) (c .find-free .result .block)) (sound-root s (c .before .before .before .pre) _ (c .before .number-at .ensures)) (c .find-free .ensures)
+    let a = c .before .before .before .args in
+    let p = c .before .before .before .pre in
+    let s = a .image .now in
+    subst (λ (ds : List ℕ). Stands ds (blockCount s) (freeSlot s ds) (c .find-free .result .slot) (c .find-free .result .block))
+    (sound-root s (p) _ (c .before .number-at .ensures)) (c .find-free .ensures)
 
 pub free-slot-spec : {M : Type 1} → statement M
 free-slot-spec =

@@ -17,7 +17,8 @@ Rest c out p rest = let a = c .before .before .before .before .args in Pending (
 l₀ : (c : tie.After-number-at2) → let a = c .before .before .before .before .args in Rest c (a .out .now) 0 (((98 ∷ 108 ∷ 111 ∷ 99 ∷ 107 ∷ 115 ∷ 32 ∷ []) ++ decimal (blockCount (a .image .now))) ++ afterTotal (c .before .number-at .result) (c .number-at2 .result))
 l₀ c =
     let a = c .before .before .before .before .args in
-    begin (a .out .now) 0 (countLine (a .image .now)) _ (omega (arith, c .before .before .before .before .pre .1)) (count-pieces (a .image .now) _ _ (c .before .number-at .ensures) (c .number-at2 .ensures))
+    begin (a .out .now) 0 (countLine (a .image .now)) _ (omega (arith, c .before .before .before .before .pre .1))
+    (count-pieces (a .image .now) _ _ (c .before .number-at .ensures) (c .number-at2 .ensures))
 
 l₁ : (c : tie.After-put-labelled) → let d = c .before .before .before in Rest d (c .put-labelled .last .0) (c .put-labelled .result) (afterTotal (d .before .number-at .result) (d .number-at2 .result))
 l₁ c = more (l₀ (c .before .before .before)) (c .put-labelled .ensures) _ refl
@@ -38,19 +39,25 @@ slice-aggregate-put-labelled : tie.Need-slice-aggregate-put-labelled
 slice-aggregate-put-labelled c = search needs
 
 put-labelled-requires : tie.Need-put-labelled-requires
-put-labelled-requires c κs = room (l₀ (c .before .before)) ((98 ∷ 108 ∷ 111 ∷ 99 ∷ 107 ∷ 115 ∷ 32 ∷ []) ++ decimal (blockCount (c .before .before .before .before .before .before .args .image .now))) _ refl
+put-labelled-requires c κs =
+    let a = c .before .before .before .before .before .before .args in
+    room (l₀ (c .before .before)) ((98 ∷ 108 ∷ 111 ∷ 99 ∷ 107 ∷ 115 ∷ 32 ∷ []) ++ decimal (blockCount (a .image .now))) _ refl
 
 slice-aggregate-put-labelled-2 : tie.Need-slice-aggregate-put-labelled-2
 slice-aggregate-put-labelled-2 c = search needs
 
 put-labelled-requires-2 : tie.Need-put-labelled-requires-2
-put-labelled-requires-2 c κs = room (l₁ (c .before .before .before .before)) ((32 ∷ 117 ∷ 115 ∷ 101 ∷ 100 ∷ 32 ∷ []) ++ decimal (c .before .before .before .before .before .before .before .before .number-at .result)) _ refl
+put-labelled-requires-2 c κs =
+    let number-at = c .before .before .before .before .before .before .before .before .number-at in
+    room (l₁ (c .before .before .before .before)) ((32 ∷ 117 ∷ 115 ∷ 101 ∷ 100 ∷ 32 ∷ []) ++ decimal (number-at .result)) _ refl
 
 slice-aggregate-put-labelled-3 : tie.Need-slice-aggregate-put-labelled-3
 slice-aggregate-put-labelled-3 c = search needs
 
 put-labelled-requires-3 : tie.Need-put-labelled-requires-3
-put-labelled-requires-3 c κs = room (l₂ (c .before .before .before .before)) ((32 ∷ 102 ∷ 114 ∷ 101 ∷ 101 ∷ 32 ∷ []) ++ decimal (c .before .before .before .before .before .before .before .before .before .before .before .before .number-at2 .result)) _ refl
+put-labelled-requires-3 c κs =
+    let number-at2 = c .before .before .before .before .before .before .before .before .before .before .before .before .number-at2 in
+    room (l₂ (c .before .before .before .before)) ((32 ∷ 102 ∷ 114 ∷ 101 ∷ 101 ∷ 32 ∷ []) ++ decimal (number-at2 .result)) _ refl
 
 put-byte-requires : tie.Need-put-byte-requires
 put-byte-requires c κs = l₃ (c .before .before .before) .fits

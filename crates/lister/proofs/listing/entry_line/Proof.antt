@@ -30,7 +30,8 @@ l₀ : (c : tie.After-number-at2) → Rest c (start c .args .out .now) (start c 
 l₀ c =
     let a = start c .args in
     let o : ℕ = 512 * a .b + 128 * (a .k % 4) + 48 in
-    begin (a .out .now) _ _ _ (start c .pre .1) (entry-pieces (a .image .now) (entryAt (a .b) (a .k)) (a .k) _ _ (o + 80 - o) (c .before .number-at .ensures) (c .number-at2 .ensures) (omega arith))
+    begin (a .out .now) _ _ _ (start c .pre .1)
+    (entry-pieces (a .image .now) (entryAt (a .b) (a .k)) (a .k) _ _ (o + 80 - o) (c .before .number-at .ensures) (c .number-at2 .ensures) (omega arith))
 
 l₁ : (c : tie.After-put-decimal) → let d = c .before .before in Rest d (c .put-decimal .last .0) (c .put-decimal .result) (afterSlot (d .before .number-at .result) (d .number-at2 .result) (name d))
 l₁ c = more (l₀ (c .before .before)) (c .put-decimal .ensures) _ refl
@@ -75,13 +76,17 @@ slice-aggregate-put-labelled : tie.Need-slice-aggregate-put-labelled
 slice-aggregate-put-labelled c = search needs
 
 put-labelled-requires : tie.Need-put-labelled-requires
-put-labelled-requires c κs = room (l₁ (c .before .before .before .before)) ((32 ∷ []) ++ decimal (c .before .before .before .before .before .before .before .number-at .result)) _ refl
+put-labelled-requires c κs =
+    let number-at = c .before .before .before .before .before .before .before .number-at in
+    room (l₁ (c .before .before .before .before)) ((32 ∷ []) ++ decimal (number-at .result)) _ refl
 
 slice-aggregate-put-labelled-2 : tie.Need-slice-aggregate-put-labelled-2
 slice-aggregate-put-labelled-2 c = search needs
 
 put-labelled-requires-2 : tie.Need-put-labelled-requires-2
-put-labelled-requires-2 c κs = room (l₂ (c .before .before .before .before)) ((32 ∷ []) ++ decimal (c .before .before .before .before .before .before .before .before .before .before .before .number-at2 .result)) _ refl
+put-labelled-requires-2 c κs =
+    let number-at2 = c .before .before .before .before .before .before .before .before .before .before .before .number-at2 in
+    room (l₂ (c .before .before .before .before)) ((32 ∷ []) ++ decimal (number-at2 .result)) _ refl
 
 put-byte-requires : tie.Need-put-byte-requires
 put-byte-requires c κs = room (l₃ (c .before .before .before)) (32 ∷ []) _ refl

@@ -23,19 +23,30 @@ sub-left : tie.Need-sub-left Inv-loop μ-loop
 sub-left c = omega arith
 
 loop-holds : tie.Need-loop-holds Inv-loop μ-loop
-loop-holds c = (begin (c .before .before .args .out .now) _ _ _ (c .before .before .pre .2) refl, place-first (next (c .before .before .args .image .now)) (c .before .before .args .first) (c .before .before .args .d) (omega arith))
+loop-holds c =
+    let a = c .before .before .args in
+    let p = c .before .before .pre in
+    (begin (a .out .now) _ _ _ (p .2) refl, place-first (next (a .image .now)) (a .first) (a .d) (omega arith))
 
 slot-line-requires : tie.Need-slot-line-requires Inv-loop μ-loop
 slot-line-requires c κs =
-    let h = place-below _ _ _ _ _ _ (c .before .before .before .before .before .pre .0 .blocks) (c .before .before .loop .inv .1) in
-    (omega arith, room (c .before .before .loop .inv .0) (slotLine (c .before .before .before .before .before .args .image .now) (entryAt (c .before .before .loop .b) (c .before .before .loop .k)) (c .before .before .loop .k)) (slotLines (c .before .before .before .before .before .args .image .now) (c .before .before .loop .k + 1) (c .before .before .loop .left - 1)) (lines-turn (c .before .before .before .before .before .args .image .now) (c .before .before .loop .k) (c .before .before .loop .left) (c .before .before .before .before .before .args .first) (c .before .before .before .before .before .args .d) (c .before .before .loop .b) (c .before .before .before .before .before .pre .1) (c .before .before .loop .inv .1) (omega arith)))
+    let l = c .before .before .loop in
+    let a = c .before .before .before .before .before .args in
+    let p = c .before .before .before .before .before .pre in
+    let h = place-below _ _ _ _ _ _ (p .0 .blocks) (l .inv .1) in (
+      omega arith,
+      room (l .inv .0) (slotLine (a .image .now) (entryAt (l .b) (l .k)) (l .k)) (slotLines (a .image .now) (l .k + 1) (l .left - 1))
+          (lines-turn (a .image .now) (l .k) (l .left) (a .first) (a .d) (l .b) (p .1) (l .inv .1) (omega arith)),
+    )
 
 add-k : tie.Need-add-k Inv-loop μ-loop
 add-k c = omega arith
 
 following-requires : tie.Need-following-requires Inv-loop μ-loop
 following-requires c κs =
-    let h = place-below _ _ _ _ _ _ (c .before .before .before .before .before .before .before .before .pre .0 .blocks) (c .before .before .before .before .before .loop .inv .1) in
+    let l = c .before .before .before .before .before .loop in
+    let p = c .before .before .before .before .before .before .before .before .pre in
+    let h = place-below _ _ _ _ _ _ (p .0 .blocks) (l .inv .1) in
     omega arith
 
 sub-left-2 : tie.Need-sub-left-2 Inv-loop μ-loop
@@ -45,13 +56,23 @@ loop-less : tie.Need-loop-less Inv-loop μ-loop
 loop-less c = omega arith
 
 loop-again : tie.Need-loop-again Inv-loop μ-loop
-loop-again c = (more (c .before .before .before .before .before .before .loop .inv .0) (c .before .before .before .slot-line .ensures) _ (lines-turn (c .before .before .before .before .before .before .before .before .before .args .image .now) (c .before .before .before .before .before .before .loop .k) (c .before .before .before .before .before .before .loop .left) (c .before .before .before .before .before .before .before .before .before .args .first) (c .before .before .before .before .before .before .before .before .before .args .d) (c .before .before .before .before .before .before .loop .b) (c .before .before .before .before .before .before .before .before .before .pre .1) (c .before .before .before .before .before .before .loop .inv .1) (omega arith)), place-then _ _ _ _ _ _ _ (c .before .before .before .before .before .before .loop .inv .1) (omega arith) (c .following .ensures))
+loop-again c =
+    let slot-line = c .before .before .before .slot-line in
+    let l = c .before .before .before .before .before .before .loop in
+    let a = c .before .before .before .before .before .before .before .before .before .args in
+    let p = c .before .before .before .before .before .before .before .before .before .pre in (
+      more (l .inv .0) (slot-line .ensures) _ (lines-turn (a .image .now) (l .k) (l .left) (a .first) (a .d) (l .b) (p .1) (l .inv .1) (omega arith)),
+      place-then _ _ _ _ _ _ _ (l .inv .1) (omega arith) (c .following .ensures),
+    )
 
 same-length : tie.Need-same-length Inv-loop μ-loop
 same-length c = c .before .loop .inv .0 .size
 
 returns : tie.Need-returns Inv-loop μ-loop
-returns c = finish (c .before .loop .inv .0) (lines-end (c .before .before .before .before .args .image .now) (c .before .loop .k) (c .before .loop .left) (omega arith))
+returns c =
+    let l = c .before .loop in
+    let a = c .before .before .before .before .args in
+    finish (l .inv .0) (lines-end (a .image .now) (l .k) (l .left) (omega arith))
 
 pub file-lines-spec : {M : Type 1} → statement M
 file-lines-spec = tie.close (tie.spec Inv-loop μ-loop mul-left sub-left loop-holds slot-line-requires add-k following-requires sub-left-2 loop-less loop-again same-length returns)

@@ -23,7 +23,8 @@ l₀ : (c : tie.After-number-at) → let a = c .before .before .before .args in 
 l₀ c =
     let a = c .before .before .before .args in
     let s = a .image .now in
-    begin (a .out .now) 0 (countLine s ++ joined (fileLine s) (files s (root s))) _ (omega (arith, c .before .before .before .pre .1)) (list-pieces s (c .before .before .before .pre .0) _ (c .number-at .ensures))
+    begin (a .out .now) 0 (countLine s ++ joined (fileLine s) (files s (root s))) _ (omega (arith, c .before .before .before .pre .1))
+    (list-pieces s (c .before .before .before .pre .0) _ (c .number-at .ensures))
 
 l₁ : (c : tie.After-count-line) → let d = c .before .before in Rest d (c .count-line .last .1 .0) (c .count-line .result) (slotLines (d .before .before .before .args .image .now) 1 (4 * d .number-at .result - 2))
 l₁ c = more (l₀ (c .before .before)) (c .count-line .ensures) _ refl
@@ -47,8 +48,11 @@ count-line-requires c κs =
 
 file-lines-requires : tie.Need-file-lines-requires
 file-lines-requires c κs =
-    let s = c .before .before .before .before .before .before .before .before .args .image .now in
-    (sound-directory s (c .before .before .before .before .before .before .before .before .pre .0) _ (c .before .before .before .before .before .number-at .ensures), sound-root s (c .before .before .before .before .before .before .before .before .pre .0) _ (c .before .before .before .before .before .number-at .ensures), l₁ (c .before .before .before) .fits)
+    let number-at = c .before .before .before .before .before .number-at in
+    let a = c .before .before .before .before .before .before .before .before .args in
+    let p = c .before .before .before .before .before .before .before .before .pre in
+    let s = a .image .now in
+    (sound-directory s (p .0) _ (number-at .ensures), sound-root s (p .0) _ (number-at .ensures), l₁ (c .before .before .before) .fits)
 
 same-length : tie.Need-same-length
 same-length c = c .before .before .file-lines .kept .1 .1 .1 .1 .0 ∙ l₁ (c .before .before .before .before .before .before) .size

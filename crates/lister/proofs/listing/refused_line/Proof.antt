@@ -12,16 +12,30 @@ slice-aggregate-put-labelled : tie.Need-slice-aggregate-put-labelled
 slice-aggregate-put-labelled c = search needs
 
 put-labelled-requires : tie.Need-put-labelled-requires
-put-labelled-requires c κs = room (begin (c .before .before .before .args .out .now) 0 (refusedLine (c .before .before .before .args .number)) _ (omega (arith, c .before .before .before .pre)) (refused-pieces (c .before .before .before .args .number))) ((114 ∷ 101 ∷ 102 ∷ 117 ∷ 115 ∷ 101 ∷ 100 ∷ 32 ∷ []) ++ decimal (c .before .before .before .args .number)) _ refl
+put-labelled-requires c κs =
+    let a = c .before .before .before .args in
+    let p = c .before .before .before .pre in
+    room (begin (a .out .now) 0 (refusedLine (a .number)) _ (omega (arith, p)) (refused-pieces (a .number)))
+    ((114 ∷ 101 ∷ 102 ∷ 117 ∷ 115 ∷ 101 ∷ 100 ∷ 32 ∷ []) ++ decimal (a .number)) _ refl
 
 put-byte-requires : tie.Need-put-byte-requires
-put-byte-requires c κs = more (begin (c .before .before .before .before .before .before .before .args .out .now) 0 (refusedLine (c .before .before .before .before .before .before .before .args .number)) _ (omega (arith, c .before .before .before .before .before .before .before .pre)) (refused-pieces (c .before .before .before .before .before .before .before .args .number))) (c .before .before .before .put-labelled .ensures) _ refl .fits
+put-byte-requires c κs =
+    let put-labelled = c .before .before .before .put-labelled in
+    let a = c .before .before .before .before .before .before .before .args in
+    let p = c .before .before .before .before .before .before .before .pre in
+    more (begin (a .out .now) 0 (refusedLine (a .number)) _ (omega (arith, p)) (refused-pieces (a .number))) (put-labelled .ensures) _ refl .fits
 
 same-length : tie.Need-same-length
 same-length c = c .before .before .put-byte .kept .0 ∙ c .before .before .before .before .before .before .put-labelled .kept .0
 
 returns : tie.Need-returns
-returns c = last (more (begin (c .before .before .before .before .before .before .before .before .before .before .args .out .now) 0 (refusedLine (c .before .before .before .before .before .before .before .before .before .before .args .number)) _ (omega (arith, c .before .before .before .before .before .before .before .before .before .before .pre)) (refused-pieces (c .before .before .before .before .before .before .before .before .before .before .args .number))) (c .before .before .before .before .before .before .put-labelled .ensures) _ refl) (c .before .before .put-byte .ensures) refl
+returns c =
+    let put-byte = c .before .before .put-byte in
+    let put-labelled = c .before .before .before .before .before .before .put-labelled in
+    let a = c .before .before .before .before .before .before .before .before .before .before .args in
+    let p = c .before .before .before .before .before .before .before .before .before .before .pre in
+    last (more (begin (a .out .now) 0 (refusedLine (a .number)) _ (omega (arith, p)) (refused-pieces (a .number))) (put-labelled .ensures) _ refl)
+    (put-byte .ensures) refl
 
 pub refused-line-spec : {M : Type 1} → statement M
 refused-line-spec = tie.close (tie.spec slice-aggregate-put-labelled put-labelled-requires put-byte-requires same-length returns)

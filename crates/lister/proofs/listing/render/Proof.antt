@@ -16,7 +16,12 @@ same-length : tie.Need-same-length
 same-length c = search needs
 
 returns : tie.Need-returns
-returns c = at-start (c .before .before .refused-line .ensures) _ (refused-listing (c .before .before .before .before .before .before .before .before .args .image .now) (c .before .before .before .before .before .refusal .result) (c .before .before .before .before .before .refusal .ensures) (c .before .before .before .before .if1 .taken))
+returns c =
+    let refused-line = c .before .before .refused-line in
+    let if1 = c .before .before .before .before .if1 in
+    let refusal = c .before .before .before .before .before .refusal in
+    let a = c .before .before .before .before .before .before .before .before .args in
+    at-start (refused-line .ensures) _ (refused-listing (a .image .now) (refusal .result) (refusal .ensures) (if1 .taken))
 
 list-requires : tie.Need-list-requires
 list-requires c κs =
@@ -28,7 +33,12 @@ same-length-2 : tie.Need-same-length-2
 same-length-2 c = search needs
 
 returns-2 : tie.Need-returns-2
-returns-2 c = at-start (c .before .before .list .ensures) _ (accepted-listing (c .before .before .before .before .before .before .before .before .args .image .now) (c .before .before .before .before .before .refusal .result) (c .before .before .before .before .before .refusal .ensures) (c .before .before .before .before .if1 .left))
+returns-2 c =
+    let list = c .before .before .list in
+    let if1 = c .before .before .before .before .if1 in
+    let refusal = c .before .before .before .before .before .refusal in
+    let a = c .before .before .before .before .before .before .before .before .args in
+    at-start (list .ensures) _ (accepted-listing (a .image .now) (refusal .result) (refusal .ensures) (if1 .left))
 
 pub render-spec : {M : Type 1} → statement M
 render-spec = tie.close (tie.spec refusal-requires refused-line-requires same-length returns list-requires same-length-2 returns-2)

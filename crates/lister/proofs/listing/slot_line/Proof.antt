@@ -16,21 +16,36 @@ is-file-requires c κs = search needs
 
 returns : tie.Need-returns
 returns c =
+    let type-at = c .before .before .type-at in
+    let a = c .before .before .before .before .before .args in
+    let p = c .before .before .before .before .before .pre in
     let t : c .before .is-file .result ≡ false = not-true _ (c .if1 .taken) in
-    finish (begin (c .before .before .before .before .before .args .out .now) _ _ _ (c .before .before .before .before .before .pre .1) refl) (slot-none (c .before .before .before .before .before .args .image .now) (entryAt (c .before .before .before .before .before .args .b) (c .before .before .before .before .before .args .k)) (c .before .before .before .before .before .args .k) _ (c .before .before .type-at .ensures) (sym t ∙ c .before .is-file .ensures))
+    finish (begin (a .out .now) _ _ _ (p .1) refl)
+    (slot-none (a .image .now) (entryAt (a .b) (a .k)) (a .k) _ (type-at .ensures) (sym t ∙ c .before .is-file .ensures))
 
 entry-line-requires : tie.Need-entry-line-requires
 entry-line-requires c κs =
-    let t : c .before .before .is-file .result ≡ true = not-false _ (c .before .if1 .left) in
-    (c .before .before .before .before .before .before .pre .0, begin (c .before .before .before .before .before .before .args .out .now) _ _ _ (c .before .before .before .before .before .before .pre .1) (slot-file (c .before .before .before .before .before .before .args .image .now) (entryAt (c .before .before .before .before .before .before .args .b) (c .before .before .before .before .before .before .args .k)) (c .before .before .before .before .before .before .args .k) _ (c .before .before .before .type-at .ensures) (sym t ∙ c .before .before .is-file .ensures)) .fits)
+    let is-file = c .before .before .is-file in
+    let type-at = c .before .before .before .type-at in
+    let a = c .before .before .before .before .before .before .args in
+    let p = c .before .before .before .before .before .before .pre in
+    let t : is-file .result ≡ true = not-false _ (c .before .if1 .left) in
+    (p .0, begin (a .out .now) _ _ _ (p .1) (slot-file (a .image .now) (entryAt (a .b) (a .k)) (a .k) _ (type-at .ensures) (sym t ∙ is-file .ensures)) .fits)
 
 same-length : tie.Need-same-length
 same-length c = search needs
 
 returns-2 : tie.Need-returns-2
 returns-2 c =
-    let t : c .before .before .before .before .before .is-file .result ≡ true = not-false _ (c .before .before .before .before .if1 .left) in
-    last (begin (c .before .before .before .before .before .before .before .before .before .args .out .now) _ _ _ (c .before .before .before .before .before .before .before .before .before .pre .1) (slot-file (c .before .before .before .before .before .before .before .before .before .args .image .now) (entryAt (c .before .before .before .before .before .before .before .before .before .args .b) (c .before .before .before .before .before .before .before .before .before .args .k)) (c .before .before .before .before .before .before .before .before .before .args .k) _ (c .before .before .before .before .before .before .type-at .ensures) (sym t ∙ c .before .before .before .before .before .is-file .ensures))) (c .before .before .entry-line .ensures) refl
+    let entry-line = c .before .before .entry-line in
+    let if1 = c .before .before .before .before .if1 in
+    let is-file = c .before .before .before .before .before .is-file in
+    let type-at = c .before .before .before .before .before .before .type-at in
+    let a = c .before .before .before .before .before .before .before .before .before .args in
+    let p = c .before .before .before .before .before .before .before .before .before .pre in
+    let t : is-file .result ≡ true = not-false _ (if1 .left) in
+    last (begin (a .out .now) _ _ _ (p .1) (slot-file (a .image .now) (entryAt (a .b) (a .k)) (a .k) _ (type-at .ensures) (sym t ∙ is-file .ensures)))
+    (entry-line .ensures) refl
 
 pub slot-line-spec : {M : Type 1} → statement M
 slot-line-spec = tie.close (tie.spec type-at-requires is-file-requires returns entry-line-requires same-length returns-2)

@@ -38,7 +38,8 @@ module _ (t : ℕ) where
   one : (c : put-digits-lts.After-digit claims (put-digits-at t) put-digits.Post) → let s = c .before .before .before .before .before in Pending (s .args .out .now) (s .args .at) (digits (s .args .most) (s .args .x)) (s .args .out .now) (s .args .at) (c .digit .result ∷ [])
   one c =
       let s = c .before .before .before .before .before in
-      begin (s .args .out .now) _ _ _ (s .pre .1) (digits-one (s .args .most) (s .args .x) (c .digit .result) (c .digit .ensures) (omega arith) (c .before .before .if2 .taken))
+      begin (s .args .out .now) _ _ _ (s .pre .1)
+      (digits-one (s .args .most) (s .args .x) (c .digit .result) (c .digit .ensures) (omega arith) (c .before .before .if2 .taken))
 
   put-byte-requires : put-digits-lts.Need-put-byte-requires claims (put-digits-at t) put-digits.Post
   put-byte-requires c κs = one c .fits
@@ -56,8 +57,11 @@ module _ (t : ℕ) where
   put-digits-requires c κs =
       let s = c .before .before .before .before in
       let k = s .args .most in
-      let x = s .args .x in
-      (omega arith, room (begin (s .args .out .now) _ _ _ (s .pre .1) refl) (digits (k - 1) (x / 10)) _ (digits-more k x (48 + x % 10) refl (omega arith) (c .before .if2 .left)))
+      let x = s .args .x in (
+        omega arith,
+        room (begin (s .args .out .now) _ _ _ (s .pre .1) refl) (digits (k - 1) (x / 10)) _
+            (digits-more k x (48 + x % 10) refl (omega arith) (c .before .if2 .left)),
+      )
 
   digit-requires-2 : put-digits-lts.Need-digit-requires-2 claims (put-digits-at t) put-digits.Post
   digit-requires-2 c κs = omega arith
@@ -66,7 +70,8 @@ module _ (t : ℕ) where
   more-than-one c =
       let s = c .before .before .before .before .before .before .before .before .before in
       let d = c .before .before .before .before in
-      more (begin (s .args .out .now) _ _ _ (s .pre .1) refl) (d .put-digits .ensures) (c .digit2 .result ∷ []) (digits-more (s .args .most) (s .args .x) (c .digit2 .result) (c .digit2 .ensures) (omega arith) (d .before .before .if2 .left))
+      more (begin (s .args .out .now) _ _ _ (s .pre .1) refl) (d .put-digits .ensures) (c .digit2 .result ∷ [])
+      (digits-more (s .args .most) (s .args .x) (c .digit2 .result) (c .digit2 .ensures) (omega arith) (d .before .before .if2 .left))
 
   put-byte-requires-2 : put-digits-lts.Need-put-byte-requires-2 claims (put-digits-at t) put-digits.Post
   put-byte-requires-2 c κs = more-than-one c .fits
@@ -79,4 +84,5 @@ module _ (t : ℕ) where
 
 pub +put-digits-spec : {M : Type 1} → statement M
 +put-digits-spec =
-    close μ-put-digits λ t. put-digits-lts.spec (claims t) (put-digits-at t) put-digits.Post (returns t) (digit-requires t) (put-byte-requires t) (same-length t) (returns-2 t) (sub-put-digits t) (put-digits-requires t) (digit-requires-2 t) (put-byte-requires-2 t) (same-length-2 t) (returns-3 t)
+    close μ-put-digits λ t. put-digits-lts.spec (claims t) (put-digits-at t) put-digits.Post (returns t) (digit-requires t) (put-byte-requires t)
+    (same-length t) (returns-2 t) (sub-put-digits t) (put-digits-requires t) (digit-requires-2 t) (put-byte-requires-2 t) (same-length-2 t) (returns-3 t)

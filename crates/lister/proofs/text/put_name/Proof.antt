@@ -27,7 +27,10 @@ same-length : tie.Need-same-length Inv-loop μ-loop
 same-length c = c .before .before .before .loop .inv .0 .size
 
 returns : tie.Need-returns Inv-loop μ-loop
-returns c = finish (c .before .before .before .loop .inv .0) (name-stop (c .before .before .before .before .before .before .args .field .now) (c .before .before .before .loop .i) (omega arith) (c .if1 .taken))
+returns c =
+    let l = c .before .before .before .loop in
+    let a = c .before .before .before .before .before .before .args in
+    finish (l .inv .0) (name-stop (a .field .now) (l .i) (omega arith) (c .if1 .taken))
 
 shared-slice-read-shown : tie.Need-shared-slice-read-shown Inv-loop μ-loop
 shared-slice-read-shown c = omega arith
@@ -36,7 +39,11 @@ shown-requires : tie.Need-shown-requires Inv-loop μ-loop
 shown-requires c κs = search needs
 
 put-byte-requires : tie.Need-put-byte-requires Inv-loop μ-loop
-put-byte-requires c κs = room (c .before .before .before .before .before .before .loop .inv .0) (c .shown .result ∷ []) _ (name-more (c .before .before .before .before .before .before .before .before .before .args .field .now) (c .before .before .before .before .before .before .loop .i) (omega arith) (c .shown .result) (c .shown .ensures) (c .before .before .before .if1 .left))
+put-byte-requires c κs =
+    let if1 = c .before .before .before .if1 in
+    let l = c .before .before .before .before .before .before .loop in
+    let a = c .before .before .before .before .before .before .before .before .before .args in
+    room (l .inv .0) (c .shown .result ∷ []) _ (name-more (a .field .now) (l .i) (omega arith) (c .shown .result) (c .shown .ensures) (if1 .left))
 
 add-i : tie.Need-add-i Inv-loop μ-loop
 add-i c = omega arith
@@ -45,7 +52,17 @@ loop-less : tie.Need-loop-less Inv-loop μ-loop
 loop-less c = omega arith
 
 loop-again : tie.Need-loop-again Inv-loop μ-loop
-loop-again c = (more (c .before .before .before .before .before .before .before .before .before .loop .inv .0) (c .before .before .put-byte .ensures) _ (name-more (c .before .before .before .before .before .before .before .before .before .before .before .before .args .field .now) (c .before .before .before .before .before .before .before .before .before .loop .i) (omega arith) (c .before .before .before .shown .result) (c .before .before .before .shown .ensures) (c .before .before .before .before .before .before .if1 .left)), omega arith, omega arith)
+loop-again c =
+    let put-byte = c .before .before .put-byte in
+    let shown = c .before .before .before .shown in
+    let if1 = c .before .before .before .before .before .before .if1 in
+    let l = c .before .before .before .before .before .before .before .before .before .loop in
+    let a = c .before .before .before .before .before .before .before .before .before .before .before .before .args in (
+      more (l .inv .0) (put-byte .ensures) _ (name-more (a .field .now) (l .i) (omega arith) (shown .result) (shown .ensures) (if1 .left)),
+      omega
+          arith,
+      omega arith,
+    )
 
 same-length-2 : tie.Need-same-length-2 Inv-loop μ-loop
 same-length-2 c = c .before .loop .inv .0 .size

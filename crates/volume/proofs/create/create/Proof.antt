@@ -20,13 +20,17 @@ mul-o c = search needs
 
 mul-a : tie.Need-mul-a
 mul-a c =
-    let s = c .before .before .before .before .args .image .now in
-    omega (arith, create-inside s _ _ (c .free-slot .ensures) (create-given s _ _ (c .before .before .before .before .pre .1) .some) (c .before .before .before .before .pre .0))
+    let a = c .before .before .before .before .args in
+    let p = c .before .before .before .before .pre in
+    let s = a .image .now in
+    omega (arith, create-inside s _ _ (c .free-slot .ensures) (create-given s _ _ (p .1) .some) (p .0))
 
 add-e : tie.Need-add-e
 add-e c =
-    let s = c .before .before .before .before .args .image .now in
-    omega (arith, create-inside s _ _ (c .free-slot .ensures) (create-given s _ _ (c .before .before .before .before .pre .1) .some) (c .before .before .before .before .pre .0))
+    let a = c .before .before .before .before .args in
+    let p = c .before .before .before .before .pre in
+    let s = a .image .now in
+    omega (arith, create-inside s _ _ (c .free-slot .ensures) (create-given s _ _ (p .1) .some) (p .0))
 
 sub-put-entry : tie.Need-sub-put-entry
 sub-put-entry c = search needs
@@ -36,8 +40,10 @@ part-put-entry-start c = search needs
 
 part-put-entry-end : tie.Need-part-put-entry-end
 part-put-entry-end c =
-    let s = c .before .before .before .before .args .image .now in
-    omega (arith, create-inside s _ _ (c .free-slot .ensures) (create-given s _ _ (c .before .before .before .before .pre .1) .some) (c .before .before .before .before .pre .0))
+    let a = c .before .before .before .before .args in
+    let p = c .before .before .before .before .pre in
+    let s = a .image .now in
+    omega (arith, create-inside s _ _ (c .free-slot .ensures) (create-given s _ _ (p .1) .some) (p .0))
 
 put-entry-requires : tie.Need-put-entry-requires
 put-entry-requires c κs =

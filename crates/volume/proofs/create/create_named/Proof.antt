@@ -19,7 +19,10 @@ same-length : tie.Need-same-length
 same-length c = search needs
 
 returns : tie.Need-returns
-returns c = create-marked (c .before .before .before .args .image .now) _ _ (c .free-slot .ensures) (c .before .before .before .pre .1) (c .before .before .before .args .marks .now)
+returns c =
+    let a = c .before .before .before .args in
+    let p = c .before .before .before .pre in
+    create-marked (a .image .now) _ _ (c .free-slot .ensures) (p .1) (a .marks .now)
 
 pub create-named-spec : {M : Type 1} → statement M
 create-named-spec = tie.close (tie.spec free-slot-requires slice-write-marks same-length returns)

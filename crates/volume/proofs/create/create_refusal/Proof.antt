@@ -34,27 +34,51 @@ find-file-requires c κs =
 
 returns-3 : tie.Need-returns-3
 returns-3 c =
-    let a = c .before .before .before .before .before .before .before .before .before .args in
-    let g : c .before .before .before .before .before .before .good-name .result ≡ true = not-false _ (c .before .before .before .before .before .if1 .left) in
-    let f : c .before .before .before .before .is-file .result ≡ true = not-false _ (c .before .before .before .if2 .left) in
-    refused-taken (a .image .now) (a .name .now) (a .kind) (sym g ∙ c .before .before .before .before .before .before .good-name .ensures) (sym f ∙ c .before .before .before .before .is-file .ensures) _ (c .before .before .find-file .ensures .slot) (c .if3 .taken)
+    let find-file = c .before .before .find-file in
+    let if2 = c .before .before .before .if2 in
+    let is-file = c .before .before .before .before .is-file in
+    let if1 = c .before .before .before .before .before .if1 in
+    let good-name = c .before .before .before .before .before .before .good-name in
+    let a′ = c .before .before .before .before .before .before .before .before .before .args in
+    let a = a′ in
+    let g : good-name .result ≡ true = not-false _ (if1 .left) in
+    let f : is-file .result ≡ true = not-false _ (if2 .left) in
+    refused-taken (a .image .now) (a .name .now) (a .kind) (sym g ∙ good-name .ensures) (sym f ∙ is-file .ensures) _ (find-file .ensures .slot) (c .if3 .taken)
 
 free-slot-requires : tie.Need-free-slot-requires
 free-slot-requires c κs = search needs
 
 returns-4 : tie.Need-returns-4
 returns-4 c =
-    let a = c .before .before .before .before .before .before .before .before .before .before .before .before .args in
-    let g : c .before .before .before .before .before .before .before .before .before .good-name .result ≡ true = not-false _ (c .before .before .before .before .before .before .before .before .if1 .left) in
-    let f : c .before .before .before .before .before .before .before .is-file .result ≡ true = not-false _ (c .before .before .before .before .before .before .if2 .left) in
-    refused-full (a .image .now) (a .name .now) (a .kind) (sym g ∙ c .before .before .before .before .before .before .before .before .before .good-name .ensures) (sym f ∙ c .before .before .before .before .before .before .before .is-file .ensures) _ (c .before .before .before .before .before .find-file .ensures .slot) (c .before .before .before .if3 .left) _ (c .before .before .free-slot .ensures .slot) (c .if4 .taken)
+    let free-slot = c .before .before .free-slot in
+    let if3 = c .before .before .before .if3 in
+    let find-file = c .before .before .before .before .before .find-file in
+    let if2 = c .before .before .before .before .before .before .if2 in
+    let is-file = c .before .before .before .before .before .before .before .is-file in
+    let if1 = c .before .before .before .before .before .before .before .before .if1 in
+    let good-name = c .before .before .before .before .before .before .before .before .before .good-name in
+    let a′ = c .before .before .before .before .before .before .before .before .before .before .before .before .args in
+    let a = a′ in
+    let g : good-name .result ≡ true = not-false _ (if1 .left) in
+    let f : is-file .result ≡ true = not-false _ (if2 .left) in
+    refused-full (a .image .now) (a .name .now) (a .kind) (sym g ∙ good-name .ensures) (sym f ∙ is-file .ensures) _ (find-file .ensures .slot)
+    (if3 .left) _ (free-slot .ensures .slot) (c .if4 .taken)
 
 returns-5 : tie.Need-returns-5
 returns-5 c =
-    let a = c .before .before .before .before .before .before .before .before .before .before .before .before .args in
-    let g : c .before .before .before .before .before .before .before .before .before .good-name .result ≡ true = not-false _ (c .before .before .before .before .before .before .before .before .if1 .left) in
-    let f : c .before .before .before .before .before .before .before .is-file .result ≡ true = not-false _ (c .before .before .before .before .before .before .if2 .left) in
-    not-refused (a .image .now) (a .name .now) (a .kind) (sym g ∙ c .before .before .before .before .before .before .before .before .before .good-name .ensures) (sym f ∙ c .before .before .before .before .before .before .before .is-file .ensures) _ (c .before .before .before .before .before .find-file .ensures .slot) (c .before .before .before .if3 .left) _ (c .before .before .free-slot .ensures .slot) (c .if4 .left)
+    let free-slot = c .before .before .free-slot in
+    let if3 = c .before .before .before .if3 in
+    let find-file = c .before .before .before .before .before .find-file in
+    let if2 = c .before .before .before .before .before .before .if2 in
+    let is-file = c .before .before .before .before .before .before .before .is-file in
+    let if1 = c .before .before .before .before .before .before .before .before .if1 in
+    let good-name = c .before .before .before .before .before .before .before .before .before .good-name in
+    let a′ = c .before .before .before .before .before .before .before .before .before .before .before .before .args in
+    let a = a′ in
+    let g : good-name .result ≡ true = not-false _ (if1 .left) in
+    let f : is-file .result ≡ true = not-false _ (if2 .left) in
+    not-refused (a .image .now) (a .name .now) (a .kind) (sym g ∙ good-name .ensures) (sym f ∙ is-file .ensures) _ (find-file .ensures .slot)
+    (if3 .left) _ (free-slot .ensures .slot) (c .if4 .left)
 
 pub create-refusal-spec : {M : Type 1} → statement M
 create-refusal-spec =

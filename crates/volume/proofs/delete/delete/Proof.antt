@@ -12,19 +12,28 @@ locate-requires : tie.Need-locate-requires
 locate-requires c κs = search needs
 
 release-requires : tie.Need-release-requires
-release-requires c κs = (sound-shape _ (c .before .before .before .before .before .pre .0), opened-ok (c .before .locate .ensures) (c .before .before .before .before .before .pre .1) (c .before .before .before .before .before .pre .0), sound _ (c .before .before .before .before .before .pre .0) .used-is)
+release-requires c κs =
+    let p = c .before .before .before .before .before .pre in
+    (sound-shape _ (p .0), opened-ok (c .before .locate .ensures) (p .1) (p .0), sound _ (p .0) .used-is)
 
 clear-slot-requires : tie.Need-clear-slot-requires
 clear-slot-requires c κs =
-    let h = sound-shape (c .before .before .before .before .before .before .before .before .before .args .image .now) (c .before .before .before .before .before .before .before .before .before .pre .0) in
-    omega (arith, c .before .before .before .before .before .locate .ensures .inside)
+    let locate = c .before .before .before .before .before .locate in
+    let a = c .before .before .before .before .before .before .before .before .before .args in
+    let p = c .before .before .before .before .before .before .before .before .before .pre in
+    let h = sound-shape (a .image .now) (p .0) in
+    omega (arith, locate .ensures .inside)
 
 same-length : tie.Need-same-length
 same-length c = search needs
 
 returns : tie.Need-returns
 unfolding deleteAt
-returns c = c .before .before .clear-slot .ensures ∙ rw (c .before .before .before .before .before .before .release .ensures, c .before .before .before .before .before .before .before .before .locate .ensures .place, opened-blocks (c .before .before .before .before .before .before .before .before .locate .ensures))
+returns c =
+    let clear-slot = c .before .before .clear-slot in
+    let release = c .before .before .before .before .before .before .release in
+    let locate = c .before .before .before .before .before .before .before .before .locate in
+    clear-slot .ensures ∙ rw (release .ensures, locate .ensures .place, opened-blocks (locate .ensures))
 
 pub delete-spec : {M : Type 1} → statement M
 delete-spec =

@@ -17,14 +17,21 @@ mark-requires c κs =
     omega (arith, c .before .locate .ensures .inside, c .before .before .before .before .before .pre .2)
 
 mark-entries-requires : tie.Need-mark-entries-requires
-mark-entries-requires c κs = (opened-run (c .before .before .before .before .before .locate .ensures) (c .before .before .before .before .before .before .before .before .before .pre .1) (c .before .before .before .before .before .before .before .before .before .pre .0), omega (arith, c .before .before .before .before .before .before .before .before .before .pre .2))
+mark-entries-requires c κs =
+    let locate = c .before .before .before .before .before .locate in
+    let p = c .before .before .before .before .before .before .before .before .before .pre in
+    (opened-run (locate .ensures) (p .1) (p .0), omega (arith, p .2))
 
 same-length : tie.Need-same-length
 same-length c = search needs
 
 returns : tie.Need-returns
 unfolding deleteNamed marked
-returns c = c .before .before .mark-entries .ensures ∙ rw (c .before .before .before .before .before .before .mark .ensures, opened-blocks (c .before .before .before .before .before .before .before .before .locate .ensures), entry-block (c .before .before .before .before .before .before .before .before .locate .ensures))
+returns c =
+    let mark-entries = c .before .before .mark-entries in
+    let mark = c .before .before .before .before .before .before .mark in
+    let locate = c .before .before .before .before .before .before .before .before .locate in
+    mark-entries .ensures ∙ rw (mark .ensures, opened-blocks (locate .ensures), entry-block (locate .ensures))
 
 pub delete-named-spec : {M : Type 1} → statement M
 delete-named-spec =

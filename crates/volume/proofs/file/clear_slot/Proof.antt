@@ -32,8 +32,11 @@ same-length c = search needs
 
 returns : tie.Need-returns
 returns c =
-    let a = c .before .before .before .before .before .args in
-    lent-part (a .image .now) (512 * a .b) ((512 * a .b + 512) - 512 * a .b) (128 * (a .k % 4)) (zeros 128) _ (c .before .before .clear-part .ensures) (omega arith) (omega (arith, length-zeros 128))
+    let clear-part = c .before .before .clear-part in
+    let a′ = c .before .before .before .before .before .args in
+    let a = a′ in
+    lent-part (a .image .now) (512 * a .b) ((512 * a .b + 512) - 512 * a .b) (128 * (a .k % 4)) (zeros 128) _ (clear-part .ensures) (omega arith)
+    (omega (arith, length-zeros 128))
 
 pub clear-slot-spec : {M : Type 1} → statement M
 clear-slot-spec =

@@ -40,8 +40,11 @@ same-length c = search needs
 
 returns : tie.Need-returns
 returns c =
-    let a = c .before .before .before .before .before .args in
-    lent-file (a .image .now) (512 * a .b) ((512 * a .b + 512) - 512 * a .b) (128 * (a .k % 4)) (a .first) (a .size) (a .blocks) (a .time) _ (c .before .before .put-file .ensures) (omega arith) (omega arith)
+    let put-file = c .before .before .put-file in
+    let a′ = c .before .before .before .before .before .args in
+    let a = a′ in
+    lent-file (a .image .now) (512 * a .b) ((512 * a .b + 512) - 512 * a .b) (128 * (a .k % 4)) (a .first) (a .size) (a .blocks) (a .time) _
+    (put-file .ensures) (omega arith) (omega arith)
 
 pub set-file-spec : {M : Type 1} → statement M
 set-file-spec =

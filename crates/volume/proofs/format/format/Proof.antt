@@ -16,8 +16,12 @@ same-length c = search needs
 
 returns : tie.Need-returns
 returns c =
-    let a = c .before .before .before .before .before .args in
-    (c .before .format-refusal .ensures, formatted-not (a .image .now) (a .d) (a .uuid) (a .name .now) (a .time) _ (c .before .format-refusal .ensures) (c .if1 .taken))
+    let a′ = c .before .before .before .before .before .args in
+    let a = a′ in (
+      c .before .format-refusal .ensures,
+      formatted-not (a .image .now) (a .d) (a .uuid) (a .name .now) (a .time) _
+          (c .before .format-refusal .ensures) (c .if1 .taken),
+    )
 
 cast-n : tie.Need-cast-n
 cast-n c =
@@ -48,20 +52,29 @@ add-used c =
 
 put-header-requires : tie.Need-put-header-requires
 put-header-requires c κs =
-    let a = c .before .before .before .before .before .before .before .before .before .before .args in
-    let g = format-given (a .image .now) (a .d) (a .name .now) (sym (c .before .before .before .before .before .before .format-refusal .ensures) ∙ c .before .before .before .before .before .if1 .left) in
+    let if1 = c .before .before .before .before .before .if1 in
+    let format-refusal = c .before .before .before .before .before .before .format-refusal in
+    let a′ = c .before .before .before .before .before .before .before .before .before .before .args in
+    let a = a′ in
+    let g = format-given (a .image .now) (a .d) (a .name .now) (sym (format-refusal .ensures) ∙ if1 .left) in
     (omega arith, omega arith, omega arith, g .label)
 
 put-table-requires : tie.Need-put-table-requires
 put-table-requires c κs =
-    let a = c .before .before .before .before .before .before .before .before .before .before .before .before .before .before .args in
-    let g = format-given (a .image .now) (a .d) (a .name .now) (sym (c .before .before .before .before .before .before .before .before .before .before .format-refusal .ensures) ∙ c .before .before .before .before .before .before .before .before .before .if1 .left) in
+    let if1 = c .before .before .before .before .before .before .before .before .before .if1 in
+    let format-refusal = c .before .before .before .before .before .before .before .before .before .before .format-refusal in
+    let a′ = c .before .before .before .before .before .before .before .before .before .before .before .before .before .before .args in
+    let a = a′ in
+    let g = format-given (a .image .now) (a .d) (a .name .now) (sym (format-refusal .ensures) ∙ if1 .left) in
     (omega arith, g .some, g .few, omega arith)
 
 put-root-requires : tie.Need-put-root-requires
 put-root-requires c κs =
-    let a = c .before .before .before .before .before .before .before .before .before .before .before .before .before .before .before .before .before .before .args in
-    let g = format-given (a .image .now) (a .d) (a .name .now) (sym (c .before .before .before .before .before .before .before .before .before .before .before .before .before .before .format-refusal .ensures) ∙ c .before .before .before .before .before .before .before .before .before .before .before .before .before .if1 .left) in
+    let if1 = c .before .before .before .before .before .before .before .before .before .before .before .before .before .if1 in
+    let format-refusal = c .before .before .before .before .before .before .before .before .before .before .before .before .before .before .format-refusal in
+    let a′ = c .before .before .before .before .before .before .before .before .before .before .before .before .before .before .before .before .before .before .args in
+    let a = a′ in
+    let g = format-given (a .image .now) (a .d) (a .name .now) (sym (format-refusal .ensures) ∙ if1 .left) in
     (omega arith, g .some, g .few, omega arith)
 
 same-length-2 : tie.Need-same-length-2
@@ -69,13 +82,21 @@ same-length-2 c = search needs
 
 returns-2 : tie.Need-returns-2
 returns-2 c =
-    let a = c .before .before .before .before .before .before .before .before .before .before .before .before .before .before .before .before .before .before .before .before .before .args in
+    let put-root = c .before .before .put-root in
+    let put-table = c .before .before .before .before .before .before .put-table in
+    let put-header = c .before .before .before .before .before .before .before .before .before .before .put-header in
+    let clear = c .before .before .before .before .before .before .before .before .before .before .before .before .before .before .clear in
+    let if1 = c .before .before .before .before .before .before .before .before .before .before .before .before .before .before .before .before .if1 in
+    let format-refusal = c .before .before .before .before .before .before .before .before .before .before .before .before .before .before .before .before .before .format-refusal in
+    let a′ = c .before .before .before .before .before .before .before .before .before .before .before .before .before .before .before .before .before .before .before .before .before .args in
+    let a = a′ in
     let s = a .image .now in
-    let r = c .before .before .before .before .before .before .before .before .before .before .before .before .before .before .before .before .before .format-refusal .ensures in
-    let z = c .before .before .before .before .before .before .before .before .before .before .before .before .before .before .before .before .if1 .left in
+    let r = format-refusal .ensures in
+    let z = if1 .left in
     let g = format-given s (a .d) (a .name .now) (sym r ∙ z) in (
       sym z ∙ r,
-      c .before .before .put-root .ensures ∙ rw (c .before .before .before .before .before .before .put-table .ensures, c .before .before .before .before .before .before .before .before .before .before .put-header .ensures, c .before .before .before .before .before .before .before .before .before .before .before .before .before .before .clear .ensures) (image-written s (blockCount s) (a .d) (a .uuid) (a .name .now) (a .time) (g .shape .whole))
+      put-root .ensures ∙ rw (put-table .ensures, put-header .ensures, clear .ensures)
+          (image-written s (blockCount s) (a .d) (a .uuid) (a .name .now) (a .time) (g .shape .whole))
           ∙ formatted-done s (a .d) (a .uuid) (a .name .now) (a .time) _ r z,
     )
 

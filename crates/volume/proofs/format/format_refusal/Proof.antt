@@ -29,9 +29,13 @@ returns-3 c =
 
 returns-4 : tie.Need-returns-4
 returns-4 c =
-    let a = c .before .before .before .before .before .before .before .args in
-    let t : c .before .before .before .before .sized .result ≡ true = not-false _ (c .before .before .before .if1 .left) in
-    refused-label (a .image .now) (a .d) (a .name .now) (sym t ∙ c .before .before .before .before .sized .ensures) (c .before .before .if2 .left) (c .before .if3 .left) (c .if4 .taken)
+    let if2 = c .before .before .if2 in
+    let if1 = c .before .before .before .if1 in
+    let sized = c .before .before .before .before .sized in
+    let a′ = c .before .before .before .before .before .before .before .args in
+    let a = a′ in
+    let t : sized .result ≡ true = not-false _ (if1 .left) in
+    refused-label (a .image .now) (a .d) (a .name .now) (sym t ∙ sized .ensures) (if2 .left) (c .before .if3 .left) (c .if4 .taken)
 
 add-root : tie.Need-add-root
 add-root c = search needs
@@ -44,15 +48,25 @@ add-if5 c = search needs
 
 returns-5 : tie.Need-returns-5
 returns-5 c =
-    let a = c .before .before .before .before .before .before .before .before .args in
-    let t : c .before .before .before .before .before .sized .result ≡ true = not-false _ (c .before .before .before .before .if1 .left) in
-    refused-room (a .image .now) (a .d) (a .name .now) (sym t ∙ c .before .before .before .before .before .sized .ensures) (c .before .before .before .if2 .left) (c .before .before .if3 .left) (c .before .if4 .left) (c .if5 .taken)
+    let if3 = c .before .before .if3 in
+    let if2 = c .before .before .before .if2 in
+    let if1 = c .before .before .before .before .if1 in
+    let sized = c .before .before .before .before .before .sized in
+    let a′ = c .before .before .before .before .before .before .before .before .args in
+    let a = a′ in
+    let t : sized .result ≡ true = not-false _ (if1 .left) in
+    refused-room (a .image .now) (a .d) (a .name .now) (sym t ∙ sized .ensures) (if2 .left) (if3 .left) (c .before .if4 .left) (c .if5 .taken)
 
 returns-6 : tie.Need-returns-6
 returns-6 c =
-    let a = c .before .before .before .before .before .before .before .before .args in
-    let t : c .before .before .before .before .before .sized .result ≡ true = not-false _ (c .before .before .before .before .if1 .left) in
-    not-refused (a .image .now) (a .d) (a .name .now) (sym t ∙ c .before .before .before .before .before .sized .ensures) (c .before .before .before .if2 .left) (c .before .before .if3 .left) (c .before .if4 .left) (c .if5 .left)
+    let if3 = c .before .before .if3 in
+    let if2 = c .before .before .before .if2 in
+    let if1 = c .before .before .before .before .if1 in
+    let sized = c .before .before .before .before .before .sized in
+    let a′ = c .before .before .before .before .before .before .before .before .args in
+    let a = a′ in
+    let t : sized .result ≡ true = not-false _ (if1 .left) in
+    not-refused (a .image .now) (a .d) (a .name .now) (sym t ∙ sized .ensures) (if2 .left) (if3 .left) (c .before .if4 .left) (c .if5 .left)
 
 pub format-refusal-spec : {M : Type 1} → statement M
 format-refusal-spec =

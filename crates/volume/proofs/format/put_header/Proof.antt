@@ -41,13 +41,16 @@ same-length c = search needs
 
 returns : tie.Need-returns
 returns c =
-    let a = c .before .before .before .before .before .before .before .before .before .before .args in
+    let put-labels = c .before .before .put-labels in
+    let put-numbers = c .before .before .before .before .before .before .put-numbers in
+    let a′ = c .before .before .before .before .before .before .before .before .before .before .args in
+    let a = a′ in
     let s = a .image .now in
     let h = length-header (a .n) (a .used) in
-    let e = lent-part s 0 512 0 (headerBytes (a .n) (a .used)) (c .before .before .before .before .before .before .put-numbers .last .0) (c .before .before .before .before .before .before .put-numbers .ensures) (omega arith) (omega arith) in
+    let e = lent-part s 0 512 0 (headerBytes (a .n) (a .used)) (put-numbers .last .0) (put-numbers .ensures) (omega arith) (omega arith) in
     let l = ap length e ∙ length-splice s 0 (headerBytes (a .n) (a .used)) (omega arith) in
     let u : length (a .uuid ++ a .name .now) ≡ 144 = length-append (a .uuid) (a .name .now) ∙ omega arith in
-    lent-part _ 0 512 112 (a .uuid ++ a .name .now) (c .before .before .put-labels .last .0) (c .before .before .put-labels .ensures) (omega arith) (omega arith)
+    lent-part _ 0 512 112 (a .uuid ++ a .name .now) (put-labels .last .0) (put-labels .ensures) (omega arith) (omega arith)
     ∙ ap (λ (x : List ℕ). splice x 112 (a .uuid ++ a .name .now)) e
 
 pub put-header-spec : {M : Type 1} → statement M

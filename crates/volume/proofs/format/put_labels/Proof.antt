@@ -19,8 +19,12 @@ same-length c = search needs
 
 returns : tie.Need-returns
 returns c =
-    let a = c .before .before .before .before .before .before .before .before .before .before .before .args in
-    c .before .before .copy-part2 .ensures ∙ rw (c .before .before .before .before .before .before .copy-part .ensures) (labels-written (a .block .now) (a .t2) (a .name .now) (omega arith) (c .before .before .before .before .before .before .before .before .before .before .before .pre .1) (c .before .before .before .before .before .before .before .before .before .before .before .pre .0))
+    let copy-part2 = c .before .before .copy-part2 in
+    let copy-part = c .before .before .before .before .before .before .copy-part in
+    let a′ = c .before .before .before .before .before .before .before .before .before .before .before .args in
+    let p = c .before .before .before .before .before .before .before .before .before .before .before .pre in
+    let a = a′ in
+    copy-part2 .ensures ∙ rw (copy-part .ensures) (labels-written (a .block .now) (a .t2) (a .name .now) (omega arith) (p .1) (p .0))
 
 pub put-labels-spec : {M : Type 1} → statement M
 put-labels-spec =

@@ -39,8 +39,17 @@ same-length c = search needs
 
 returns : tie.Need-returns
 returns c =
-    let a = c .before .before .before .before .before .before .before .before .before .before .before .before .before .before .before .before .before .before .before .before .before .before .before .before .before .before .args in
-    c .before .before .put325 .ensures ∙ rw (c .before .before .before .before .before .before .put324 .ensures, c .before .before .before .before .before .before .before .before .before .before .put323 .ensures, c .before .before .before .before .before .before .before .before .before .before .before .before .before .before .put322 .ensures, c .before .before .before .before .before .before .before .before .before .before .before .before .before .before .before .before .before .before .put32 .ensures, c .before .before .before .before .before .before .before .before .before .before .before .before .before .before .before .before .before .before .before .before .before .before .copy-part .ensures) (header-written (a .block .now) (a .n) (a .used) (c .before .before .before .before .before .before .before .before .before .before .before .before .before .before .before .before .before .before .before .before .before .before .before .before .before .before .pre .0))
+    let put325 = c .before .before .put325 in
+    let put324 = c .before .before .before .before .before .before .put324 in
+    let put323 = c .before .before .before .before .before .before .before .before .before .before .put323 in
+    let put322 = c .before .before .before .before .before .before .before .before .before .before .before .before .before .before .put322 in
+    let put32 = c .before .before .before .before .before .before .before .before .before .before .before .before .before .before .before .before .before .before .put32 in
+    let copy-part = c .before .before .before .before .before .before .before .before .before .before .before .before .before .before .before .before .before .before .before .before .before .before .copy-part in
+    let a′ = c .before .before .before .before .before .before .before .before .before .before .before .before .before .before .before .before .before .before .before .before .before .before .before .before .before .before .args in
+    let p = c .before .before .before .before .before .before .before .before .before .before .before .before .before .before .before .before .before .before .before .before .before .before .before .before .before .before .pre in
+    let a = a′ in
+    put325 .ensures ∙ rw (put324 .ensures, put323 .ensures, put322 .ensures, put32 .ensures, copy-part .ensures)
+    (header-written (a .block .now) (a .n) (a .used) (p .0))
 
 pub put-numbers-spec : {M : Type 1} → statement M
 put-numbers-spec =

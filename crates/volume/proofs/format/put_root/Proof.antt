@@ -64,17 +64,21 @@ same-length c = search needs
 
 returns : tie.Need-returns
 returns c =
-    let a = c .before .before .before .before .before .before .before .before .before .before .args in
+    let put-end = c .before .before .put-end in
+    let put-entry = c .before .before .before .before .before .before .put-entry in
+    let a′ = c .before .before .before .before .before .before .before .before .before .before .args in
+    let p′ = c .before .before .before .before .before .before .before .before .before .before .pre in
+    let a = a′ in
     let s = a .image .now in
     let at : ℕ = 512 * a .root in
     let last : ℕ = at + 512 * (a .d - 1) in
     let p : List ℕ = entryBytes 1 0 0 0 (a .root) (a .root) (a .d) (a .time) 0 [] in
     let h = length-entry 1 0 0 0 (a .root) (a .root) (a .d) (a .time) 0 [] (omega arith) in
-    let e = lent-part s at (at + 512 - at) 0 p (c .before .before .before .before .before .before .put-entry .last .0) (c .before .before .before .before .before .before .put-entry .ensures) (omega arith) (omega arith) ∙ ap (λ (x : ℕ). splice s x p) (add-zero at) in
+    let e = lent-part s at (at + 512 - at) 0 p (put-entry .last .0) (put-entry .ensures) (omega arith) (omega arith) ∙ ap (λ (x : ℕ). splice s x p) (add-zero at) in
     let l = ap length e ∙ length-splice s at p (omega arith) in
-    lent-part _ last (last + 512 - last) 384 (0xFF ∷ []) (c .before .before .put-end .last .0) (c .before .before .put-end .ensures) (omega arith) (omega arith)
+    lent-part _ last (last + 512 - last) 384 (0xFF ∷ []) (put-end .last .0) (put-end .ensures) (omega arith) (omega arith)
     ∙ ap (λ (x : List ℕ). splice x (last + 384) (0xFF ∷ [])) e
-    ∙ directory-written s (a .root) (a .d) (a .time) (c .before .before .before .before .before .before .before .before .before .before .pre .1)
+    ∙ directory-written s (a .root) (a .d) (a .time) (p′ .1)
 
 pub put-root-spec : {M : Type 1} → statement M
 put-root-spec =

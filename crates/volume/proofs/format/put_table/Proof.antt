@@ -55,15 +55,20 @@ loop-less c = omega arith
 
 loop-again : tie.Need-loop-again Inv-loop μ-loop
 loop-again c =
-    let a = c .before .before .before .before .before .before .before .before .args in
-    let l = c .before .before .before .before .before .before .loop in
+    let put32 = c .before .before .put32 in
+    let first-entry = c .before .before .before .before .first-entry in
+    let l′ = c .before .before .before .before .before .before .loop in
+    let a′ = c .before .before .before .before .before .before .before .before .args in
+    let p = c .before .before .before .before .before .before .before .before .pre in
+    let a = a′ in
+    let l = l′ in
     let xs : List ℕ = firstEntries (a .n) (a .d) in
-    let k : length xs ≡ rootBlock (a .n) + a .d = entries-length (a .n) (a .d) (c .before .before .before .before .before .before .before .before .pre .1) in (
+    let k : length xs ≡ rootBlock (a .n) + a .d = entries-length (a .n) (a .d) (p .1) in (
       omega arith,
       omega arith,
       omega arith,
-      c .before .before .put32 .ensures ∙ ap (λ (x : List ℕ). splice x (512 + 4 * l .b) (bytes4 (c .before .before .before .before .first-entry .result))) (l .inv .3)
-          ∙ words-more (a .image .now) xs (omega arith) (l .b) _ (omega arith) (c .before .before .before .before .first-entry .ensures),
+      put32 .ensures ∙ ap (λ (x : List ℕ). splice x (512 + 4 * l .b) (bytes4 (first-entry .result))) (l .inv .3)
+          ∙ words-more (a .image .now) xs (omega arith) (l .b) _ (omega arith) (first-entry .ensures),
     )
 
 same-length : tie.Need-same-length Inv-loop μ-loop

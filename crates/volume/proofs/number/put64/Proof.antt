@@ -29,8 +29,11 @@ same-length c = search needs
 returns : tie.Need-returns
 unfolding bytes8 bytes4
 returns c =
-    let a = c .before .before .before .before .before .before .before .before .before .args in
-    c .before .before .put322 .ensures ∙ rw (c .before .before .before .before .before .before .put32 .ensures) (splice-append (a .s .now) (a .at) (bytes4 (a .v / 4294967296)) (bytes4 (a .v % 4294967296)) (omega arith))
+    let put322 = c .before .before .put322 in
+    let put32 = c .before .before .before .before .before .before .put32 in
+    let a′ = c .before .before .before .before .before .before .before .before .before .args in
+    let a = a′ in
+    put322 .ensures ∙ rw (put32 .ensures) (splice-append (a .s .now) (a .at) (bytes4 (a .v / 4294967296)) (bytes4 (a .v % 4294967296)) (omega arith))
     ∙ ap (λ (low : List ℕ). splice (a .s .now) (a .at) (bytes4 (a .v / 4294967296) ++ low)) (bytes4-low (a .v))
 
 pub put64-spec : {M : Type 1} → statement M

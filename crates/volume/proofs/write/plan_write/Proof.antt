@@ -16,24 +16,40 @@ needed-requires c κs =
     (z .0, omega arith, z .2, omega arith)
 
 last-block-requires : tie.Need-last-block-requires
-last-block-requires c κs = opened-run (c .before .locate .ensures) (name-given _ _ _ _ (c .before .before .before .before .pre .1)) (c .before .before .before .before .pre .0)
+last-block-requires c κs =
+    let p = c .before .before .before .before .pre in
+    opened-run (c .before .locate .ensures) (name-given _ _ _ _ (p .1)) (p .0)
 
 start-block-requires : tie.Need-start-block-requires
 start-block-requires c κs =
-    let h = sound-shape _ (c .before .before .before .before .before .pre .0) in
-    (omega arith, room-given _ _ _ _ (c .before .before .before .before .before .pre .0) (c .before .before .before .before .before .pre .1) (c .before .before .locate .ensures) _ (c .before .needed .ensures))
+    let locate = c .before .before .locate in
+    let p = c .before .before .before .before .before .pre in
+    let h = sound-shape _ (p .0) in
+    (omega arith, room-given _ _ _ _ (p .0) (p .1) (locate .ensures) _ (c .before .needed .ensures))
 
 add-larger : tie.Need-add-larger
-add-larger c = omega (arith, plan-sizes _ _ _ _ (c .before .before .before .before .before .before .pre .0) (c .before .before .before .before .before .before .pre .1) (c .before .before .before .locate .ensures))
+add-larger c =
+    let locate = c .before .before .before .locate in
+    let p = c .before .before .before .before .before .before .pre in
+    omega (arith, plan-sizes _ _ _ _ (p .0) (p .1) (locate .ensures))
 
 larger-requires : tie.Need-larger-requires
 larger-requires c κs = search needs
 
 add-t14 : tie.Need-add-t14
-add-t14 c = omega (arith, plan-sizes _ _ _ _ (c .before .before .before .before .before .before .before .pre .0) (c .before .before .before .before .before .before .before .pre .1) (c .before .before .before .before .locate .ensures), c .before .before .before .needed .ensures)
+add-t14 c =
+    let needed = c .before .before .before .needed in
+    let locate = c .before .before .before .before .locate in
+    let p = c .before .before .before .before .before .before .before .pre in
+    omega (arith, plan-sizes _ _ _ _ (p .0) (p .1) (locate .ensures), needed .ensures)
 
 returns : tie.Need-returns
-returns c = planned _ _ _ _ (c .before .before .before .before .before .before .before .pre .0) (c .before .before .before .before .before .before .before .pre .1) (c .before .before .before .before .locate .ensures) _ (c .before .before .before .needed .ensures) _ _ _ (c .before .before .last-block .ensures) (c .before .start-block .ensures) (c .larger .ensures)
+returns c =
+    let last-block = c .before .before .last-block in
+    let needed = c .before .before .before .needed in
+    let locate = c .before .before .before .before .locate in
+    let p = c .before .before .before .before .before .before .before .pre in
+    planned _ _ _ _ (p .0) (p .1) (locate .ensures) _ (needed .ensures) _ _ _ (last-block .ensures) (c .before .start-block .ensures) (c .larger .ensures)
 
 pub plan-write-spec : {M : Type 1} → statement M
 plan-write-spec =

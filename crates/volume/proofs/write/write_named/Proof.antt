@@ -13,29 +13,57 @@ locate-requires : tie.Need-locate-requires
 locate-requires c κs = (c .before .before .before .pre .0, name-given _ _ _ _ (c .before .before .before .pre .1))
 
 last-block-requires : tie.Need-last-block-requires
-last-block-requires c κs = opened-run (c .locate .ensures) (name-given _ _ _ _ (c .before .before .before .before .pre .1)) (c .before .before .before .before .pre .0)
+last-block-requires c κs =
+    let p = c .before .before .before .before .pre in
+    opened-run (c .locate .ensures) (name-given _ _ _ _ (p .1)) (p .0)
 
 needed-requires : tie.Need-needed-requires
 needed-requires c κs =
-    let z = plan-sizes _ _ _ _ (c .before .before .before .before .before .pre .0) (c .before .before .before .before .before .pre .1) (c .before .locate .ensures) in
+    let p = c .before .before .before .before .before .pre in
+    let z = plan-sizes _ _ _ _ (p .0) (p .1) (c .before .locate .ensures) in
     (z .0, omega arith, z .2, omega arith)
 
 mark-requires : tie.Need-mark-requires
 mark-requires c κs =
-    let h = sound-shape (c .before .before .before .before .before .before .before .args .image .now) (c .before .before .before .before .before .before .before .pre .0) in
-    omega (arith, c .before .before .before .locate .ensures .inside, c .before .before .before .before .before .before .before .pre .2)
+    let locate = c .before .before .before .locate in
+    let a = c .before .before .before .before .before .before .before .args in
+    let p = c .before .before .before .before .before .before .before .pre in
+    let h = sound-shape (a .image .now) (p .0) in
+    omega (arith, locate .ensures .inside, p .2)
 
 mark-written-requires : tie.Need-mark-written-requires
-mark-written-requires c κs = (opened-run (c .before .before .before .before .before .before .before .locate .ensures) (name-given _ _ _ _ (c .before .before .before .before .before .before .before .before .before .before .before .pre .1)) (c .before .before .before .before .before .before .before .before .before .before .before .pre .0), plan-sizes _ _ _ _ (c .before .before .before .before .before .before .before .before .before .before .before .pre .0) (c .before .before .before .before .before .before .before .before .before .before .before .pre .1) (c .before .before .before .before .before .before .before .locate .ensures) .2, omega (arith, c .before .before .before .before .before .before .before .before .before .before .before .pre .2))
+mark-written-requires c κs =
+    let locate = c .before .before .before .before .before .before .before .locate in
+    let p = c .before .before .before .before .before .before .before .before .before .before .before .pre in
+    (opened-run (locate .ensures) (name-given _ _ _ _ (p .1)) (p .0), plan-sizes _ _ _ _ (p .0) (p .1) (locate .ensures) .2, omega (arith, p .2))
 
 mark-grown-requires : tie.Need-mark-grown-requires
-mark-grown-requires c κs = (sound-shape _ (c .before .before .before .before .before .before .before .before .before .before .before .before .before .before .before .pre .0), rw (c .before .before .before .before .before .before .before .before .before .before .last-block .ensures) (last-under (opened-run (c .before .before .before .before .before .before .before .before .before .before .before .locate .ensures) (name-given _ _ _ _ (c .before .before .before .before .before .before .before .before .before .before .before .before .before .before .before .pre .1)) (c .before .before .before .before .before .before .before .before .before .before .before .before .before .before .before .pre .0))), room-given _ _ _ _ (c .before .before .before .before .before .before .before .before .before .before .before .before .before .before .before .pre .0) (c .before .before .before .before .before .before .before .before .before .before .before .before .before .before .before .pre .1) (c .before .before .before .before .before .before .before .before .before .before .before .locate .ensures) _ (c .before .before .before .before .before .before .before .before .before .needed .ensures), omega (arith, c .before .before .before .before .before .before .before .before .before .before .before .before .before .before .before .pre .2))
+mark-grown-requires c κs =
+    let needed = c .before .before .before .before .before .before .before .before .before .needed in
+    let last-block = c .before .before .before .before .before .before .before .before .before .before .last-block in
+    let locate = c .before .before .before .before .before .before .before .before .before .before .before .locate in
+    let p = c .before .before .before .before .before .before .before .before .before .before .before .before .before .before .before .pre in (
+      sound-shape _ (p .0),
+      rw (last-block .ensures) (last-under (opened-run (locate .ensures) (name-given _ _ _ _ (p .1)) (p .0))),
+      room-given _ _ _ _
+          (p .0) (p .1) (locate .ensures) _ (needed .ensures),
+      omega (arith, p .2),
+    )
 
 same-length : tie.Need-same-length
 same-length c = search needs
 
 returns : tie.Need-returns
-returns c = c .before .before .mark-grown .ensures ∙ rw (c .before .before .before .before .before .before .mark-written .ensures, c .before .before .before .before .before .before .before .before .before .before .mark .ensures) (write-named (c .before .before .before .before .before .before .before .before .before .before .before .before .before .before .locate .ensures) (c .before .before .before .before .before .before .before .before .before .before .before .before .before .before .before .before .before .before .pre .0) _ _ (c .before .before .before .before .before .before .before .before .before .before .before .before .before .before .before .before .before .before .pre .1) _ (c .before .before .before .before .before .before .before .before .before .before .before .before .needed .ensures) _ _ (c .before .before .before .before .before .before .before .before .before .before .before .before .before .last-block .ensures))
+returns c =
+    let mark-grown = c .before .before .mark-grown in
+    let mark-written = c .before .before .before .before .before .before .mark-written in
+    let mark = c .before .before .before .before .before .before .before .before .before .before .mark in
+    let needed = c .before .before .before .before .before .before .before .before .before .before .before .before .needed in
+    let last-block = c .before .before .before .before .before .before .before .before .before .before .before .before .before .last-block in
+    let locate = c .before .before .before .before .before .before .before .before .before .before .before .before .before .before .locate in
+    let p = c .before .before .before .before .before .before .before .before .before .before .before .before .before .before .before .before .before .before .pre in
+    mark-grown .ensures ∙ rw (mark-written .ensures, mark .ensures)
+    (write-named (locate .ensures) (p .0) _ _ (p .1) _ (needed .ensures) _ _ (last-block .ensures))
 
 pub write-named-spec : {M : Type 1} → statement M
 write-named-spec =

@@ -36,15 +36,23 @@ needed-requires c κs =
 
 returns-4 : tie.Need-returns-4
 returns-4 c =
-    let o = c .before .before .before .before .before .open-file .ensures in
-    let f = o .file (c .before .before .before .before .if2 .left) in
-    room-none _ _ _ _ (omega arith) (sym (o .weighed) ∙ c .before .before .before .before .if2 .left) f (c .before .before .before .before .before .before .before .before .before .pre) (omega arith) _ _ (c .before .before .header-number .ensures) (c .before .needed .ensures) (c .if4 .taken)
+    let header-number = c .before .before .header-number in
+    let if2 = c .before .before .before .before .if2 in
+    let open-file = c .before .before .before .before .before .open-file in
+    let p = c .before .before .before .before .before .before .before .before .before .pre in
+    let o = open-file .ensures in
+    let f = o .file (if2 .left) in
+    room-none _ _ _ _ (omega arith) (sym (o .weighed) ∙ if2 .left) f (p) (omega arith) _ _ (header-number .ensures) (c .before .needed .ensures) (c .if4 .taken)
 
 returns-5 : tie.Need-returns-5
 returns-5 c =
-    let o = c .before .before .before .before .before .open-file .ensures in
-    let f = o .file (c .before .before .before .before .if2 .left) in
-    room-there _ _ _ _ (omega arith) (sym (o .weighed) ∙ c .before .before .before .before .if2 .left) f (c .before .before .before .before .before .before .before .before .before .pre) (omega arith) _ _ (c .before .before .header-number .ensures) (c .before .needed .ensures) (c .if4 .left)
+    let header-number = c .before .before .header-number in
+    let if2 = c .before .before .before .before .if2 in
+    let open-file = c .before .before .before .before .before .open-file in
+    let p = c .before .before .before .before .before .before .before .before .before .pre in
+    let o = open-file .ensures in
+    let f = o .file (if2 .left) in
+    room-there _ _ _ _ (omega arith) (sym (o .weighed) ∙ if2 .left) f (p) (omega arith) _ _ (header-number .ensures) (c .before .needed .ensures) (c .if4 .left)
 
 pub write-refusal-spec : {M : Type 1} → statement M
 write-refusal-spec =
