@@ -3,7 +3,7 @@ use mathlib.Core.Path.{sym, ap, _∙_}
 use native.Mathlib.Omega.{arith}
 use Rattle.layout.specs.Table.{next}
 use Rattle.volume.specs.Walks.Marks.{marked}
-use Rattle.volume.proofs.Walks.WriteNamed.{part-past-marked, part-below, part-inner, part-rest}
+use Rattle.volume.proofs.Walks.WriteNamed.{part-past-marked, part-below, part-inner, part-end}
 use Rattle.volume.proofs.marks.mark_part.Statement.{statement}
 use Rattle.volume.proofs.marks.mark_part.Tie as tie
 
@@ -23,7 +23,7 @@ same-length : tie.Need-same-length
 same-length c = search needs
 
 returns-2 : tie.Need-returns-2
-returns-2 c = c .before .before .mark-chain .ensures ∙ ap (marked _) (part-rest (c .before .before .before .before .before .before .before .before .before .pre .0) _ _ (c .before .before .before .before .before .nth .ensures) (omega arith) (c .before .before .before .before .before .before .before .before .before .args .w) (omega arith))
+returns-2 c = c .before .before .mark-chain .ensures ∙ ap (marked _) (part-end (c .before .before .before .before .before .before .before .before .before .pre .0) _ _ (c .before .before .before .before .before .nth .ensures) (omega arith) (c .before .before .before .before .before .before .before .before .before .args .w) (omega arith))
 
 mark-chain-requires-2 : tie.Need-mark-chain-requires-2
 mark-chain-requires-2 c κs = (part-below (c .before .before .before .before .before .before .pre .0) _ _ (c .before .before .nth .ensures) (omega arith) _ (omega arith), omega (arith, c .before .before .before .before .before .before .pre .1))
