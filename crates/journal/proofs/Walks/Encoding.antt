@@ -1,11 +1,10 @@
 -- Answers as bytes: their lengths, and what the code writes piece by piece.
 use Prim.Native.Nat.{ℕ, _+_, _-_, _≤_}
 use mathlib.Core.Path.{_≡_, refl, sym, ap, _∙_}
-use mathlib.Core.List.{List, [], _++_, append-nil}
+use mathlib.Core.List.{List, [], _++_}
 use native.Mathlib.Omega.{arith}
 use borrow.Rule.Slice.PartMut.{putMid}
-use lib.ListN.{length, take, replicate, length-append, length-replicate}
-use lib.Seq.{length-take-le, drop-length}
+use lib.ListN.{length, replicate, length-append, length-replicate}
 use Rattle.layout.specs.Bytes.{bytes4, zeros, part, splice}
 use Rattle.layout.specs.declared.reading.Filled.{Filled}
 use Rattle.layout.specs.declared.reading.Filled.the-variants.{Bytes, Refused}
@@ -13,7 +12,7 @@ use Rattle.layout.specs.Looks.{ReadAnswer, read, lookInPlace}
 use Rattle.journal.specs.Run.{Call, Answer, State, change, undo, look, checkImage, findFile, readFile, lookAt, filled, shown, lookAnswer, answer, changeAnswer, changeRefusal, undoAnswer, undoRefusal}
 use Rattle.journal.specs.Script.{numbers, encoded, answerSize}
 use Rattle.layout.specs.Answers.{readAnswer}
-use Rattle.layout.proofs.Laws.Bytes.{length-zeros, splice-flat, putMid-splice, splice-append, splice-whole, splice-left, splice-three}
+use Rattle.layout.proofs.Laws.Bytes.{length-zeros, putMid-splice, splice-append, splice-whole, splice-three, splice-back}
 use Rattle.layout.proofs.Laws.Tests.{accept-either}
 use Rattle.layout.proofs.Laws.Looks.{read-count, read-length, look-short}
 
@@ -30,17 +29,9 @@ numbers-put s a b c d h =
     ∙ ap (λ (x : List ℕ). splice x 12 (bytes4 d)) (splice-append s 0 (bytes4 a ++ bytes4 b) (bytes4 c) (omega arith))
     ∙ splice-append s 0 (bytes4 a ++ (bytes4 b ++ bytes4 c)) (bytes4 d) (omega arith)
 
--- numbers before what is handed back, in either order
+-- an answer of numbers alone
 pub numbers-alone : (s : List ℕ) (a b c d : ℕ) → length s ≡ 16 → splice s 0 (numbers a b c d) ≡ numbers a b c d
 numbers-alone s a b c d h = splice-whole s (numbers a b c d) (length-numbers a b c d ∙ sym h)
-
-pub before-rest : (s x y : List ℕ) (a : ℕ) → length s ≡ a + length y → length x ≡ a → splice (splice s a y) 0 x ≡ x ++ y
-before-rest s x y a h e =
-    let l : length (take a s) ≡ a = length-take-le a s (omega arith) in
-    rw (splice-end s y a h) (splice-left (take a s) y 0 x (omega arith) ∙ ap (λ (r : List ℕ). r ++ y) (splice-whole (take a s) x (e ∙ sym l)))
-  where
-    splice-end : (s y : List ℕ) (a : ℕ) → length s ≡ a + length y → splice s a y ≡ take a s ++ y
-    splice-end s y a h = splice-flat s a y ∙ rw (← h, drop-length, append-nil)
 
 -- an answer's length is that of its call, whatever the state
 pub answer-length : (p : State) (c : Call) → length (encoded (answer p c)) ≡ answerSize c
@@ -61,7 +52,7 @@ answer-length p (look (lookAt name i)) =
 pub read-encoded : (s buffer : List ℕ) (a : ReadAnswer) → length s ≡ 16 + length buffer → a .buffer ≡ buffer
     → splice (splice s 16 buffer) 0 (numbers (a .number) (a .count) 0 0) ≡ encoded (filled a)
 unfolding encoded
-read-encoded s buffer a h e = before-rest s (numbers (a .number) (a .count) 0 0) buffer 16 h (length-numbers (a .number) (a .count) 0 0) ∙ rw e
+read-encoded s buffer a h e = splice-back s (numbers (a .number) (a .count) 0 0) buffer 16 h (length-numbers (a .number) (a .count) 0 0) ∙ rw e
 
 pub shown-encoded : (s bytes : List ℕ) → length s ≡ 528 → length bytes ≤ 512
     → splice (splice (splice s 0 (numbers (length bytes) 0 0 0)) 16 bytes) (16 + length bytes) (zeros (512 - length bytes)) ≡ encoded (shown bytes)

@@ -319,6 +319,15 @@ splice-cut X size o p h g = go (lt-or-ge (o + length p) size)
         cut : (n m : ℕ) (l : List ℕ) → n ≤ length l → drop n (take (n + m) l) ≡ take m (drop n l)
         cut n m l h = ap (drop n) (take-add n m l) ∙ drop-at (take n l) (take m (drop n l)) n (length-take-le n l h)
 
+-- two runs that fill a list, the second written first
+pub splice-back : (s x y : List ℕ) (a : ℕ) → length s ≡ a + length y → length x ≡ a → splice (splice s a y) 0 x ≡ x ++ y
+splice-back s x y a h e =
+    let l : length (take a s) ≡ a = length-take-le a s (omega arith) in
+    rw (splice-end s y a h) (splice-left (take a s) y 0 x (omega arith) ∙ ap (λ (r : List ℕ). r ++ y) (splice-whole (take a s) x (e ∙ sym l)))
+  where
+    splice-end : (s y : List ℕ) (a : ℕ) → length s ≡ a + length y → splice s a y ≡ take a s ++ y
+    splice-end s y a h = splice-flat s a y ∙ rw (← h, drop-length, append-nil)
+
 -- a write in a part is a write in the whole
 pub splice-part : (s : List ℕ) (at n k : ℕ) (p : List ℕ) → at + n ≤ length s → k + length p ≤ n → splice s at (splice (part s at n) k p) ≡ splice s (at + k) p
 splice-part s at n k p hs hp =

@@ -14,7 +14,7 @@ use Rattle.layout.specs.Check.{check}
 use Rattle.layout.specs.Looks.{nameRefusal, entryOf}
 use Rattle.layout.specs.Walks.Shapes.{ChainBelow}
 use Rattle.layout.proofs.Laws.Tests.{lt-or-ge}
-use Rattle.layout.proofs.Laws.Lists.{In, in-left, in-right, in-append, getD-in, in-take}
+use Rattle.layout.proofs.Laws.Lists.{In, in-left, in-right, in-append, getD-in, in-take-left, in-take-append}
 use Rattle.layout.proofs.Laws.Chains.{nth, nth-add, length-chain, getD-chain, last-none, last-some, chain-part}
 use Rattle.volume.specs.Entries.{entriesNamed}
 use Rattle.volume.specs.Write.{newBlocks, written, changedEntries, writeNamed, writeRefusal}
@@ -43,8 +43,8 @@ module _ {s : List ℕ} {n first k : ℕ} (r : ChainBelow s n first k) (j b : �
   pub part-inner : (w : ℕ) → j + w ≤ k → chain (next s) b w ≡ part (chain (next s) first k) j w
   part-inner w g = ap (λ (x : ℕ). chain (next s) x w) start ∙ sym (chain-part (next s) j first k w g)
 
-  pub part-rest : (w : ℕ) → k - j ≤ w → chain (next s) b (k - j) ≡ part (chain (next s) first k) j w
-  part-rest w g = part-inner (k - j) (omega arith) ∙ take-most (drop j (chain (next s) first k)) (k - j) w (simp (length-drop, length-chain)) g
+  pub part-end : (w : ℕ) → k - j ≤ w → chain (next s) b (k - j) ≡ part (chain (next s) first k) j w
+  part-end w g = part-inner (k - j) (omega arith) ∙ take-most (drop j (chain (next s) first k)) (k - j) w (simp (length-drop, length-chain)) g
     where
       take-most : (xs : List ℕ) (a w : ℕ) → length xs ≡ a → a ≤ w → take a xs ≡ take w xs
       take-most xs a w l g = take-all a xs (omega arith) ∙ sym (take-all w xs (omega arith))
@@ -129,16 +129,6 @@ module _ (fs : List ℕ) (last count : ℕ) (m : List ℕ) where
         only x (inl e) = (e, omega arith)
 
 -- the blocks that hold a written byte: of the old ones those that did, and all that were taken
-take-left : (x w : ℕ) (xs ys : List ℕ) → In x (take w xs) → In x (take w (xs ++ ys))
-take-left x zero xs ys i = i
-take-left x (suc w) (z ∷ xs) ys (inl e) = inl e
-take-left x (suc w) (z ∷ xs) ys (inr i) = inr (take-left x w xs ys i)
-
-take-both : (x w : ℕ) (xs ys : List ℕ) → In x (take w (xs ++ ys)) → In x (take w xs) ⊎ In x ys
-take-both x w [] ys i = inr (in-take x w ys i)
-take-both x (suc w) (z ∷ xs) ys (inl e) = inl (inl e)
-take-both x (suc w) (z ∷ xs) ys (inr i) = ⊎-elim (λ j. inl (inr j)) (λ j. inr j) (take-both x w xs ys i)
-
 pub written-none : (bs m : List ℕ) (offset count : ℕ) → count ≡ 0 → marked m (written bs offset count) ≡ m
 unfolding written marked
 written-none bs m offset count e = rw e
@@ -150,11 +140,11 @@ written-some bs offset (suc count) ne = refl
 
 written-left : (x : ℕ) (xs ys : List ℕ) (offset count : ℕ) → offset / 512 ≤ length xs → In x (written xs offset count) → In x (written (xs ++ ys) offset count)
 unfolding written
-written-left x xs ys offset (suc c) h i = rw (drop-append-le (offset / 512) xs ys h) (take-left x (blocksFor (offset % 512 + suc c)) (drop (offset / 512) xs) ys i)
+written-left x xs ys offset (suc c) h i = rw (drop-append-le (offset / 512) xs ys h) (in-take-left x (blocksFor (offset % 512 + suc c)) (drop (offset / 512) xs) ys i)
 
 written-both : (x : ℕ) (xs ys : List ℕ) (offset count : ℕ) → offset / 512 ≤ length xs → In x (written (xs ++ ys) offset count) → In x (written xs offset count) ⊎ In x ys
 unfolding written
-written-both x xs ys offset (suc c) h i = take-both x (blocksFor (offset % 512 + suc c)) (drop (offset / 512) xs) ys (rw (drop-append-le (offset / 512) xs ys h) at i)
+written-both x xs ys offset (suc c) h i = in-take-append x (blocksFor (offset % 512 + suc c)) (drop (offset / 512) xs) ys (rw (drop-append-le (offset / 512) xs ys h) at i)
 
 -- the marks of a write, by the file's blocks xs and those taken
 module _ (xs ys zs : List ℕ) (size offset count : ℕ) (p : length xs ≡ blocksFor size) (q : length ys ≡ blocksFor (max size (offset + count)) - blocksFor size) (h : offset ≤ size) where
