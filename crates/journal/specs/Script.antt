@@ -11,9 +11,9 @@ use Rattle.layout.specs.Lists.{within, every, joined}
 use Rattle.layout.specs.Refusals.{require, accept}
 use Rattle.layout.specs.Bytes.{be32, bytes4, zeros, part, splice}
 use Rattle.layout.specs.Check.{check}
-use Rattle.volume.specs.Change.{Change, create, write, delete}
+use Rattle.volume.specs.Change.{create, write, delete}
 use Rattle.journal.specs.Journal.{recordsFrom, started, startRefusal}
-use Rattle.journal.specs.Run.{Look, checkImage, findFile, readFile, lookAt, Call, change, undo, look, Answer, changed, undone, checked, found, filled, shown, State, run, answers, state}
+use Rattle.journal.specs.Run.{checkImage, findFile, readFile, lookAt, Call, change, undo, look, Answer, changed, undone, checked, found, filled, shown, State, run, answers, state}
 use Rattle.journal.specs.Replay.{replayed, standing, replayAnswers}
 
 -- the number of the eight bytes at an offset

@@ -7,7 +7,7 @@ ghost use Rattle.layout.specs.Answers.{lookupAnswer, readAnswer};
 ghost use Rattle.layout.specs.Looks.{read};
 ghost use mathlib.Core.List.{[]};
 ghost use Rattle.journal.specs.Script.{Fits, numbers, nameAt, dataAt, dataLength, encoded, be64};
-ghost use Rattle.journal.specs.Run.{Look, checkImage, findFile, readFile, lookAt, lookAnswer, found, shown};
+ghost use Rattle.journal.specs.Run.{checkImage, findFile, readFile, lookAt, lookAnswer, found, shown};
 use super::script::get64;
 use layout::number::get32;
 

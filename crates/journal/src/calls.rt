@@ -1,6 +1,5 @@
 // The calls that are lent a journal. Each checks the image and scans the journal once.
 ghost use mathlib.Core.Path.{_≡_};
-ghost use lib.ListN.{length};
 ghost use Rattle.volume.specs.Change.{create, write, delete};
 ghost use Rattle.journal.specs.Run.{afterUndo, undoAnswer, afterChange, changeAnswer, state};
 ghost use Rattle.journal.specs.Walks.Changes.{Inspects};

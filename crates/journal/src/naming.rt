@@ -1,6 +1,5 @@
 // Recording each change before it is made: its named blocks are marked, and their bytes saved.
 ghost use mathlib.Core.Path.{_≡_};
-ghost use lib.ListN.{length};
 ghost use Rattle.layout.specs.Limits.{maxBlocks};
 ghost use Rattle.layout.specs.Bytes.{zeros};
 ghost use Rattle.layout.specs.Directory.{freeSlot, root};

@@ -1,6 +1,6 @@
 // Putting a record's bytes back, and taking the record back.
 ghost use mathlib.Core.Path.{_≡_};
-ghost use Prim.Native.Nat.{_+_, _*_, _≤_, _<_};
+ghost use Prim.Native.Nat.{_+_, _*_, _≤_};
 ghost use lib.ListN.{length};
 ghost use Rattle.layout.specs.Limits.{maxJournal};
 ghost use Rattle.layout.specs.Lists.{range};

@@ -6,7 +6,7 @@ ghost use lib.ListN.{length};
 ghost use mathlib.Core.Bool.{true};
 ghost use Rattle.layout.specs.Lists.{every, joined};
 ghost use Rattle.layout.specs.Bytes.{splice};
-ghost use Rattle.journal.specs.Run.{State, undo, answer, run, answers, state};
+ghost use Rattle.journal.specs.Run.{undo, answer, run, answers, state};
 ghost use Rattle.journal.specs.Answers.{changedAnswer, undoneAnswer};
 ghost use Rattle.journal.specs.Script.{numbers, opAt, callAt, encoded, itemOk, itemsFrom, callsOf, answersSize, leaves, outcome, replayOutcome, Fresh};
 ghost use Rattle.journal.specs.Walks.Scripts.{Item, Made};

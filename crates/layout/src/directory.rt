@@ -1,6 +1,6 @@
 // Directories and their entries. The work on one entry is given the 512 bytes of its block.
 ghost use Prim.Native.Nat.{_+_, _-_, _*_, _≤_, _<_};
-ghost use mathlib.Core.Bool.{_&&_, _||_, not, true};
+ghost use mathlib.Core.Bool.{_&&_, true};
 ghost use mathlib.Core.Path.{_≡_};
 ghost use lib.Dec.{eqb};
 ghost use lib.ListN.{length};
@@ -13,7 +13,7 @@ ghost use Rattle.layout.specs.Check.{slotOk, entriesOk};
 ghost use Rattle.layout.specs.Walks.Chains.{walked};
 ghost use Rattle.layout.specs.Walks.Entries.{numbersOk, selfOk};
 ghost use Rattle.layout.specs.Walks.Shapes.{Room, DirectoryAt};
-ghost use Rattle.layout.specs.Walks.Slots.{Place, Stands, entryAt, slotBlock, slotsOk, nameIn, namesApart};
+ghost use Rattle.layout.specs.Walks.Slots.{Stands, entryAt, slotBlock, slotsOk};
 ghost use Rattle.layout.specs.Walks.Stages.{followSlot, followFiles, followDirectory};
 use super::limits::MAX_DIRECTORY;
 use super::limits::NAME_FIELD;

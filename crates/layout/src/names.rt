@@ -3,7 +3,7 @@
 ghost use Prim.Native.Nat.{_+_, _-_, _*_, _/_, _≤_, _<_};
 ghost use mathlib.Core.Bool.{_&&_, _||_, not, true};
 ghost use mathlib.Core.Path.{_≡_};
-ghost use lib.ListN.{length, getD};
+ghost use lib.ListN.{length};
 ghost use Rattle.layout.specs.Limits.{maxSlots};
 ghost use Rattle.layout.specs.Lists.{same};
 ghost use Rattle.layout.specs.Bytes.{part};

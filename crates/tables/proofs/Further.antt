@@ -1,10 +1,10 @@
 -- Cases beyond document 01's: every stage of the check, every refusal number from 1 to 16, and the calls' other branches. One table in five parts,
 -- proved by computing the definitions (a part is as much as one declaration may compute).
-use Prim.Native.Nat.{ℕ, _+_}
+use Prim.Native.Nat.{ℕ}
 use mathlib.Core.List.{List, [], _∷_, _++_, map}
 use mathlib.Core.Bool.{Bool, true, false}
 use lib.Dec.{T}
-use lib.ListN.{length, replicate, take, drop}
+use lib.ListN.{replicate, take, drop}
 use Rattle.layout.specs.Lists.{range, every, same}
 use Rattle.layout.specs.Bytes.{be32, bytes4, splice}
 use Rattle.layout.specs.Table.{next, setNext}
@@ -12,9 +12,9 @@ use Rattle.layout.specs.Check.{check}
 use Rattle.layout.specs.Looks.{extentOf}
 use Rattle.layout.specs.Listing.{listing}
 use Rattle.volume.specs.Format.{formatRefusal, formatted}
-use Rattle.volume.specs.Change.{Change, create, write, delete, named, refusal, after}
+use Rattle.volume.specs.Change.{create, write, delete, named, refusal, after}
 use Rattle.journal.specs.Journal.{started, startRefusal, wellFormed, ascending}
-use Rattle.journal.specs.Run.{Look, Call, change, undo, look, checkImage, findFile, readFile, lookAt, State, step, answer, changeRefusal, undoRefusal}
+use Rattle.journal.specs.Run.{Look, change, undo, look, checkImage, findFile, readFile, lookAt, State, step, answer, changeRefusal, undoRefusal}
 use Rattle.tables.proofs.Rules.{rules}
 use Rattle.tables.proofs.Samples.{blank, label, formattedAs, pattern, fileA, createFile, writeA, numbers, samples}
 

@@ -3,7 +3,6 @@ use Prim.Native.Nat.{ℕ, _*_, _%_}
 use mathlib.Core.List.{List, [], _∷_, map}
 use lib.ListN.{replicate}
 use Rattle.layout.specs.Lists.{range}
-use Rattle.layout.specs.Looks.{LookupAnswer, ReadAnswer}
 use Rattle.volume.specs.Format.{formatted}
 use Rattle.volume.specs.Change.{Change, create, write}
 use Rattle.journal.specs.Run.{Answer, changed, undone, checked, found, filled, shown}

@@ -6,7 +6,7 @@ use lib.ListN.{replicate, take}
 use Rattle.layout.specs.Lists.{every, same}
 use Rattle.journal.specs.Journal.{started}
 use Rattle.journal.specs.Run.{State}
-use Rattle.journal.specs.Script.{be64, nameAt, dataAt, callAt, itemOk, itemsFrom, callsFrom, encoded, answerSize, answersSize, scriptRefusal, Outcome, given, outcome}
+use Rattle.journal.specs.Script.{be64, nameAt, dataAt, callAt, itemOk, itemsFrom, callsFrom, encoded, answerSize, answersSize, scriptRefusal, given, outcome}
 use Rattle.tables.proofs.Rules.{rules}
 use Rattle.tables.proofs.Samples.{formattedAs, samples}
 

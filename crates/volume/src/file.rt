@@ -1,6 +1,5 @@
 // The file of a name: its entry, found and written. The work on an entry is given the 512 bytes of its block.
 ghost use mathlib.Core.Path.{_≡_};
-ghost use mathlib.Core.List.{_++_};
 ghost use Prim.Native.Nat.{_+_, _*_, _≤_, _<_};
 ghost use lib.ListN.{length};
 ghost use Rattle.layout.specs.Bytes.{zeros, splice};

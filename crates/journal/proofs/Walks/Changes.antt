@@ -8,7 +8,7 @@ use native.Mathlib.Omega.{arith}
 use borrow.Author.Tests.{le-leb, lt-leb}
 use lib.Dec.{leb}
 use lib.ListN.{length}
-use Rattle.layout.specs.Refusals.{require, firstOf, accept}
+use Rattle.layout.specs.Refusals.{require, accept}
 use Rattle.layout.specs.Bytes.{zeros}
 use Rattle.layout.specs.Geometry.{blockCount}
 use Rattle.layout.specs.Check.{check}

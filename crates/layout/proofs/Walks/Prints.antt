@@ -1,15 +1,13 @@
 -- Prints of names: the loops that take and compare them, and that different prints mean different names.
 use Prim.Native.Nat.{ℕ, zero, suc, _+_, _-_, _*_, _/_, _≤_, _<_}
-use mathlib.Core.Bool.{Bool, true, false, _&&_, false≢true}
+use mathlib.Core.Bool.{true, false, _&&_}
 use mathlib.Core.List.{List}
 use mathlib.Core.Path.{_≡_, refl, sym, ap, _∙_}
 use mathlib.Core.Logic.{⊎-elim}
 use native.Mathlib.Nat.{add-zero, sub-zero, eq-or-lt-of-le}
-use native.Mathlib.Numerals.{add-one}
 use native.Mathlib.Omega.{arith}
 use lib.ListN.{length, getD, set}
 use lib.Seq.{getD-set-same, getD-set-other}
-use borrow.Author.Tests.{not-true}
 use Rattle.layout.specs.Lists.{same}
 use Rattle.layout.specs.Bytes.{be32, part}
 use Rattle.layout.specs.Table.{next, chain}
@@ -17,7 +15,7 @@ use Rattle.layout.specs.Directory.{slotAt, typeOf, isFile, goodName, unp
 use Rattle.layout.specs.Check.{slotOk, fileOk}
 use Rattle.layout.specs.Walks.Shapes.{DirectoryAt}
 use Rattle.layout.specs.Walks.Slots.{entryAt, nameIn, slotsOk}
-use Rattle.layout.specs.Walks.Names.{sums, print, Prints, Printed, Nearest}
+use Rattle.layout.specs.Walks.Names.{sums, print, Printed, Nearest}
 use Rattle.layout.proofs.Laws.Lists.{every-range}
 use Rattle.layout.proofs.Laws.Names.{same-eq}
 use Rattle.layout.proofs.Laws.Sound.{slotOk-split}

@@ -17,7 +17,6 @@ use Rattle.layout.specs.Check.{directoryOk, stage4, entriesOk, stage5, f
 use Rattle.layout.specs.Walks.Chains.{Walk, walked, follow, followAll, allOnes, restFree}
 use Rattle.layout.specs.Walks.Entries.{selfOk}
 use Rattle.layout.specs.Walks.Shapes.{Shape, Room, DirectoryAt}
-use Rattle.layout.specs.Walks.Slots.{entryAt}
 use Rattle.layout.specs.Walks.Stages.{followFiles, followDirectory, followTable, RootMarked}
 use Rattle.layout.proofs.Laws.Bytes.{length-zeros}
 use Rattle.layout.proofs.Laws.Chains.{length-chain, chain-below}

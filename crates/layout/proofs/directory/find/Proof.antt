@@ -1,9 +1,6 @@
-use mathlib.Core.Path.{_≡_, refl, ap, sym, _∙_}
-use mathlib.Core.Bool.{Bool, true, false, not, _&&_, _||_}
-use Prim.Native.Nat.{ℕ, _≤_, _<_, _-_, _+_, _*_}
+use mathlib.Core.Path.{_≡_, refl, sym, _∙_}
+use Prim.Native.Nat.{_-_, _*_}
 use native.Mathlib.Omega.{arith}
-use lib.ListN.{length}
-use borrow.Author.Tests.{not-true, not-false}
 use Rattle.layout.specs.Table.{next, chain}
 use Rattle.layout.specs.Walks.Slots.{Place, fileNamed, slotFrom, entryAt}
 use Rattle.layout.proofs.Walks.Slots.{place-below, place-entry, place-then, place-first, slotFrom-end, slotFrom-here, slotFrom-next, fileSlot-from, stands-here, stands-none}

@@ -5,7 +5,7 @@ use native.Mathlib.Omega.{arith}
 use borrow.Author.Needs.{needs}
 use borrow.Author.Tests.{not-true, not-false}
 use Rattle.layout.specs.Table.{next, chain}
-use Rattle.layout.specs.Directory.{slotAt, typeOf, isFile}
+use Rattle.layout.specs.Directory.{slotAt, isFile}
 use Rattle.layout.specs.Walks.Slots.{entryAt}
 use Rattle.layout.proofs.Walks.Slots.{place-below, place-entry, alone-other, alone-file}
 use Rattle.layout.proofs.names.alone.Statement.{statement}

@@ -1,5 +1,4 @@
-use mathlib.Core.Path.{_≡_, sym, _∙_}
-use native.Mathlib.Omega.{arith}
+use mathlib.Core.Path.{sym, _∙_}
 use borrow.Author.Needs.{needs}
 use Rattle.layout.proofs.Walks.Looks.{opens-refused, lookupRefusal-check, opens-checked}
 use Rattle.layout.proofs.reading.open_file.Statement.{statement}
