@@ -126,23 +126,23 @@ fn files(image: &[u8], n: usize, d: usize, marks: &mut [u8]) -> u32
     0
 }
 
-// Stages 4 to 7, with room for a mark for each block.
-fn body(image: &[u8], n: usize, marks: &mut [u8]) -> u32
-    requires { ⌜ (Shape (now image) n) × (length (now marks) ≡ maxBlocks) ⌝ }
+// Stages 4 to 7.
+fn body(image: &[u8], n: usize) -> u32
+    requires { ⌜ Shape (now image) n ⌝ }
     ensures { λ r. ⌜ r ≡ bodyStage (now (image .entry)) ⌝ }
 {
     let t = (n + 127) / 128;
     let root = t + 1;
-    super::bytes::clear(marks);
-    if !super::directory::directory_ok(image, t, n, root, root, marks) {
+    let mut marks = super::table::no_marks();
+    if !super::directory::directory_ok(image, t, n, root, root, &mut marks) {
         return 4;
     }
     let d = super::directory::number_at(image, root, 0, 12);
-    files(image, n, d, marks)
+    files(image, n, d, &mut marks)
 }
 
-fn check_with(image: &[u8], marks: &mut [u8]) -> u32
-    requires { ⌜ length (now marks) ≡ maxBlocks ⌝ }
+// The check: 0, or the number of the first stage that is not met.
+pub fn check(image: &[u8]) -> u32
     ensures { λ r. ⌜ r ≡ check (now (image .entry)) ⌝ }
 {
     let h = head(image);
@@ -150,13 +150,5 @@ fn check_with(image: &[u8], marks: &mut [u8]) -> u32
         return h;
     }
     let n = image.len() / 512;
-    body(image, n, marks)
-}
-
-// The check: 0, or the number of the first stage that is not met.
-pub fn check(image: &[u8]) -> u32
-    ensures { λ r. ⌜ r ≡ check (now (image .entry)) ⌝ }
-{
-    let mut marks = [0u8; MAX_BLOCKS];
-    check_with(image, &mut marks)
+    body(image, n)
 }

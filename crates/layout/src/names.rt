@@ -6,7 +6,7 @@ ghost use mathlib.Core.Path.{_≡_};
 ghost use lib.ListN.{length};
 ghost use Rattle.layout.specs.Limits.{maxSlots};
 ghost use Rattle.layout.specs.Lists.{same};
-ghost use Rattle.layout.specs.Bytes.{part};
+ghost use Rattle.layout.specs.Bytes.{part, zeros};
 ghost use Rattle.layout.specs.Table.{next, chain};
 ghost use Rattle.layout.specs.Directory.{slotAt, typeOf, isFile, nameOf};
 ghost use Rattle.layout.specs.Walks.Shapes.{DirectoryAt};
@@ -147,12 +147,11 @@ fn pairs_apart(image: &[u8], n: usize, first: usize, d: usize, prints: &[usize])
     true
 }
 
-fn apart_with(image: &[u8], n: usize, first: usize, d: usize, prints: &mut [usize]) -> bool
-    requires { ⌜ (DirectoryAt (now image) n first d) × (slotsOk (now image) (chain (next (now image)) first d) 1 (4 * d - 2) ≡ true) × (length (now prints) ≡ maxSlots) ⌝ }
-    ensures { λ r. ⌜ r ≡ namesApart (now (image .entry)) (chain (next (now (image .entry))) first d) 1 (4 * d - 2) ⌝ }
+// Room for the print of each slot.
+fn no_prints() -> [usize; MAX_SLOTS]
+    ensures { λ r. ⌜ r ≡ zeros maxSlots ⌝ }
 {
-    take_prints(image, n, first, d, prints);
-    pairs_apart(image, n, first, d, prints)
+    [0usize; MAX_SLOTS]
 }
 
 // Whether no two files of a directory have the same name. Its slots are right.
@@ -160,6 +159,7 @@ pub fn names_apart(image: &[u8], n: usize, first: usize, d: usize) -> bool
     requires { ⌜ (DirectoryAt (now image) n first d) × (slotsOk (now image) (chain (next (now image)) first d) 1 (4 * d - 2) ≡ true) ⌝ }
     ensures { λ r. ⌜ r ≡ namesApart (now (image .entry)) (chain (next (now (image .entry))) first d) 1 (4 * d - 2) ⌝ }
 {
-    let mut prints = [0usize; MAX_SLOTS];
-    apart_with(image, n, first, d, &mut prints)
+    let mut prints = no_prints();
+    take_prints(image, n, first, d, &mut prints);
+    pairs_apart(image, n, first, d, &prints)
 }

@@ -5,7 +5,7 @@ use mathlib.Core.List.{List, [], _∷_, _++_}
 use mathlib.Core.Path.{_≡_, refl, sym, ap, _∙_}
 use native.Mathlib.Omega.{arith}
 use lib.Dec.{eqb, leb}
-use lib.ListN.{length, getD, replicate}
+use lib.ListN.{length, getD}
 use borrow.Author.Tests.{leb-true}
 use Rattle.layout.specs.Limits.{maxBlocks, maxDirectory}
 use Rattle.layout.specs.Lists.{within, range, every, has, distinct, select, joined}
@@ -106,11 +106,6 @@ followTable-tied s n b d m h some ok once g =
         (tied .marks e) in
         rw (e, p .0, p .1, r)
     go false e = rw e (none all (distinct eqb os) (ones && rest) (sym (tied .ok) ∙ e))
-
--- the marks, cleared
-pub cleared : (m m₀ : List ℕ) → m₀ ≡ replicate (length m) 0 → length m ≡ maxBlocks → m₀ ≡ zeros maxBlocks
-unfolding zeros
-cleared m m₀ e h = e ∙ ap (λ (k : ℕ). replicate k 0) h
 
 -- the root directory, when no block was marked before
 module _ (s : List ℕ) (n : ℕ) (shape : Shape s n) where
