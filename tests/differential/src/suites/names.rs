@@ -29,6 +29,7 @@ const KINDS: &[Kind] = &[
     Kind { what: "words in another order", make: |rng| permutations(rng, 4) },
     Kind { what: "double words in another order", make: |rng| permutations(rng, 8) },
     Kind { what: "one byte", make: |_| (1..=PLACES).map(|b| vec![b as u8]).collect() },
+    Kind { what: "one checksum", make: one_checksum },
     Kind { what: "one hash", make: one_hash },
     Kind { what: "one hash for every two", make: equal_hashes },
     Kind { what: "any", make: |rng| different(|| images::good_name(rng)) },
@@ -136,6 +137,31 @@ fn permutations(rng: &mut Rng, group: usize) -> Vec<Vec<u8>> {
         rng.shuffle(&mut groups);
         groups.concat()
     })
+}
+
+/// Fletcher's sums over the words of a name: of the words, and of those sums.
+fn checksum_of(name: &[u8]) -> (u64, u64) {
+    let words = name.chunks_exact(4).map(|word| u32::from_be_bytes(word.try_into().unwrap()));
+    words.fold((0, 0), |(a, b), word| (a + u64::from(word), b + a + u64::from(word)))
+}
+
+/// Names that have one checksum. In two groups of three words, a byte of the outer
+/// words is so much more and that of the middle one twice as much less.
+fn one_checksum(rng: &mut Rng) -> Vec<Vec<u8>> {
+    let base: Vec<u8> = (0..24).map(|_| rng.between(101, 200) as u8).collect();
+    let places = [rng.between(0, 3), 12 + rng.between(0, 3)];
+    let form = |choice: u8| {
+        let mut name = base.clone();
+        for (at, step) in places.into_iter().zip([choice % 16, choice / 16]) {
+            name[at] += step;
+            name[at + 4] -= 2 * step;
+            name[at + 8] += step;
+        }
+        name
+    };
+    let names: Vec<Vec<u8>> = (0..PLACES as u8).map(form).collect();
+    assert!(names.iter().all(|name| checksum_of(name) == checksum_of(&names[0])));
+    names
 }
 
 /// A polynomial hash of 24 bits. A check that compares hashes must not stop there.
