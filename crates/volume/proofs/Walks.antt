@@ -2,7 +2,6 @@
 pub mod Lent
 pub mod Slots
 pub mod Marks
-pub mod Files
 pub mod Create
 pub mod Format
 pub mod Release

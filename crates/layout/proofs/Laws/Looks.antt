@@ -31,9 +31,8 @@ file-given s name r =
     let b = require-zero (not (eqb (fileSlot s (root s) name) 0)) 9 _ (a .1) in
     eqb-false _ _ (not-true _ (b .0))
 
-pub lookup-given : (s name : List ℕ) → lookupRefusal s name ≡ 0 → fileSlot s (root s) name ≢ 0
-unfolding lookupRefusal
-lookup-given s name r = file-given s name (firstOf-zero (check s) (nameRefusal s name) r .1)
+pub name-file : (s name : List ℕ) → nameRefusal s name ≡ 0 → check s ≡ 0 → File s (entryOf s name)
+name-file s name r ok = file-of s (sound s ok) name (file-given s name r)
 
 -- an accepted look up: the image is sound, and the file is there
 module _ (s name : List ℕ) (ok : lookupRefusal s name ≡ 0) where
@@ -41,8 +40,15 @@ module _ (s name : List ℕ) (ok : lookupRefusal s name ≡ 0) where
   unfolding lookupRefusal
   lookup-sound = firstOf-zero (check s) (nameRefusal s name) ok .0
 
+  pub lookup-name : nameRefusal s name ≡ 0
+  unfolding lookupRefusal
+  lookup-name = firstOf-zero (check s) (nameRefusal s name) ok .1
+
+  pub lookup-given : fileSlot s (root s) name ≢ 0
+  lookup-given = file-given s name lookup-name
+
   pub lookup-file : File s (entryOf s name)
-  lookup-file = file-of s (sound s lookup-sound) name (lookup-given s name ok)
+  lookup-file = name-file s name lookup-name lookup-sound
 
 -- read leaves as long a buffer and fills no more; its count is a number of 32 bits
 module _ (s name : List ℕ) (offset : ℕ) (buffer : List ℕ) where

@@ -10,20 +10,20 @@ use borrow.Author.Tests.{eq-eqb, le-leb, lt-leb, ne-eqb}
 use Rattle.layout.specs.Refusals.{require}
 use Rattle.layout.specs.Bytes.{be32, part, splice}
 use Rattle.layout.specs.Geometry.{blockCount, blocksFor}
-use Rattle.layout.specs.Table.{next, chain}
+use Rattle.layout.specs.Table.{next, chain, chainOk}
 use Rattle.layout.specs.Directory.{slotAt, firstBlock, sizeOf, blocksOf, goodName, fileSlot, root, fileBlocks, content}
 use Rattle.layout.specs.Check.{check}
 use Rattle.layout.specs.Looks.{nameRefusal, entryOf, lookupRefusal, lookup, readRefusal, read, extentOf}
 use Rattle.layout.specs.Walks.Looks.{Located, Opens}
-use Rattle.layout.specs.Walks.Shapes.{Shape, ChainBelow}
+use Rattle.layout.specs.Walks.Shapes.{ChainBelow}
 use Rattle.layout.specs.Walks.Slots.{Stands, entryAt}
 use Rattle.layout.proofs.Laws.Bytes.{part-part, lent}
-use Rattle.layout.proofs.Laws.Chains.{Chain, chainOk-split}
+use Rattle.layout.proofs.Laws.Chains.{chainOk-split}
 use Rattle.layout.proofs.Laws.Counts.{chain-most}
-use Rattle.layout.proofs.Laws.Looks.{lookup-sound, lookup-file, extent-refused, extent-past, extent-found}
+use Rattle.layout.proofs.Laws.Looks.{name-file, lookup-sound, lookup-name, lookup-file, extent-refused, extent-past, extent-found}
 use Rattle.layout.proofs.Laws.Tests.{firstOf-refused, accept-refused}
 use Rattle.layout.proofs.Walks.Content.{chainBytes, length-chainBytes, below-nth}
-use Rattle.layout.proofs.Walks.Shapes.{sound-shape, sound-chain}
+use Rattle.layout.proofs.Walks.Shapes.{sound-chain}
 
 -- opening a file, in the order in which the code takes its tests
 module _ (s name : List ℕ) where
@@ -68,6 +68,22 @@ module _ (s name : List ℕ) where
   unfolding lookupRefusal
   opens-checked e o = record { weighed = rw e (o .weighed); file = o .file }
 
+-- the file of an accepted name on a sound image, by the numbers found
+module _ {s name : List ℕ} {slot b first size blocks : ℕ} (l : Located s name slot b first size blocks) where
+  pub located-block : entryOf s name / 512 ≡ b
+  located-block = rw (← l .place) (omega arith)
+
+  pub located-chain : chain (next s) first blocks ≡ fileBlocks s (entryOf s name)
+  unfolding fileBlocks
+  located-chain = rw (l .start, l .count)
+
+  module _ (r : nameRefusal s name ≡ 0) (ok : check s ≡ 0) where
+    pub located-ok : chainOk (next s) (blockCount s) first blocks ≡ true
+    located-ok = rw (l .start, l .count) (name-file s name r ok .chained)
+
+    pub located-below : ChainBelow s (blockCount s) first blocks
+    located-below = sound-chain s ok first blocks located-ok
+
 -- a file that was opened
 module _ {s name : List ℕ} {number slot b first size blocks : ℕ} (o : Opens s name (lookupRefusal s name) number slot b first size blocks) where
   pub lookup-refused : (number ≡ 0 → ⊥) → record { number = number; slot = 0; size = 0; blocks = 0 } ≡ lookup s name
@@ -96,20 +112,16 @@ module _ {s name : List ℕ} {number slot b first size blocks : ℕ} (o : Opens 
     pub opened-blocks : blocks ≡ (size + 511) / 512
     opened-blocks = loc .count ∙ lookup-file s name accepted .blocks ∙ ap blocksFor (sym (loc .bytes))
 
-    chain-ok : Chain (next s) (blockCount s) first blocks
-    chain-ok = chainOk-split (next s) (blockCount s) first blocks (rw (loc .start, loc .count) (lookup-file s name accepted .chained))
-
-    shaped : Shape s (blockCount s)
-    shaped = sound-shape s (lookup-sound s name accepted)
-
     pub opened-chain : ChainBelow s (blockCount s) first blocks
-    opened-chain = sound-chain s (lookup-sound s name accepted) first blocks (rw (loc .start, loc .count) (lookup-file s name accepted .chained))
+    opened-chain = located-below loc (lookup-name s name accepted) (lookup-sound s name accepted)
 
     pub opened-small : (blocks ≤ 4096) × (size ≤ 2097152)
     opened-small =
-        let m = chain-most (next s) (blockCount s) first blocks chain-ok (shaped .low) in
+        let c = chainOk-split (next s) (blockCount s) first blocks (located-ok loc (lookup-name s name accepted) (lookup-sound s name accepted)) in
+        let r = opened-chain .shape in
+        let m = chain-most (next s) (blockCount s) first blocks c (r .low) in
         let q = opened-blocks in
-        (omega (arith, m, shaped .high), omega (arith, m, q, shaped .high))
+        (omega (arith, m, r .high), omega (arith, m, q, r .high))
 
     pub opened-extent-past : (i : ℕ) → blocks ≤ i → extentOf s name i ≡ record { start = 0; size = 0 }
     opened-extent-past i h = extent-past s name i (rw (← loc .count) h)

@@ -17,7 +17,7 @@ use Rattle.volume.specs.Walks.Searches.{freeFrom, FirstFree}
 use Rattle.volume.specs.Walks.Writes.{Planned}
 use Rattle.volume.proofs.Laws.Accepted.{WriteGiven, write-given, name-given}
 use Rattle.volume.proofs.Laws.Space.{new-length, all-length}
-use Rattle.volume.proofs.Walks.Files.{opened-blocks}
+use Rattle.layout.proofs.Walks.Looks.{located-chain}
 use Rattle.volume.proofs.Walks.Grow.{free-all}
 use Rattle.volume.proofs.Walks.Write.{blocks-for, blocks-most}
 use Rattle.layout.proofs.Laws.Tests.{lt-or-ge}
@@ -98,9 +98,9 @@ module _ (s name : List ℕ) (offset count : ℕ) (ok : check s ≡ 0) (r : writ
           record {
             place = o .place;
             inside = o .inside;
-            behind = el ∙ ap (lastOr 0) (opened-blocks o);
+            behind = el ∙ ap (lastOr 0) (located-chain o);
             taking = need-is;
-            first = es ∙ rw (opened-blocks o, new-is);
+            first = es ∙ rw (located-chain o, new-is);
             bytes = ee ∙ rw (← o .bytes);
             number = total;
           }

@@ -15,7 +15,8 @@ use Rattle.layout.specs.Check.{check}
 use Rattle.layout.specs.Looks.{nameRefusal, entryOf}
 use Rattle.volume.specs.Write.{newSize, needed, writeAtRefusal, writeRefusal}
 use Rattle.layout.specs.Walks.Looks.{Located}
-use Rattle.volume.proofs.Walks.Files.{file-of-name, opened-ok}
+use Rattle.layout.proofs.Walks.Looks.{located-ok}
+use Rattle.layout.proofs.Laws.Looks.{name-file}
 use Rattle.layout.proofs.Laws.Chains.{chainOk-split}
 use Rattle.layout.proofs.Laws.Counts.{chain-most}
 use Rattle.layout.proofs.Walks.Shapes.{sound-shape}
@@ -63,9 +64,9 @@ module _ (s name : List ℕ) (offset count : ℕ) where
 -- the sizes of a file that was opened
 module _ {s name : List ℕ} {slot b first size blocks : ℕ} (o : Located s name slot b first size blocks) (z : nameRefusal s name ≡ 0) (ok : check s ≡ 0) where
   pub blocks-for : blocks ≡ blocksFor size
-  blocks-for = o .count ∙ file-of-name s name z ok .blocks ∙ ap blocksFor (sym (o .bytes))
+  blocks-for = o .count ∙ name-file s name z ok .blocks ∙ ap blocksFor (sym (o .bytes))
 
   pub blocks-most : blocks ≤ 4096
   blocks-most =
       let h = sound-shape s ok in
-      omega (arith, chain-most (next s) (blockCount s) first blocks (chainOk-split (next s) (blockCount s) first blocks (opened-ok o z ok)) (h .low), h .high)
+      omega (arith, chain-most (next s) (blockCount s) first blocks (chainOk-split (next s) (blockCount s) first blocks (located-ok o z ok)) (h .low), h .high)

@@ -23,7 +23,7 @@ use Rattle.volume.specs.Walks.Marks.{marked}
 use Rattle.volume.proofs.Laws.Accepted.{name-given}
 use Rattle.volume.proofs.Laws.Frame.{entries-table, entries-zero, entries-of, changed-new, changed-of, taken-written}
 use Rattle.volume.proofs.Walks.Marks.{marked-append, marked-same}
-use Rattle.volume.proofs.Walks.Files.{entry-block, opened-blocks}
+use Rattle.layout.proofs.Walks.Looks.{located-block, located-chain}
 use Rattle.volume.proofs.Walks.Write.{blocks-for}
 use Rattle.volume.proofs.Walks.Plan.{plan-sizes, need-is, room-given}
 
@@ -195,4 +195,4 @@ module _ {s name : List ℕ} {slot b first size blocks : ℕ} (o : Located s nam
         let q : length (take more (freeBlocks (next s) (blockCount s))) ≡ blocksFor (max size (offset + count)) - blocksFor size =
         length-take-le more (freeBlocks (next s) (blockCount s)) (room-given s name offset count ok r o more e) ∙ e ∙ ap (λ (k : ℕ). blocksFor (max size (offset + count)) - k) (blocks-for o z ok) in
         write-marks (chain (next s) first blocks) new (entriesNamed (changedEntries last new)) size offset count p q (plan-sizes s name offset count ok r o .0) m b
-        ∙ rw (d, opened-blocks o, need-is s name offset count ok r o more e, entry-block o)
+        ∙ rw (d, located-chain o, need-is s name offset count ok r o more e, located-block o)

@@ -1,6 +1,6 @@
 use native.Mathlib.Omega.{arith}
 use borrow.Author.Needs.{needs}
-use Rattle.volume.proofs.Walks.Files.{opened-run}
+use Rattle.layout.proofs.Walks.Looks.{located-below}
 use Rattle.volume.proofs.Walks.Plan.{plan-sizes, room-given, planned}
 use Rattle.layout.proofs.Walks.Shapes.{sound-shape}
 use Rattle.volume.proofs.write.plan_write.Statement.{statement}
@@ -18,7 +18,7 @@ needed-requires c κs =
 last-block-requires : tie.Need-last-block-requires
 last-block-requires c κs =
     let p = c .before .before .before .before .pre in
-    opened-run (c .before .locate .ensures) (name-given _ _ _ _ (p .1)) (p .0)
+    located-below (c .before .locate .ensures) (name-given _ _ _ _ (p .1)) (p .0)
 
 start-block-requires : tie.Need-start-block-requires
 start-block-requires c κs =

@@ -1,7 +1,7 @@
 use borrow.Author.Needs.{needs}
 use mathlib.Core.Path.{_∙_}
 use native.Mathlib.Omega.{arith}
-use Rattle.volume.proofs.Walks.Files.{opened-run}
+use Rattle.layout.proofs.Walks.Looks.{located-below}
 use Rattle.volume.proofs.Walks.WriteNamed.{last-under, write-named}
 use Rattle.layout.proofs.Walks.Shapes.{sound-shape}
 use Rattle.volume.proofs.write.write_named.Statement.{statement}
@@ -15,7 +15,7 @@ locate-requires c κs = (c .before .before .before .pre .0, name-given _ _ _ _ (
 last-block-requires : tie.Need-last-block-requires
 last-block-requires c κs =
     let p = c .before .before .before .before .pre in
-    opened-run (c .locate .ensures) (name-given _ _ _ _ (p .1)) (p .0)
+    located-below (c .locate .ensures) (name-given _ _ _ _ (p .1)) (p .0)
 
 needed-requires : tie.Need-needed-requires
 needed-requires c κs =
@@ -35,7 +35,7 @@ mark-written-requires : tie.Need-mark-written-requires
 mark-written-requires c κs =
     let locate = c .before .before .before .before .before .before .before .locate in
     let p = c .before .before .before .before .before .before .before .before .before .before .before .pre in
-    (opened-run (locate .ensures) (name-given _ _ _ _ (p .1)) (p .0), plan-sizes _ _ _ _ (p .0) (p .1) (locate .ensures) .2, omega (arith, p .2))
+    (located-below (locate .ensures) (name-given _ _ _ _ (p .1)) (p .0), plan-sizes _ _ _ _ (p .0) (p .1) (locate .ensures) .2, omega (arith, p .2))
 
 mark-grown-requires : tie.Need-mark-grown-requires
 mark-grown-requires c κs =
@@ -44,7 +44,7 @@ mark-grown-requires c κs =
     let locate = c .before .before .before .before .before .before .before .before .before .before .before .locate in
     let p = c .before .before .before .before .before .before .before .before .before .before .before .before .before .before .before .pre in (
       sound-shape _ (p .0),
-      rw (last-block .ensures) (last-under (opened-run (locate .ensures) (name-given _ _ _ _ (p .1)) (p .0))),
+      rw (last-block .ensures) (last-under (located-below (locate .ensures) (name-given _ _ _ _ (p .1)) (p .0))),
       room-given _ _ _ _
           (p .0) (p .1) (locate .ensures) _ (needed .ensures),
       omega (arith, p .2),
