@@ -1,5 +1,5 @@
-// The names of a directory, compared two by two. Each slot has a print, a checksum of its name's field: names whose prints differ are different,
-// and only where prints agree are the bytes looked at.
+// The names of a directory, compared two by two. Each slot has a fingerprint, a checksum of its name's field: names whose fingerprints differ are
+// different, and only where fingerprints agree are the bytes looked at.
 ghost use Prim.Native.Nat.{_+_, _-_, _*_, _/_, _≤_, _<_};
 ghost use mathlib.Core.Bool.{_&&_, _||_, not, true};
 ghost use mathlib.Core.Path.{_≡_};
@@ -11,14 +11,14 @@ ghost use Rattle.layout.specs.Table.{next, chain};
 ghost use Rattle.layout.specs.Directory.{slotAt, typeOf, isFile, nameOf};
 ghost use Rattle.layout.specs.Walks.Shapes.{DirectoryAt};
 ghost use Rattle.layout.specs.Walks.Slots.{Place, entryAt, nameIn, slotsOk, namesApart};
-ghost use Rattle.layout.specs.Walks.Names.{print, Prints, Printed, Nearest};
+ghost use Rattle.layout.specs.Walks.Names.{fingerprint, Fingerprints, Fingerprinted, Nearest};
 use super::limits::MAX_SLOTS;
 use super::limits::NAME_FIELD;
 
-// The print of a field of 80 bytes: Fletcher's sums over its words.
-fn print(field: &[u8]) -> usize
+// The fingerprint of a field of 80 bytes: Fletcher's sums over its words.
+fn fingerprint(field: &[u8]) -> usize
     requires { ⌜ length (now field) ≡ 80 ⌝ }
-    ensures { λ r. ⌜ r ≡ print (now (field .entry)) ⌝ }
+    ensures { λ r. ⌜ r ≡ fingerprint (now (field .entry)) ⌝ }
 {
     let mut a = 0;
     let mut b = 0;
@@ -33,26 +33,26 @@ fn print(field: &[u8]) -> usize
     16777216 * a + b
 }
 
-// The print of slot k, which is in block b.
-fn print_at(image: &[u8], b: usize, k: usize) -> usize
+// The fingerprint of slot k, which is in block b.
+fn fingerprint_at(image: &[u8], b: usize, k: usize) -> usize
     requires { ⌜ 512 * b + 512 ≤ length (now image) ⌝ }
-    ensures { λ r. ⌜ r ≡ print (part (now (image .entry)) (entryAt b k + 48) 80) ⌝ }
+    ensures { λ r. ⌜ r ≡ fingerprint (part (now (image .entry)) (entryAt b k + 48) 80) ⌝ }
 {
     let a = 512 * b + 128 * (k % 4) + 48;
     let e = a + NAME_FIELD;
-    print(&image[a..e])
+    fingerprint(&image[a..e])
 }
 
-// The prints of a directory's slots.
-fn take_prints(image: &[u8], n: usize, first: usize, d: usize, prints: &mut [usize])
+// The fingerprints of a directory's slots.
+fn take_fingerprints(image: &[u8], n: usize, first: usize, d: usize, prints: &mut [usize])
     requires { ⌜ (DirectoryAt (now image) n first d) × (length (now prints) ≡ maxSlots) ⌝ }
-    ensures { λ _. ⌜ Prints (now (image .entry)) (chain (next (now (image .entry))) first d) d (now (prints .exit)) ⌝ }
+    ensures { λ _. ⌜ Fingerprints (now (image .entry)) (chain (next (now (image .entry))) first d) d (now (prints .exit)) ⌝ }
 {
     let mut b = first;
     let mut k = 1;
     let mut left = 4 * d - 2;
     while 0 < left {
-        prints[k] = print_at(image, b, k);
+        prints[k] = fingerprint_at(image, b, k);
         k = k + 1;
         b = super::directory::following(image, b, k);
         left = left - 1;
@@ -90,7 +90,7 @@ fn same_names(image: &[u8], n: usize, first: usize, d: usize, k: usize, i: usize
 
 // Whether a slot after k is a file of the name of the file in slot k.
 fn taken(image: &[u8], n: usize, first: usize, d: usize, prints: &[usize], k: usize) -> bool
-    requires { ⌜ (Printed (now image) n first d (now prints)) × (1 ≤ k) × (k + 1 < 4 * d)
+    requires { ⌜ (Fingerprinted (now image) n first d (now prints)) × (1 ≤ k) × (k + 1 < 4 * d)
         × (isFile (typeOf (now image) (slotAt (chain (next (now image)) first d) k)) ≡ true) ⌝ }
     ensures { λ r. ⌜ r ≡ nameIn (now (image .entry)) (chain (next (now (image .entry))) first d)
         (nameOf (now (image .entry)) (slotAt (chain (next (now (image .entry))) first d) k)) (k + 1) (4 * d - 2 - k) ⌝ }
@@ -118,7 +118,7 @@ fn alone(
     k: usize,
     left: usize,
 ) -> bool
-    requires { ⌜ (Printed (now image) n first d (now prints)) × (Place (chain (next (now image)) first d) d b k left) × (1 ≤ k) × (0 < left) ⌝ }
+    requires { ⌜ (Fingerprinted (now image) n first d (now prints)) × (Place (chain (next (now image)) first d) d b k left) × (1 ≤ k) × (0 < left) ⌝ }
     ensures { λ r. ⌜ r ≡ not (isFile (typeOf (now (image .entry)) (entryAt b k)))
         || not (nameIn (now (image .entry)) (chain (next (now (image .entry))) first d) (nameOf (now (image .entry)) (entryAt b k)) (k + 1) (left - 1)) ⌝ }
 {
@@ -128,9 +128,9 @@ fn alone(
     !taken(image, n, first, d, prints, k)
 }
 
-// Whether no two files of a directory have the same name, by the prints of its slots.
+// Whether no two files of a directory have the same name, by the fingerprints of its slots.
 fn pairs_apart(image: &[u8], n: usize, first: usize, d: usize, prints: &[usize]) -> bool
-    requires { ⌜ Printed (now image) n first d (now prints) ⌝ }
+    requires { ⌜ Fingerprinted (now image) n first d (now prints) ⌝ }
     ensures { λ r. ⌜ r ≡ namesApart (now (image .entry)) (chain (next (now (image .entry))) first d) 1 (4 * d - 2) ⌝ }
 {
     let mut b = first;
@@ -147,8 +147,8 @@ fn pairs_apart(image: &[u8], n: usize, first: usize, d: usize, prints: &[usize])
     true
 }
 
-// Room for the print of each slot.
-fn no_prints() -> [usize; MAX_SLOTS]
+// Room for the fingerprint of each slot.
+fn no_fingerprints() -> [usize; MAX_SLOTS]
     ensures { λ r. ⌜ r ≡ zeros maxSlots ⌝ }
 {
     [0usize; MAX_SLOTS]
@@ -159,7 +159,7 @@ pub fn names_apart(image: &[u8], n: usize, first: usize, d: usize) -> bool
     requires { ⌜ (DirectoryAt (now image) n first d) × (slotsOk (now image) (chain (next (now image)) first d) 1 (4 * d - 2) ≡ true) ⌝ }
     ensures { λ r. ⌜ r ≡ namesApart (now (image .entry)) (chain (next (now (image .entry))) first d) 1 (4 * d - 2) ⌝ }
 {
-    let mut prints = no_prints();
-    take_prints(image, n, first, d, &mut prints);
+    let mut prints = no_fingerprints();
+    take_fingerprints(image, n, first, d, &mut prints);
     pairs_apart(image, n, first, d, &prints)
 }

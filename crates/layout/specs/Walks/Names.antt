@@ -1,4 +1,4 @@
--- The names of a directory, compared by a print of each.
+-- The names of a directory, compared by a fingerprint of each.
 use Prim.Native.Nat.{ℕ, zero, suc, _+_, _-_, _*_, _≤_, _<_}
 use mathlib.Core.Bool.{true}
 use mathlib.Core.List.{List}
@@ -16,20 +16,20 @@ unfoldable pub sums : List ℕ → ℕ → ℕ → ℕ → ℕ → ℕ
 sums f i zero a b = 16777216 * a + b
 sums f i (suc k) a b = sums f (i + 1) k (a + be32 f (4 * i)) (b + (a + be32 f (4 * i)))
 
--- the print of a field of 80 bytes: what tells most names apart without comparing their bytes
-unfoldable pub print : List ℕ → ℕ
-print f = sums f 0 20 0 0
+-- the fingerprint of a field of 80 bytes: what tells most names apart without comparing their bytes
+unfoldable pub fingerprint : List ℕ → ℕ
+fingerprint f = sums f 0 20 0 0
 
--- ps has the print of each slot from 1 to 4·d − 2
-pub record Prints (s ds : List ℕ) (d : ℕ) (ps : List ℕ) : Type 0 where
+-- ps has the fingerprint of each slot from 1 to 4·d − 2
+pub record Fingerprints (s ds : List ℕ) (d : ℕ) (ps : List ℕ) : Type 0 where
   pub room : length ps ≡ maxSlots
-  pub each : (i : ℕ) → 1 ≤ i → i + 1 < 4 * d → getD ps i 0 ≡ print (part s (slotAt ds i + 48) 80)
+  pub each : (i : ℕ) → 1 ≤ i → i + 1 < 4 * d → getD ps i 0 ≡ fingerprint (part s (slotAt ds i + 48) 80)
 
--- a directory whose slots are right, with their prints
-pub record Printed (s : List ℕ) (n first d : ℕ) (ps : List ℕ) : Type 0 where
+-- a directory whose slots are right, with their fingerprints
+pub record Fingerprinted (s : List ℕ) (n first d : ℕ) (ps : List ℕ) : Type 0 where
   pub directory : DirectoryAt s n first d
   pub good : slotsOk s (chain (next s) first d) 1 (4 * d - 2) ≡ true
-  pub prints : Prints s (chain (next s) first d) d ps
+  pub prints : Fingerprints s (chain (next s) first d) d ps
 
 -- r is the first index from `from` on at which p stands, or `end`
 pub record Nearest (ps : List ℕ) (p from end r : ℕ) : Type 0 where

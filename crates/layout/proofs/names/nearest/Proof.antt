@@ -2,7 +2,7 @@ use Prim.Native.Nat.{ℕ, _≤_, _<_, _-_}
 use mathlib.Core.Path.{_≡_}
 use native.Mathlib.Omega.{arith}
 use lib.ListN.{getD}
-use Rattle.layout.proofs.Walks.Prints.{not-yet}
+use Rattle.layout.proofs.Walks.Fingerprints.{not-yet}
 use Rattle.layout.proofs.names.nearest.Statement.{statement}
 use Rattle.layout.proofs.names.nearest.Tie as tie
 

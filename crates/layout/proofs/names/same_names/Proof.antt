@@ -4,7 +4,7 @@ use native.Mathlib.Omega.{arith}
 use borrow.Author.Needs.{needs}
 use Rattle.layout.specs.Table.{next, chain}
 use Rattle.layout.specs.Walks.Slots.{entryAt}
-use Rattle.layout.proofs.Walks.Prints.{slot-inside, names-compared}
+use Rattle.layout.proofs.Walks.Fingerprints.{slot-inside, names-compared}
 use Rattle.layout.proofs.names.same_names.Statement.{statement}
 use Rattle.layout.proofs.names.same_names.Tie as tie
 

@@ -5,7 +5,7 @@ use lib.ListN.{getD}
 use Rattle.layout.specs.Table.{next, chain}
 use Rattle.layout.specs.Directory.{slotAt, nameOf}
 use Rattle.layout.specs.Walks.Slots.{nameIn}
-use Rattle.layout.proofs.Walks.Prints.{nameIn-nearest}
+use Rattle.layout.proofs.Walks.Fingerprints.{nameIn-nearest}
 use Rattle.layout.proofs.Walks.Slots.{nameIn-end, nameIn-here, nameIn-next}
 use Rattle.layout.proofs.names.taken.Statement.{statement}
 use Rattle.layout.proofs.names.taken.Tie as tie

@@ -5,10 +5,10 @@ use lib.ListN.{length, length-set}
 use Rattle.layout.specs.Limits.{maxSlots}
 use Rattle.layout.specs.Table.{next, chain}
 use Rattle.layout.specs.Walks.Slots.{Place}
-use Rattle.layout.proofs.Walks.Prints.{Taken, taken-none, taken-more}
+use Rattle.layout.proofs.Walks.Fingerprints.{Taken, taken-none, taken-more}
 use Rattle.layout.proofs.Walks.Slots.{place-below, place-entry, place-then, place-first}
-use Rattle.layout.proofs.names.take_prints.Statement.{statement}
-use Rattle.layout.proofs.names.take_prints.Tie as tie
+use Rattle.layout.proofs.names.take_fingerprints.Statement.{statement}
+use Rattle.layout.proofs.names.take_fingerprints.Tie as tie
 
 abbrev Inv-loop : tie.InvT-loop
 Inv-loop image n first d prints₀ b₀ k₀ left₀ prints b k left =
@@ -30,8 +30,8 @@ loop-holds c =
     let a = a′ in
     (place-first _ _ _ (omega arith), omega arith, p .1, taken-none (a .image .now) (chain (next (a .image .now)) (a .first) (a .d)) (a .prints .now))
 
-print-at-requires : tie.Need-print-at-requires Inv-loop μ-loop
-print-at-requires c κs =
+fingerprint-at-requires : tie.Need-fingerprint-at-requires Inv-loop μ-loop
+fingerprint-at-requires c κs =
     let h = place-below _ _ _ _ _ _ (c .before .before .before .before .pre .0 .blocks) (c .before .loop .inv .0) in
     omega arith
 
@@ -62,8 +62,8 @@ loop-again c =
     let ds = chain (next (a .image .now)) (a .first) (a .d) in (
       place-then _ _ _ _ _ _ _ (l .inv .0) (omega arith) (c .following .ensures),
       omega arith,
-      length-set (l .prints) (l .k) (c .before .print-at .result) ∙ l .inv .2,
-      taken-more (a .image .now) ds (l .prints) (l .b) (l .k) _ (omega arith) (place-entry _ _ _ _ _ (l .inv .0)) (c .before .print-at .ensures) (l .inv .3),
+      length-set (l .prints) (l .k) (c .before .fingerprint-at .result) ∙ l .inv .2,
+      taken-more (a .image .now) ds (l .prints) (l .b) (l .k) _ (omega arith) (place-entry _ _ _ _ _ (l .inv .0)) (c .before .fingerprint-at .ensures) (l .inv .3),
     )
 
 same-length : tie.Need-same-length Inv-loop μ-loop
@@ -74,8 +74,8 @@ returns c =
     let l = c .before .loop in
     record { room = l .inv .2; each = λ i h g. l .inv .3 i h (omega arith) }
 
-pub take-prints-spec : {M : Type 1} → statement M
-take-prints-spec =
+pub take-fingerprints-spec : {M : Type 1} → statement M
+take-fingerprints-spec =
     tie.close
     (tie.spec
     Inv-loop
@@ -83,7 +83,7 @@ take-prints-spec =
     mul-left
     sub-left
     loop-holds
-    print-at-requires
+    fingerprint-at-requires
     mul-prints
     slice-write-prints
     add-k

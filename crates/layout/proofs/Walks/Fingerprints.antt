@@ -1,4 +1,4 @@
--- Prints of names: the loops that take and compare them, and that different prints mean different names.
+-- Fingerprints of names: the loops that take and compare them, and that different fingerprints mean different names.
 use Prim.Native.Nat.{ℕ, zero, suc, _+_, _-_, _*_, _/_, _≤_, _<_}
 use mathlib.Core.Bool.{true, false, _&&_}
 use mathlib.Core.List.{List}
@@ -15,7 +15,7 @@ use Rattle.layout.specs.Directory.{slotAt, typeOf, isFile, goodName, unp
 use Rattle.layout.specs.Check.{slotOk, fileOk}
 use Rattle.layout.specs.Walks.Shapes.{DirectoryAt}
 use Rattle.layout.specs.Walks.Slots.{entryAt, nameIn, slotsOk}
-use Rattle.layout.specs.Walks.Names.{sums, print, Printed, Nearest}
+use Rattle.layout.specs.Walks.Names.{sums, fingerprint, Fingerprinted, Nearest}
 use Rattle.layout.proofs.Laws.Lists.{every-range}
 use Rattle.layout.proofs.Laws.Names.{same-eq}
 use Rattle.layout.proofs.Laws.Sound.{slotOk-split}
@@ -34,9 +34,9 @@ module _ (f : List ℕ) (i k a b : ℕ) where
       let e : k ≡ suc (k - 1) = omega arith in
       ap (λ (j : ℕ). sums f i j a b) e
 
-pub print-start : (f : List ℕ) → print f ≡ sums f 0 20 0 0
-unfolding print
-print-start f = refl
+pub fingerprint-start : (f : List ℕ) → fingerprint f ≡ sums f 0 20 0 0
+unfolding fingerprint
+fingerprint-start f = refl
 
 -- what did not stand before i, and not at i, does not stand before i + 1
 pub not-yet : (ps : List ℕ) (p from i : ℕ) → ((j : ℕ) → from ≤ j → j < i → getD ps j 0 ≡ p → ⊥) → (getD ps i 0 ≡ p → ⊥)
@@ -67,16 +67,16 @@ field-padded s e ok file =
     ⊎-elim (λ free. absurd (true-not-false file (ap isFile free)))
     (λ f. same-eq _ _ (and-split (goodName (nameOf s e)) (same (part s (e + 48) 80) (padded (nameOf s e))) (and-split (nameOk s e) _ (f .1) .0) .1)) (slotOk-split s e ok)
 
--- different prints, different names
+-- different fingerprints, different names
 module _ (s : List ℕ) (e e′ : ℕ) (ok : slotOk s e ≡ true) (file : isFile (typeOf s e) ≡ true) (ok′ : slotOk s e′ ≡ true)
-    (differ : print (part s (e + 48) 80) ≡ print (part s (e′ + 48) 80) → ⊥)
+    (differ : fingerprint (part s (e + 48) 80) ≡ fingerprint (part s (e′ + 48) 80) → ⊥)
   where
-    pub prints-apart : (isFile (typeOf s e′) && same (nameOf s e) (nameOf s e′)) ≡ false
-    prints-apart = is-false _ (λ h.
+    pub fingerprints-apart : (isFile (typeOf s e′) && same (nameOf s e) (nameOf s e′)) ≡ false
+    fingerprints-apart = is-false _ (λ h.
         let w = and-split (isFile (typeOf s e′)) (same (nameOf s e) (nameOf s e′)) h in
         let f : part s (e + 48) 80 ≡ part s (e′ + 48) 80
         = field-padded s e ok file ∙ ap padded {x = nameOf s e} {y = nameOf s e′} (same-eq _ _ (w .1)) ∙ sym (field-padded s e′ ok′ (w .0)) in
-        differ (ap print f))
+        differ (ap fingerprint f))
 
 -- slots that are no file of a name are passed over
 pub nameIn-skip : (s ds name : List ℕ) (m k j : ℕ) → m ≤ j
@@ -90,8 +90,8 @@ nameIn-skip s ds name (suc m) k j h f =
     let q : j - 1 - m ≡ j - suc m = omega arith in
     step ∙ rest ∙ rw (p, q)
 
--- from one slot to the next whose print is that of slot k
-module _ (s : List ℕ) (n first d : ℕ) (ps : List ℕ) (p : Printed s n first d ps) (k : ℕ) (low : 1 ≤ k) (high : k + 1 < 4 * d)
+-- from one slot to the next whose fingerprint is that of slot k
+module _ (s : List ℕ) (n first d : ℕ) (ps : List ℕ) (p : Fingerprinted s n first d ps) (k : ℕ) (low : 1 ≤ k) (high : k + 1 < 4 * d)
     (file : isFile (typeOf s (slotAt (chain (next s) first d) k)) ≡ true)
   where
     abbrev ds : List ℕ
@@ -107,18 +107,18 @@ module _ (s : List ℕ) (n first d : ℕ) (ps : List ℕ) (p : Printed s n first
         let a : x + (r - x) ≡ r = omega arith in
         let b : j - (r - x) ≡ j′ = omega arith in
         nameIn-skip s ds (nameOf s (slotAt ds k)) (r - x) x j (omega arith) (λ y l g.
-        prints-apart s (slotAt ds k) (slotAt ds y) (good-slot k low high) file (good-slot y (omega arith) (omega arith))
+        fingerprints-apart s (slotAt ds k) (slotAt ds y) (good-slot k low high) file (good-slot y (omega arith) (omega arith))
         (λ z. near .before y l (omega arith) (p .prints .each y (omega arith) (omega arith) ∙ sym z ∙ sym (p .prints .each k low high) ∙ sym eq)))
         ∙ rw (a, b)
 
--- the prints of the slots from 1 to k − 1
+-- the fingerprints of the slots from 1 to k − 1
 abbrev pub Taken : List ℕ → List ℕ → List ℕ → ℕ → Type 0
-Taken s ds ps k = (i : ℕ) → 1 ≤ i → i < k → getD ps i 0 ≡ print (part s (slotAt ds i + 48) 80)
+Taken s ds ps k = (i : ℕ) → 1 ≤ i → i < k → getD ps i 0 ≡ fingerprint (part s (slotAt ds i + 48) 80)
 
 pub taken-none : (s ds ps : List ℕ) → Taken s ds ps 1
 taken-none s ds ps i h g = absurd (omega arith)
 
-pub taken-more : (s ds ps : List ℕ) (b k v : ℕ) → k < length ps → entryAt b k ≡ slotAt ds k → v ≡ print (part s (entryAt b k + 48) 80) → Taken s ds ps k
+pub taken-more : (s ds ps : List ℕ) (b k v : ℕ) → k < length ps → entryAt b k ≡ slotAt ds k → v ≡ fingerprint (part s (entryAt b k + 48) 80) → Taken s ds ps k
     → Taken s ds (set ps k v) (k + 1)
 taken-more s ds ps b k v room e ev f i h g =
     let m : i ≤ k = omega arith in
