@@ -64,22 +64,6 @@ pub fn name_ok(field: &[u8]) -> bool
     zeros(&field[k..])
 }
 
-// Whether two fields hold the same name.
-pub fn same_name(f: &[u8], g: &[u8]) -> bool
-    requires { ⌜ length (now f) ≡ length (now g) ⌝ }
-    ensures { λ r. ⌜ r ≡ same (unpadded (now (f .entry))) (unpadded (now (g .entry))) ⌝ }
-{
-    for i in 0..f.len() {
-        if f[i] != g[i] {
-            return false;
-        }
-        if f[i] == 0 {
-            return true;
-        }
-    }
-    true
-}
-
 // Whether a name has 1 to 79 bytes, none of them 0.
 pub fn good_name(name: &[u8]) -> bool
     ensures { λ r. ⌜ r ≡ goodName (now (name .entry)) ⌝ }

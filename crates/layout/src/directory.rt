@@ -8,7 +8,7 @@ ghost use Rattle.layout.specs.Limits.{maxName};
 ghost use Rattle.layout.specs.Lists.{same};
 ghost use Rattle.layout.specs.Bytes.{be32};
 ghost use Rattle.layout.specs.Table.{next, chain};
-ghost use Rattle.layout.specs.Directory.{slotAt, typeOf, isFile, nameOf, unpadded, goodName, fileSlot, freeSlot};
+ghost use Rattle.layout.specs.Directory.{slotAt, typeOf, isFile, nameOf, goodName, fileSlot, freeSlot};
 ghost use Rattle.layout.specs.Check.{slotOk, entriesOk};
 ghost use Rattle.layout.specs.Walks.Chains.{walked};
 ghost use Rattle.layout.specs.Walks.Entries.{numbersOk, selfOk};
@@ -81,19 +81,6 @@ pub fn slot_ok(block: &[u8], o: usize) -> bool
     numbers_ok(block, o)
 }
 
-// Whether the slot at o of a directory's block is a file of the name in a field.
-pub fn slot_named(block: &[u8], o: usize, field: &[u8]) -> bool
-    requires { ⌜ (o + 128 ≤ length (now block)) × (length (now field) ≡ 80) ⌝ }
-    ensures { λ r. ⌜ r ≡ isFile (typeOf (now (block .entry)) o) && same (unpadded (now (field .entry))) (nameOf (now (block .entry)) o) ⌝ }
-{
-    if !is_file(block[o]) {
-        return false;
-    }
-    let a = o + 48;
-    let e = a + NAME_FIELD;
-    super::bytes::same_name(field, &block[a..e])
-}
-
 // Whether the entry at the start of block b is its self entry.
 pub fn self_ok(block: &[u8], b: usize, parent: usize) -> bool
     requires { ⌜ 128 ≤ length (now block) ⌝ }
@@ -115,7 +102,7 @@ pub fn self_ok(block: &[u8], b: usize, parent: usize) -> bool
     d <= MAX_DIRECTORY
 }
 
-// The slots of an image, by the block b that holds slot k: its type, a number of its entry, whether it is right, whether it is a file of a name.
+// The slots of an image, by the block b that holds slot k: its type, a number of its entry, whether it is right.
 pub fn type_of(block: &[u8], o: usize) -> u8
     requires { ⌜ o < length (now block) ⌝ }
     ensures { λ r. ⌜ r ≡ typeOf (now (block .entry)) o ⌝ }
@@ -158,17 +145,6 @@ pub fn slot_ok_at(image: &[u8], b: usize, k: usize) -> bool
     let a = 512 * b;
     let e = a + 512;
     slot_ok(&image[a..e], o)
-}
-
-pub fn named_at(image: &[u8], b: usize, k: usize, field: &[u8]) -> bool
-    requires { ⌜ (512 * b + 512 ≤ length (now image)) × (length (now field) ≡ 80) ⌝ }
-    ensures { λ r. ⌜ r ≡ isFile (typeOf (now (image .entry)) (entryAt b k))
-        && same (unpadded (now (field .entry))) (nameOf (now (image .entry)) (entryAt b k)) ⌝ }
-{
-    let o = 128 * (k % 4);
-    let a = 512 * b;
-    let e = a + 512;
-    slot_named(&image[a..e], o, field)
 }
 
 // Whether each slot from 1 to 4·d − 2 of a directory is right, and the last is the end.

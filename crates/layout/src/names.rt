@@ -9,6 +9,7 @@ ghost use Rattle.layout.specs.Lists.{same};
 ghost use Rattle.layout.specs.Bytes.{part, zeros};
 ghost use Rattle.layout.specs.Table.{next, chain};
 ghost use Rattle.layout.specs.Directory.{slotAt, typeOf, isFile, nameOf};
+ghost use Rattle.layout.specs.Check.{slotOk};
 ghost use Rattle.layout.specs.Walks.Shapes.{DirectoryAt};
 ghost use Rattle.layout.specs.Walks.Slots.{Place, entryAt, nameIn, slotsOk, namesApart};
 ghost use Rattle.layout.specs.Walks.Names.{fingerprint, Fingerprints, Fingerprinted, Nearest};
@@ -33,14 +34,14 @@ fn fingerprint(field: &[u8]) -> usize
     16777216 * a + b
 }
 
-// The fingerprint of slot k, which is in block b.
-fn fingerprint_at(image: &[u8], b: usize, k: usize) -> usize
+// The name's field of slot k, which is in block b.
+fn field_at<'a>(image: &'a [u8], b: usize, k: usize) -> &'a [u8]
     requires { ⌜ 512 * b + 512 ≤ length (now image) ⌝ }
-    ensures { λ r. ⌜ r ≡ fingerprint (part (now (image .entry)) (entryAt b k + 48) 80) ⌝ }
+    ensures { λ r. ⌜ now r ≡ part (now (image .entry)) (entryAt b k + 48) 80 ⌝ }
 {
     let a = 512 * b + 128 * (k % 4) + 48;
     let e = a + NAME_FIELD;
-    fingerprint(&image[a..e])
+    &image[a..e]
 }
 
 // The fingerprints of a directory's slots.
@@ -52,7 +53,7 @@ fn take_fingerprints(image: &[u8], n: usize, first: usize, d: usize, prints: &mu
     let mut k = 1;
     let mut left = 4 * d - 2;
     while 0 < left {
-        prints[k] = fingerprint_at(image, b, k);
+        prints[k] = fingerprint(field_at(image, b, k));
         k = k + 1;
         b = super::directory::following(image, b, k);
         left = left - 1;
@@ -74,18 +75,21 @@ fn nearest(prints: &[usize], p: usize, from: usize, end: usize) -> usize
     i
 }
 
-// Whether slot i is a file of the name in slot k.
+// Whether slot i is a file of the name of the file in slot k. Right names are equal exactly if their fields are.
 fn same_names(image: &[u8], n: usize, first: usize, d: usize, k: usize, i: usize) -> bool
-    requires { ⌜ (DirectoryAt (now image) n first d) × (k < 4 * d) × (i < 4 * d) ⌝ }
+    requires { ⌜ (DirectoryAt (now image) n first d) × (k < 4 * d) × (i < 4 * d)
+        × (slotOk (now image) (slotAt (chain (next (now image)) first d) k) ≡ true) × (isFile (typeOf (now image) (slotAt (chain (next (now image)) first d) k)) ≡ true)
+        × (slotOk (now image) (slotAt (chain (next (now image)) first d) i) ≡ true) ⌝ }
     ensures { λ r. ⌜ r ≡ isFile (typeOf (now (image .entry)) (slotAt (chain (next (now (image .entry))) first d) i))
         && same (nameOf (now (image .entry)) (slotAt (chain (next (now (image .entry))) first d) k))
         (nameOf (now (image .entry)) (slotAt (chain (next (now (image .entry))) first d) i)) ⌝ }
 {
-    let b = super::table::nth(image, n, first, d, k / 4);
     let c = super::table::nth(image, n, first, d, i / 4);
-    let a = 512 * b + 128 * (k % 4) + 48;
-    let e = a + NAME_FIELD;
-    super::directory::named_at(image, c, i, &image[a..e])
+    if !super::directory::is_file(super::directory::type_at(image, c, i)) {
+        return false;
+    }
+    let b = super::table::nth(image, n, first, d, k / 4);
+    super::bytes::equal(field_at(image, b, k), field_at(image, c, i))
 }
 
 // Whether a slot after k is a file of the name of the file in slot k.

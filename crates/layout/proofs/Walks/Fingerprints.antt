@@ -1,6 +1,6 @@
 -- Fingerprints of names: the loops that take and compare them, and that different fingerprints mean different names.
 use Prim.Native.Nat.{ℕ, zero, suc, _+_, _-_, _*_, _/_, _≤_, _<_}
-use mathlib.Core.Bool.{true, false, _&&_}
+use mathlib.Core.Bool.{Bool, true, false, _&&_, false≢true}
 use mathlib.Core.List.{List}
 use mathlib.Core.Path.{_≡_, refl, sym, ap, _∙_}
 use mathlib.Core.Logic.{⊎-elim}
@@ -11,13 +11,14 @@ use lib.Seq.{getD-set-same, getD-set-other}
 use Rattle.layout.specs.Lists.{same}
 use Rattle.layout.specs.Bytes.{be32, part}
 use Rattle.layout.specs.Table.{next, chain}
-use Rattle.layout.specs.Directory.{slotAt, typeOf, isFile, goodName, unpadded, padded, nameOf, nameOk}
+use Rattle.layout.specs.Directory.{slotAt, typeOf, isFile, goodName, padded, nameOf, nameOk}
 use Rattle.layout.specs.Check.{slotOk, fileOk}
 use Rattle.layout.specs.Walks.Shapes.{DirectoryAt}
 use Rattle.layout.specs.Walks.Slots.{entryAt, nameIn, slotsOk}
 use Rattle.layout.specs.Walks.Names.{sums, fingerprint, Fingerprinted, Nearest}
+use Rattle.layout.proofs.Laws.Bytes.{length-part}
 use Rattle.layout.proofs.Laws.Lists.{every-range}
-use Rattle.layout.proofs.Laws.Names.{same-eq}
+use Rattle.layout.proofs.Laws.Names.{same-eq, same-refl}
 use Rattle.layout.proofs.Laws.Sound.{slotOk-split}
 use Rattle.layout.proofs.Laws.Tests.{and-split, is-false, true-not-false}
 use Rattle.layout.proofs.Walks.Slots.{nameIn-next}
@@ -53,12 +54,9 @@ slot-inside s n first d b k at h e =
     let w = at .shape .whole in
     omega arith
 
--- the names of two slots, by their blocks b and c
-pub names-compared : (s ds : List ℕ) (b c k i x : ℕ) → b ≡ getD ds (k / 4) 0 → c ≡ getD ds (i / 4) 0 → x ≡ 80
-    → (isFile (typeOf s (entryAt c i)) && same (unpadded (part s (entryAt b k + 48) x)) (nameOf s (entryAt c i)))
-    ≡ (isFile (typeOf s (slotAt ds i)) && same (nameOf s (slotAt ds k)) (nameOf s (slotAt ds i)))
-unfolding slotAt nameOf
-names-compared s ds b c k i x eb ec ex = rw (← eb, ← ec, ex)
+-- a name's field is 80 bytes
+pub field-long : (s : List ℕ) (b k : ℕ) (f : List ℕ) → f ≡ part s (entryAt b k + 48) 80 → 512 * b + 512 ≤ length s → length f ≡ 80
+field-long s b k f e h = ap length e ∙ length-part s (entryAt b k + 48) 80 (omega arith)
 
 -- the field of a good file is its name and zeros
 field-padded : (s : List ℕ) (e : ℕ) → slotOk s e ≡ true → isFile (typeOf s e) ≡ true → part s (e + 48) 80 ≡ padded (nameOf s e)
@@ -67,16 +65,33 @@ field-padded s e ok file =
     ⊎-elim (λ free. absurd (true-not-false file (ap isFile free)))
     (λ f. same-eq _ _ (and-split (goodName (nameOf s e)) (same (part s (e + 48) 80) (padded (nameOf s e))) (and-split (nameOk s e) _ (f .1) .0) .1)) (slotOk-split s e ok)
 
--- different fingerprints, different names
-module _ (s : List ℕ) (e e′ : ℕ) (ok : slotOk s e ≡ true) (file : isFile (typeOf s e) ≡ true) (ok′ : slotOk s e′ ≡ true)
-    (differ : fingerprint (part s (e + 48) 80) ≡ fingerprint (part s (e′ + 48) 80) → ⊥)
-  where
-    pub fingerprints-apart : (isFile (typeOf s e′) && same (nameOf s e) (nameOf s e′)) ≡ false
-    fingerprints-apart = is-false _ (λ h.
-        let w = and-split (isFile (typeOf s e′)) (same (nameOf s e) (nameOf s e′)) h in
-        let f : part s (e + 48) 80 ≡ part s (e′ + 48) 80
-        = field-padded s e ok file ∙ ap padded {x = nameOf s e} {y = nameOf s e′} (same-eq _ _ (w .1)) ∙ sym (field-padded s e′ ok′ (w .0)) in
-        differ (ap fingerprint f))
+-- right files have the same name exactly if their fields are equal
+same-fields : (s : List ℕ) (e e′ : ℕ) → slotOk s e ≡ true → isFile (typeOf s e) ≡ true → slotOk s e′ ≡ true → isFile (typeOf s e′) ≡ true
+    → same (nameOf s e) (nameOf s e′) ≡ true → part s (e + 48) 80 ≡ part s (e′ + 48) 80
+same-fields s e e′ ok file ok′ file′ t =
+    field-padded s e ok file ∙ ap padded {x = nameOf s e} {y = nameOf s e′} (same-eq _ _ t) ∙ sym (field-padded s e′ ok′ file′)
+
+module _ (s : List ℕ) (e e′ : ℕ) (ok : slotOk s e ≡ true) (file : isFile (typeOf s e) ≡ true) (ok′ : slotOk s e′ ≡ true) where
+  pub names-other : false ≡ isFile (typeOf s e′) → false ≡ isFile (typeOf s e′) && same (nameOf s e) (nameOf s e′)
+  names-other h = rw (← h)
+
+  pub names-compared : true ≡ isFile (typeOf s e′) → same (part s (e + 48) 80) (part s (e′ + 48) 80) ≡ isFile (typeOf s e′) && same (nameOf s e) (nameOf s e′)
+  unfolding nameOf
+  names-compared h = go (same (nameOf s e) (nameOf s e′)) refl (same (part s (e + 48) 80) (part s (e′ + 48) 80)) refl
+    where
+      go : (t : Bool) → same (nameOf s e) (nameOf s e′) ≡ t → (u : Bool) → same (part s (e + 48) 80) (part s (e′ + 48) 80) ≡ u
+          → same (part s (e + 48) 80) (part s (e′ + 48) 80) ≡ isFile (typeOf s e′) && same (nameOf s e) (nameOf s e′)
+      go true a u b = rw (← h, a, same-fields s e e′ ok file ok′ (sym h) a) (same-refl (part s (e′ + 48) 80))
+      go false a true b =
+          absurd (false≢true (sym a ∙ rw (same-eq (part s (e + 48) 80) (part s (e′ + 48) 80) b) (same-refl (nameOf s e′))))
+      go false a false b = rw (← h, a, b)
+
+  -- different fingerprints, different names
+  pub fingerprints-apart : (fingerprint (part s (e + 48) 80) ≡ fingerprint (part s (e′ + 48) 80) → ⊥)
+      → (isFile (typeOf s e′) && same (nameOf s e) (nameOf s e′)) ≡ false
+  fingerprints-apart differ = is-false _ (λ h.
+      let w = and-split (isFile (typeOf s e′)) (same (nameOf s e) (nameOf s e′)) h in
+      differ (ap fingerprint (same-fields s e e′ ok file ok′ (w .0) (w .1))))
 
 -- slots that are no file of a name are passed over
 pub nameIn-skip : (s ds name : List ℕ) (m k j : ℕ) → m ≤ j
@@ -90,6 +105,11 @@ nameIn-skip s ds name (suc m) k j h f =
     let q : j - 1 - m ≡ j - suc m = omega arith in
     step ∙ rest ∙ rw (p, q)
 
+pub good-slot : {s : List ℕ} {n first d : ℕ} {ps : List ℕ} → Fingerprinted s n first d ps → (x : ℕ) → 1 ≤ x → x + 1 < 4 * d
+    → slotOk s (slotAt (chain (next s) first d) x) ≡ true
+unfolding slotsOk
+good-slot {s} {n} {first} {d} p x h g = every-range (λ y. slotOk s (slotAt (chain (next s) first d) y)) 1 (4 * d - 2) (p .good) x h (omega arith)
+
 -- from one slot to the next whose fingerprint is that of slot k
 module _ (s : List ℕ) (n first d : ℕ) (ps : List ℕ) (p : Fingerprinted s n first d ps) (k : ℕ) (low : 1 ≤ k) (high : k + 1 < 4 * d)
     (file : isFile (typeOf s (slotAt (chain (next s) first d) k)) ≡ true)
@@ -97,17 +117,13 @@ module _ (s : List ℕ) (n first d : ℕ) (ps : List ℕ) (p : Fingerprinted s n
     abbrev ds : List ℕ
     ds = chain (next s) first d
 
-    good-slot : (x : ℕ) → 1 ≤ x → x + 1 < 4 * d → slotOk s (slotAt ds x) ≡ true
-    unfolding slotsOk
-    good-slot x h g = every-range (λ y. slotOk s (slotAt ds y)) 1 (4 * d - 2) (p .good) x h (omega arith)
-
     pub nameIn-nearest : (q x r j j′ : ℕ) → q ≡ getD ps k 0 → k < x → x + j + 1 ≡ 4 * d → r + j′ + 1 ≡ 4 * d → Nearest ps q x (4 * d - 1) r
         → nameIn s ds (nameOf s (slotAt ds k)) x j ≡ nameIn s ds (nameOf s (slotAt ds k)) r j′
     nameIn-nearest q x r j j′ eq h ej ej′ near =
         let a : x + (r - x) ≡ r = omega arith in
         let b : j - (r - x) ≡ j′ = omega arith in
         nameIn-skip s ds (nameOf s (slotAt ds k)) (r - x) x j (omega arith) (λ y l g.
-        fingerprints-apart s (slotAt ds k) (slotAt ds y) (good-slot k low high) file (good-slot y (omega arith) (omega arith))
+        fingerprints-apart s (slotAt ds k) (slotAt ds y) (good-slot p k low high) file (good-slot p y (omega arith) (omega arith))
         (λ z. near .before y l (omega arith) (p .prints .each y (omega arith) (omega arith) ∙ sym z ∙ sym (p .prints .each k low high) ∙ sym eq)))
         ∙ rw (a, b)
 

@@ -10,7 +10,7 @@ use native.Mathlib.Omega.{arith}
 use lib.Dec.{eqb}
 use lib.ListN.{length, getD, drop, replicate, length-drop}
 use lib.Seq.{drop-cons, drop-length}
-use borrow.Author.Tests.{eq-eqb, le-leb, lt-leb, ne-eqb}
+use borrow.Author.Tests.{le-leb, lt-leb, ne-eqb}
 use Rattle.layout.specs.Limits.{maxName}
 use Rattle.layout.specs.Lists.{every, same}
 use Rattle.layout.specs.Bytes.{zeros}
@@ -72,31 +72,6 @@ module _ (f : List ℕ) where
       let r : 80 - length (unpadded f) ≡ length (drop (length (unpadded f)) f) = simp length-drop (omega arith) in
       rw (le-leb 1 (length (unpadded f)) (omega arith), le-leb (length (unpadded f)) maxName g, unpadded-bytes f)
       (same-append f (unpadded f) (replicate (80 - length (unpadded f)) 0) (omega arith) ∙ rw (take-unpadded f, same-refl (unpadded f), r, allZero-same))
-
--- two fields' names, by the bytes
-heads-differ : (x y : ℕ) (xs ys : List ℕ) → (x ≡ y → ⊥) → same (unpadded (x ∷ xs)) (unpadded (y ∷ ys)) ≡ false
-heads-differ zero zero xs ys h = absurd (h refl)
-heads-differ zero (suc y) xs ys h = refl
-heads-differ (suc x) zero xs ys h = refl
-heads-differ (suc x) (suc y) xs ys h = rw (ne-eqb (suc x) (suc y) h)
-
-heads-agree : (x : ℕ) (xs ys : List ℕ) → (x ≡ 0 → ⊥) → same (unpadded (x ∷ xs)) (unpadded (x ∷ ys)) ≡ same (unpadded xs) (unpadded ys)
-heads-agree zero xs ys h = absurd (h refl)
-heads-agree (suc x) xs ys h = rw (eq-eqb (suc x) (suc x) refl)
-
-module _ (f g : List ℕ) (i : ℕ) (hf : i < length f) (hg : i < length g) where
-  pub names-differ : (getD f i 0 ≡ getD g i 0 → ⊥) → same (unpadded (drop i f)) (unpadded (drop i g)) ≡ false
-  names-differ h = rw (drop-cons f i 0 hf, drop-cons g i 0 hg) (heads-differ (getD f i 0) (getD g i 0) (drop (suc i) f) (drop (suc i) g) h)
-
-  pub names-end : getD f i 0 ≡ getD g i 0 → getD f i 0 ≡ 0 → same (unpadded (drop i f)) (unpadded (drop i g)) ≡ true
-  names-end e z = rw (drop-cons f i 0 hf, drop-cons g i 0 hg, ← e, z)
-
-  pub names-next : getD f i 0 ≡ getD g i 0 → (getD f i 0 ≡ 0 → ⊥)
-      → same (unpadded (drop i f)) (unpadded (drop i g)) ≡ same (unpadded (drop (i + 1) f)) (unpadded (drop (i + 1) g))
-  names-next e z = rw (drop-cons f i 0 hf, drop-cons g i 0 hg, ← e, add-one) (heads-agree (getD f i 0) (drop (suc i) f) (drop (suc i) g) z)
-
-pub names-all : (f g : List ℕ) (i : ℕ) → i ≡ length f → length f ≡ length g → same (unpadded (drop i f)) (unpadded (drop i g)) ≡ true
-names-all f g i e d = rw (e, drop-length f, d, drop-length g)
 
 -- a good name
 module _ (name : List ℕ) where

@@ -23,9 +23,12 @@ use Rattle.layout.proofs.Laws.Lists.{range-next}
 pub place-below : (n : ℕ) (ds : List ℕ) (d b k j : ℕ) → Blocks n d ds → Place ds d b k j → b < n
 place-below n ds d b k j bs p = rw (p .here) (bs .below (k / 4) (omega arith))
 
-pub place-entry : (ds : List ℕ) (d b k j : ℕ) → Place ds d b k j → entryAt b k ≡ slotAt ds k
+pub entry-slot : (ds : List ℕ) (b k : ℕ) → b ≡ getD ds (k / 4) 0 → entryAt b k ≡ slotAt ds k
 unfolding slotAt
-place-entry ds d b k j p = rw (p .here)
+entry-slot ds b k e = rw e
+
+pub place-entry : (ds : List ℕ) (d b k j : ℕ) → Place ds d b k j → entryAt b k ≡ slotAt ds k
+place-entry ds d b k j p = entry-slot ds b k (p .here)
 
 pub place-next : (v : ℕ → ℕ) (f d b k j : ℕ) → Place (chain v f d) d b k j → 0 < j → Place (chain v f d) d (slotBlock v b (k + 1)) (k + 1) (j - 1)
 unfolding slotBlock

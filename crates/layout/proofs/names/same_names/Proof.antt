@@ -1,79 +1,76 @@
-use Prim.Native.Nat.{_+_, _-_}
-use mathlib.Core.Path.{_∙_}
-use native.Mathlib.Omega.{arith}
+use mathlib.Core.Bool.{true, false}
+use mathlib.Core.Path.{_≡_, sym, ap, _∙_}
 use borrow.Author.Needs.{needs}
+use borrow.Author.Tests.{not-true, not-false}
 use Rattle.layout.specs.Table.{next, chain}
-use Rattle.layout.specs.Walks.Slots.{entryAt}
-use Rattle.layout.proofs.Walks.Fingerprints.{slot-inside, names-compared}
+use Rattle.layout.specs.Directory.{slotAt, isFile}
+use Rattle.layout.proofs.Walks.Fingerprints.{slot-inside, names-other, names-compared}
+use Rattle.layout.proofs.Walks.Slots.{entry-slot}
 use Rattle.layout.proofs.names.same_names.Statement.{statement}
 use Rattle.layout.proofs.names.same_names.Tie as tie
 
 nth-requires : tie.Need-nth-requires
 nth-requires c κs = search needs
 
-nth-requires-2 : tie.Need-nth-requires-2
-nth-requires-2 c κs = search needs
+type-at-requires : tie.Need-type-at-requires
+type-at-requires c κs =
+    let p = c .before .before .pre in
+    slot-inside _ _ _ _ _ _ (p .0) (p .2) (c .nth .ensures)
 
-mul-a : tie.Need-mul-a
-mul-a c =
-    let h = slot-inside _ _ _ _ _ _ (c .before .before .before .pre .0) (c .before .before .before .pre .1) (c .before .nth .ensures) in
-    omega arith
-
-mul-a-2 : tie.Need-mul-a-2
-mul-a-2 c = search needs
-
-add-a : tie.Need-add-a
-add-a c =
-    let h = slot-inside _ _ _ _ _ _ (c .before .before .before .pre .0) (c .before .before .before .pre .1) (c .before .nth .ensures) in
-    omega arith
-
-add-a-2 : tie.Need-add-a-2
-add-a-2 c =
-    let h = slot-inside _ _ _ _ _ _ (c .before .before .before .pre .0) (c .before .before .before .pre .1) (c .before .nth .ensures) in
-    omega arith
-
-add-e : tie.Need-add-e
-add-e c =
-    let h = slot-inside _ _ _ _ _ _ (c .before .before .before .pre .0) (c .before .before .before .pre .1) (c .before .nth .ensures) in
-    omega arith
-
-sub-named-at : tie.Need-sub-named-at
-sub-named-at c = search needs
-
-part-named-at-start : tie.Need-part-named-at-start
-part-named-at-start c = search needs
-
-part-named-at-end : tie.Need-part-named-at-end
-part-named-at-end c =
-    let h = slot-inside _ _ _ _ _ _ (c .before .before .before .pre .0) (c .before .before .before .pre .1) (c .before .nth .ensures) in
-    omega arith
-
-named-at-requires : tie.Need-named-at-requires
-named-at-requires c κs =
-    let p = c .before .before .before .before .pre in
-    let h = slot-inside _ _ _ _ _ _ (p .0) (p .1) (c .before .before .nth .ensures) in
-    (slot-inside _ _ _ _ _ _ (p .0) (p .2) (c .before .nth2 .ensures), omega arith)
+is-file-requires : tie.Need-is-file-requires
+is-file-requires c κs = search needs
 
 returns : tie.Need-returns
 returns c =
     let a = c .before .before .before .before .before .args in
-    c .named-at .ensures ∙ names-compared (a .image .now) (chain (next (a .image .now)) (a .first) (a .d)) _ _ (a .k) (a .i)
-    ((entryAt (c .before .before .before .nth .result) (a .k) + 48 + 80) - (entryAt (c .before .before .before .nth .result) (a .k) + 48))
-    (c .before .before .before .nth .ensures) (c .before .before .nth2 .ensures) (omega arith)
+    let p = c .before .before .before .before .before .pre in
+    let ds = chain (next (a .image .now)) (a .first) (a .d) in
+    let t : c .before .is-file .result ≡ false = not-true _ (c .if1 .taken) in
+    let f = sym t ∙ c .before .is-file .ensures ∙ ap isFile (c .before .before .type-at .ensures) in
+    names-other (a .image .now) (slotAt ds (a .k)) (slotAt ds (a .i)) (p .3) (p .4) (p .5) (rw (entry-slot ds _ (a .i) (c .before .before .before .nth .ensures)) at f)
+
+nth-requires-2 : tie.Need-nth-requires-2
+nth-requires-2 c κs = search needs
+
+field-at-requires : tie.Need-field-at-requires
+field-at-requires c κs =
+    let p = c .before .before .before .before .before .before .pre in
+    slot-inside _ _ _ _ _ _ (p .0) (p .1) (c .nth2 .ensures)
+
+field-at-requires-2 : tie.Need-field-at-requires-2
+field-at-requires-2 c κs =
+    let p = c .before .before .before .before .before .before .before .pre in
+    slot-inside _ _ _ _ _ _ (p .0) (p .2) (c .before .before .before .before .before .nth .ensures)
+
+equal-requires : tie.Need-equal-requires
+equal-requires c κs = search needs
+
+returns-2 : tie.Need-returns-2
+returns-2 c =
+    let a = c .before .before .before .before .before .before .before .before .before .args in
+    let p = c .before .before .before .before .before .before .before .before .before .pre in
+    let nth2 = c .before .before .before .nth2 in
+    let is-file = c .before .before .before .before .before .is-file in
+    let type-at = c .before .before .before .before .before .before .type-at in
+    let nth = c .before .before .before .before .before .before .before .nth in
+    let ds = chain (next (a .image .now)) (a .first) (a .d) in
+    let t : is-file .result ≡ true = not-false _ (c .before .before .before .before .if1 .left) in
+    let f = sym t ∙ is-file .ensures ∙ ap isFile (type-at .ensures) in
+    let x = entry-slot ds _ (a .k) (nth2 .ensures) in
+    let y = entry-slot ds _ (a .i) (nth .ensures) in
+    c .equal .ensures ∙ rw (c .before .before .field-at .ensures, c .before .field-at2 .ensures, x, y)
+    (names-compared (a .image .now) (slotAt ds (a .k)) (slotAt ds (a .i)) (p .3) (p .4) (p .5) (rw y at f))
 
 pub same-names-spec : {M : Type 1} → statement M
 same-names-spec =
     tie.close
     (tie.spec
     nth-requires
+    type-at-requires
+    is-file-requires
+    returns
     nth-requires-2
-    mul-a
-    mul-a-2
-    add-a
-    add-a-2
-    add-e
-    sub-named-at
-    part-named-at-start
-    part-named-at-end
-    named-at-requires
-    returns)
+    field-at-requires
+    field-at-requires-2
+    equal-requires
+    returns-2)

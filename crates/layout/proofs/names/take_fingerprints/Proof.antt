@@ -1,11 +1,12 @@
 use Prim.Native.Nat.{_≤_}
-use mathlib.Core.Path.{_≡_, _∙_}
+use mathlib.Core.Path.{_≡_, ap, _∙_}
 use native.Mathlib.Omega.{arith}
 use lib.ListN.{length, length-set}
 use Rattle.layout.specs.Limits.{maxSlots}
 use Rattle.layout.specs.Table.{next, chain}
+use Rattle.layout.specs.Walks.Names.{fingerprint}
 use Rattle.layout.specs.Walks.Slots.{Place}
-use Rattle.layout.proofs.Walks.Fingerprints.{Taken, taken-none, taken-more}
+use Rattle.layout.proofs.Walks.Fingerprints.{Taken, taken-none, taken-more, field-long}
 use Rattle.layout.proofs.Walks.Slots.{place-below, place-entry, place-then, place-first}
 use Rattle.layout.proofs.names.take_fingerprints.Statement.{statement}
 use Rattle.layout.proofs.names.take_fingerprints.Tie as tie
@@ -30,10 +31,17 @@ loop-holds c =
     let a = a′ in
     (place-first _ _ _ (omega arith), omega arith, p .1, taken-none (a .image .now) (chain (next (a .image .now)) (a .first) (a .d)) (a .prints .now))
 
-fingerprint-at-requires : tie.Need-fingerprint-at-requires Inv-loop μ-loop
-fingerprint-at-requires c κs =
+field-at-requires : tie.Need-field-at-requires Inv-loop μ-loop
+field-at-requires c κs =
     let h = place-below _ _ _ _ _ _ (c .before .before .before .before .pre .0 .blocks) (c .before .loop .inv .0) in
     omega arith
+
+fingerprint-requires : tie.Need-fingerprint-requires Inv-loop μ-loop
+fingerprint-requires c κs =
+    let l = c .before .before .loop in
+    let o = c .before .before .before .before .before in
+    let h = place-below _ _ _ _ _ _ (o .pre .0 .blocks) (l .inv .0) in
+    field-long (o .args .image .now) (l .b) (l .k) _ (c .field-at .ensures) (omega arith)
 
 mul-prints : tie.Need-mul-prints Inv-loop μ-loop
 mul-prints c = omega arith
@@ -46,7 +54,7 @@ add-k c = omega arith
 
 following-requires : tie.Need-following-requires Inv-loop μ-loop
 following-requires c κs =
-    let h = place-below _ _ _ _ _ _ (c .before .before .before .before .before .pre .0 .blocks) (c .before .before .loop .inv .0) in
+    let h = place-below _ _ _ _ _ _ (c .before .before .before .before .before .before .pre .0 .blocks) (c .before .before .before .loop .inv .0) in
     omega arith
 
 sub-left-2 : tie.Need-sub-left-2 Inv-loop μ-loop
@@ -57,13 +65,14 @@ loop-less c = omega arith
 
 loop-again : tie.Need-loop-again Inv-loop μ-loop
 loop-again c =
-    let l = c .before .before .before .loop in
-    let a = c .before .before .before .before .before .before .args in
-    let ds = chain (next (a .image .now)) (a .first) (a .d) in (
+    let l = c .before .before .before .before .loop in
+    let a = c .before .before .before .before .before .before .before .args in
+    let ds = chain (next (a .image .now)) (a .first) (a .d) in
+    let v = c .before .fingerprint .ensures ∙ ap fingerprint (c .before .before .field-at .ensures) in (
       place-then _ _ _ _ _ _ _ (l .inv .0) (omega arith) (c .following .ensures),
       omega arith,
-      length-set (l .prints) (l .k) (c .before .fingerprint-at .result) ∙ l .inv .2,
-      taken-more (a .image .now) ds (l .prints) (l .b) (l .k) _ (omega arith) (place-entry _ _ _ _ _ (l .inv .0)) (c .before .fingerprint-at .ensures) (l .inv .3),
+      length-set (l .prints) (l .k) (c .before .fingerprint .result) ∙ l .inv .2,
+      taken-more (a .image .now) ds (l .prints) (l .b) (l .k) _ (omega arith) (place-entry _ _ _ _ _ (l .inv .0)) v (l .inv .3),
     )
 
 same-length : tie.Need-same-length Inv-loop μ-loop
@@ -83,7 +92,8 @@ take-fingerprints-spec =
     mul-left
     sub-left
     loop-holds
-    fingerprint-at-requires
+    field-at-requires
+    fingerprint-requires
     mul-prints
     slice-write-prints
     add-k

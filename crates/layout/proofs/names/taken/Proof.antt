@@ -5,7 +5,7 @@ use lib.ListN.{getD}
 use Rattle.layout.specs.Table.{next, chain}
 use Rattle.layout.specs.Directory.{slotAt, nameOf}
 use Rattle.layout.specs.Walks.Slots.{nameIn}
-use Rattle.layout.proofs.Walks.Fingerprints.{nameIn-nearest}
+use Rattle.layout.proofs.Walks.Fingerprints.{good-slot, nameIn-nearest}
 use Rattle.layout.proofs.Walks.Slots.{nameIn-end, nameIn-here, nameIn-next}
 use Rattle.layout.proofs.names.taken.Statement.{statement}
 use Rattle.layout.proofs.names.taken.Tie as tie
@@ -56,7 +56,8 @@ loop-holds c =
 same-names-requires : tie.Need-same-names-requires Inv-loop μ-loop
 same-names-requires c κs =
     let p = c .before .before .before .before .before .before .pre in
-    (p .0 .directory, omega arith, omega arith)
+    let l = c .before .loop in
+    (p .0 .directory, omega arith, omega arith, good-slot (p .0) _ (p .1) (p .2), p .3, good-slot (p .0) (l .i) (omega arith) (omega arith))
 
 returns : tie.Need-returns Inv-loop μ-loop
 returns c =
