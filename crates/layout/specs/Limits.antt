@@ -1,5 +1,5 @@
 -- The limits of document 01, each named once.
-use Prim.Native.Nat.{ℕ}
+use Prim.Native.Nat.{ℕ, _*_}
 
 -- "An image is 512·n bytes, 3 ≤ n ≤ 4,096."
 abbrev pub minBlocks : ℕ
@@ -12,9 +12,9 @@ maxBlocks = 4096
 abbrev pub maxDirectory : ℕ
 maxDirectory = 64
 
--- "four in a block"
+-- "Slots are counted along the root chain, four in a block."
 abbrev pub maxSlots : ℕ
-maxSlots = 256
+maxSlots = 4 * maxDirectory
 
 -- "a name is 1 to 79 non-zero bytes"
 abbrev pub maxName : ℕ

@@ -34,14 +34,25 @@ fn fingerprint(field: &[u8]) -> usize
     16777216 * a + b
 }
 
+// The name's field of the slot at o of a directory's block.
+fn field_of<'a>(block: &'a [u8], o: usize) -> &'a [u8]
+    requires { ⌜ o + 128 ≤ length (now block) ⌝ }
+    ensures { λ r. ⌜ now r ≡ part (now (block .entry)) (o + 48) 80 ⌝ }
+{
+    let a = o + 48;
+    let e = a + NAME_FIELD;
+    &block[a..e]
+}
+
 // The name's field of slot k, which is in block b.
 fn field_at<'a>(image: &'a [u8], b: usize, k: usize) -> &'a [u8]
     requires { ⌜ 512 * b + 512 ≤ length (now image) ⌝ }
     ensures { λ r. ⌜ now r ≡ part (now (image .entry)) (entryAt b k + 48) 80 ⌝ }
 {
-    let a = 512 * b + 128 * (k % 4) + 48;
-    let e = a + NAME_FIELD;
-    &image[a..e]
+    let o = 128 * (k % 4);
+    let a = 512 * b;
+    let e = a + 512;
+    field_of(&image[a..e], o)
 }
 
 // The fingerprints of a directory's slots.

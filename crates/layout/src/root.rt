@@ -8,7 +8,7 @@ ghost use Rattle.layout.specs.Geometry.{blockCount};
 ghost use Rattle.layout.specs.Directory.{goodName, fileSlot, freeSlot, root};
 ghost use Rattle.layout.specs.Check.{check};
 ghost use Rattle.layout.specs.Looks.{nameRefusal};
-ghost use Rattle.layout.specs.Walks.Looks.{Opens};
+ghost use Rattle.layout.specs.Walks.Looks.{NoFile, Opens};
 ghost use Rattle.layout.specs.Walks.Slots.{Stands};
 use super::directory::Entry;
 use super::directory::number_at;
@@ -47,7 +47,7 @@ pub struct File {
 
 // No file.
 pub fn refused(number: u32) -> File
-    ensures { λ r. ⌜ r .number ≡ number ⌝ }
+    ensures { λ r. ⌜ (r .number ≡ number) × (NoFile (r .slot) (r .block) (r .first) (r .size) (r .blocks)) ⌝ }
 {
     File {
         number: number,

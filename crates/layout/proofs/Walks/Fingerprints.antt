@@ -1,10 +1,10 @@
 -- Fingerprints of names: the loops that take and compare them, and that different fingerprints mean different names.
-use Prim.Native.Nat.{ℕ, zero, suc, _+_, _-_, _*_, _/_, _≤_, _<_}
+use Prim.Native.Nat.{ℕ, zero, suc, _+_, _-_, _*_, _/_, _≤_, _<_, _%_}
 use mathlib.Core.Bool.{Bool, true, false, _&&_, false≢true}
 use mathlib.Core.List.{List}
 use mathlib.Core.Path.{_≡_, refl, sym, ap, _∙_}
 use mathlib.Core.Logic.{⊎-elim}
-use native.Mathlib.Nat.{add-zero, sub-zero, eq-or-lt-of-le}
+use native.Mathlib.Nat.{add-zero, sub-zero}
 use native.Mathlib.Omega.{arith}
 use lib.ListN.{length, getD, set}
 use lib.Seq.{getD-set-same, getD-set-other}
@@ -16,11 +16,11 @@ use Rattle.layout.specs.Check.{slotOk, fileOk}
 use Rattle.layout.specs.Walks.Shapes.{DirectoryAt}
 use Rattle.layout.specs.Walks.Slots.{entryAt, nameIn, slotsOk}
 use Rattle.layout.specs.Walks.Names.{sums, fingerprint, Fingerprinted, Nearest}
-use Rattle.layout.proofs.Laws.Bytes.{length-part}
+use Rattle.layout.proofs.Laws.Bytes.{length-part, part-part}
 use Rattle.layout.proofs.Laws.Lists.{every-range}
 use Rattle.layout.proofs.Laws.Names.{same-eq, same-refl}
 use Rattle.layout.proofs.Laws.Sound.{slotOk-split}
-use Rattle.layout.proofs.Laws.Tests.{and-split, is-false, true-not-false}
+use Rattle.layout.proofs.Laws.Tests.{below-more, and-split, is-false, true-not-false}
 use Rattle.layout.proofs.Walks.Slots.{nameIn-next}
 
 -- the sums of a field
@@ -39,13 +39,6 @@ pub fingerprint-start : (f : List ℕ) → fingerprint f ≡ sums f 0 20 0 0
 unfolding fingerprint
 fingerprint-start f = refl
 
--- what did not stand before i, and not at i, does not stand before i + 1
-pub not-yet : (ps : List ℕ) (p from i : ℕ) → ((j : ℕ) → from ≤ j → j < i → getD ps j 0 ≡ p → ⊥) → (getD ps i 0 ≡ p → ⊥)
-    → (j : ℕ) → from ≤ j → j < i + 1 → getD ps j 0 ≡ p → ⊥
-not-yet ps p from i f g j h l e =
-    let k : j ≤ i = omega arith in
-    ⊎-elim (λ q. g (ap (λ (x : ℕ). getD ps x 0) (sym q) ∙ e)) (λ z. f j h z e) (eq-or-lt-of-le k)
-
 -- the block of a slot lies in the image
 pub slot-inside : (s : List ℕ) (n first d b k : ℕ) → DirectoryAt s n first d → k < 4 * d → b ≡ getD (chain (next s) first d) (k / 4) 0
     → 512 * b + 512 ≤ length s
@@ -54,7 +47,13 @@ slot-inside s n first d b k at h e =
     let w = at .shape .whole in
     omega arith
 
--- a name's field is 80 bytes
+-- a name's field, in its block; it is 80 bytes
+pub field-in-block : (s : List ℕ) (b k x : ℕ) → 512 * b + 512 ≤ length s → x ≡ 512
+    → part (part s (512 * b) x) (128 * (k % 4) + 48) 80 ≡ part s (entryAt b k + 48) 80
+field-in-block s b k x h e =
+    let o : 512 * b + (128 * (k % 4) + 48) ≡ entryAt b k + 48 = omega arith in
+    rw e (part-part s (512 * b) 512 (128 * (k % 4) + 48) 80 h (omega arith)) ∙ ap (λ (j : ℕ). part s j 80) o
+
 pub field-long : (s : List ℕ) (b k : ℕ) (f : List ℕ) → f ≡ part s (entryAt b k + 48) 80 → 512 * b + 512 ≤ length s → length f ≡ 80
 field-long s b k f e h = ap length e ∙ length-part s (entryAt b k + 48) 80 (omega arith)
 
@@ -136,6 +135,6 @@ taken-none s ds ps i h g = absurd (omega arith)
 
 pub taken-more : (s ds ps : List ℕ) (b k v : ℕ) → k < length ps → entryAt b k ≡ slotAt ds k → v ≡ fingerprint (part s (entryAt b k + 48) 80) → Taken s ds ps k
     → Taken s ds (set ps k v) (k + 1)
-taken-more s ds ps b k v room e ev f i h g =
-    let m : i ≤ k = omega arith in
-    ⊎-elim (λ q. ap (λ (x : ℕ). getD (set ps k v) x 0) q ∙ getD-set-same ps k v 0 room ∙ ev ∙ rw (e, q)) (λ l. getD-set-other ps k i v 0 (λ z. absurd (omega arith)) ∙ f i h l) (eq-or-lt-of-le m)
+taken-more s ds ps b k v room e ev f =
+    below-more (λ i. getD (set ps k v) i 0 ≡ fingerprint (part s (slotAt ds i + 48) 80)) 1 k
+    (λ i h l. getD-set-other ps k i v 0 (λ z. absurd (omega arith)) ∙ f i h l) (getD-set-same ps k v 0 room ∙ ev ∙ rw e)

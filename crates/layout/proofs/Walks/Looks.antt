@@ -2,7 +2,7 @@
 use Prim.Native.Nat.{ℕ, _+_, _-_, _*_, _/_, _≤_, _<_, min}
 use mathlib.Core.Bool.{true, false}
 use mathlib.Core.List.{List, _++_}
-use mathlib.Core.Path.{_≡_, sym, ap, _∙_}
+use mathlib.Core.Path.{_≡_, refl, sym, ap, _∙_}
 use native.Mathlib.Omega.{arith}
 use lib.Dec.{leb}
 use lib.ListN.{length, getD, take, drop, length-drop, length-take}
@@ -14,7 +14,7 @@ use Rattle.layout.specs.Table.{next, chain, chainOk}
 use Rattle.layout.specs.Directory.{slotAt, firstBlock, sizeOf, blocksOf, goodName, fileSlot, root, fileBlocks, content}
 use Rattle.layout.specs.Check.{check}
 use Rattle.layout.specs.Looks.{nameRefusal, entryOf, lookupRefusal, lookup, readRefusal, read, extentOf}
-use Rattle.layout.specs.Walks.Looks.{Located, Opens}
+use Rattle.layout.specs.Walks.Looks.{Located, NoFile, Opens}
 use Rattle.layout.specs.Walks.Shapes.{ChainBelow}
 use Rattle.layout.specs.Walks.Slots.{Stands, entryAt}
 use Rattle.layout.proofs.Laws.Bytes.{part-part, lent}
@@ -27,9 +27,9 @@ use Rattle.layout.proofs.Walks.Shapes.{sound-chain}
 
 -- opening a file, in the order in which the code takes its tests
 module _ (s name : List ℕ) where
-  pub opens-refused : {refusal number slot b first size blocks : ℕ} → number ≡ refusal → (number ≡ 0 → ⊥)
+  pub opens-refused : {refusal number slot b first size blocks : ℕ} → number ≡ refusal → (number ≡ 0 → ⊥) → NoFile slot b first size blocks
       → Opens s name refusal number slot b first size blocks
-  opens-refused e h = record { weighed = e; file = λ z. absurd (h z) }
+  opens-refused e h z = record { weighed = e; file = λ q. absurd (h q); none = λ q. z }
 
   pub name-bad : false ≡ goodName name → 9 ≡ nameRefusal s name
   unfolding nameRefusal
@@ -57,6 +57,7 @@ module _ (s name : List ℕ) where
                 bytes = q ∙ ap (λ (e : ℕ). sizeOf s e) here;
                 count = t ∙ ap (λ (e : ℕ). blocksOf s e) here;
               };
+          none = λ z. absurd (z refl);
         }
 
   pub lookupRefusal-check : (r : ℕ) → r ≡ check s → (r ≡ 0 → ⊥) → r ≡ lookupRefusal s name
@@ -66,7 +67,7 @@ module _ (s name : List ℕ) where
   pub opens-checked : check s ≡ 0 → {number slot b first size blocks : ℕ} → Opens s name (nameRefusal s name) number slot b first size blocks
       → Opens s name (lookupRefusal s name) number slot b first size blocks
   unfolding lookupRefusal
-  opens-checked e o = record { weighed = rw e (o .weighed); file = o .file }
+  opens-checked e o = record { weighed = rw e (o .weighed); file = o .file; none = o .none }
 
 -- the file of an accepted name on a sound image, by the numbers found
 module _ {s name : List ℕ} {slot b first size blocks : ℕ} (l : Located s name slot b first size blocks) where

@@ -2,9 +2,8 @@
 use Prim.Native.Nat.{ℕ, zero, suc, _+_, _-_, _≤_, _<_}
 use mathlib.Core.Bool.{true, false, _&&_, and-false, false≢true}
 use mathlib.Core.List.{List, [], _∷_}
-use mathlib.Core.Logic.{⊎-elim}
 use mathlib.Core.Path.{_≡_, refl, sym, ap, _∙_}
-use native.Mathlib.Nat.{eq-or-lt-of-le, le-of-suc-le-suc, not-suc-le-zero, suc-ne-zero}
+use native.Mathlib.Nat.{le-of-suc-le-suc, not-suc-le-zero, suc-ne-zero}
 use native.Mathlib.Numerals.{add-one}
 use native.Mathlib.Omega.{arith}
 use lib.Dec.{eqb}
@@ -134,9 +133,3 @@ holds-bytes (x ∷ xs) (suc y ∷ ys) good bytes stop =
 pub holds-all : (f name : List ℕ) → goodName name ≡ true → ((j : ℕ) → j < length name → getD f j 0 ≡ getD name j 0) → getD f (length name) 0 ≡ 0
     → same (unpadded f) name ≡ true
 holds-all f name good bytes stop = rw (holds-bytes f name (goodName-split name good .2) bytes stop) (same-refl name)
-
--- what agrees from i on, and at i − 1
-pub agrees-more : (f name : List ℕ) (i : ℕ) → ((j : ℕ) → i ≤ j → j < length name → getD f j 0 ≡ getD name j 0) → getD f (i - 1) 0 ≡ getD name (i - 1) 0
-    → (j : ℕ) → i - 1 ≤ j → j < length name → getD f j 0 ≡ getD name j 0
-agrees-more f name i g e j h l =
-    ⊎-elim (λ q. ap (λ (x : ℕ). getD f x 0) (sym q) ∙ e ∙ ap (λ (x : ℕ). getD name x 0) q) (λ z. g j (omega arith) l) (eq-or-lt-of-le h)

@@ -17,7 +17,16 @@ pub record Located (s name : List ℕ) (slot block first size blocks : ℕ) : Ty
   pub bytes : size ≡ sizeOf s (entryOf s name)
   pub count : blocks ≡ blocksOf s (entryOf s name)
 
+-- "Every refusal returns its number and zeros"
+pub record NoFile (slot block first size blocks : ℕ) : Type 0 where
+  pub no-slot : slot ≡ 0
+  pub no-block : block ≡ 0
+  pub no-first : first ≡ 0
+  pub no-size : size ≡ 0
+  pub no-blocks : blocks ≡ 0
+
 -- what opening a file gives: the number of its refusal, and if that is 0, the file
 pub record Opens (s name : List ℕ) (refusal number slot block first size blocks : ℕ) : Type 0 where
   pub weighed : number ≡ refusal
   pub file : number ≡ 0 → Located s name slot block first size blocks
+  pub none : (number ≡ 0 → ⊥) → NoFile slot block first size blocks

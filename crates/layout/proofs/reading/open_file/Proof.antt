@@ -12,8 +12,8 @@ refused-requires c κs = search needs
 
 returns : tie.Need-returns
 returns c =
-    opens-refused _ _ (c .refused .ensures ∙ lookupRefusal-check _ _ _ (c .before .before .check .ensures) (c .before .if1 .taken))
-    (λ z. c .before .if1 .taken (sym (c .refused .ensures) ∙ z))
+    opens-refused _ _ (c .refused .ensures .0 ∙ lookupRefusal-check _ _ _ (c .before .before .check .ensures) (c .before .if1 .taken))
+    (λ z. c .before .if1 .taken (sym (c .refused .ensures .0) ∙ z)) (c .refused .ensures .1)
 
 open-file-requires : tie.Need-open-file-requires
 open-file-requires c κs = search needs

@@ -16,8 +16,8 @@ refused-requires c κs = search needs
 
 returns : tie.Need-returns
 returns c =
-    opens-refused _ _ (c .refused .ensures ∙ name-bad _ _ (sym (not-true _ (c .before .if1 .taken)) ∙ c .before .before .good-name .ensures))
-    (λ z. omega (arith, c .refused .ensures))
+    opens-refused _ _ (c .refused .ensures .0 ∙ name-bad _ _ (sym (not-true _ (c .before .if1 .taken)) ∙ c .before .before .good-name .ensures))
+    (λ z. omega (arith, c .refused .ensures .0)) (c .refused .ensures .1)
 
 find-file-requires : tie.Need-find-file-requires
 find-file-requires c κs =
@@ -30,8 +30,8 @@ refused-requires-2 c κs = search needs
 returns-2 : tie.Need-returns-2
 returns-2 c =
     let g = sym (not-false _ (c .before .before .before .if1 .left)) ∙ c .before .before .before .before .good-name .ensures in
-    opens-refused _ _ (c .refused2 .ensures ∙ name-none _ _ g (c .before .before .find-file .ensures) (c .before .if2 .taken))
-    (λ z. omega (arith, c .refused2 .ensures))
+    opens-refused _ _ (c .refused2 .ensures .0 ∙ name-none _ _ g (c .before .before .find-file .ensures) (c .before .if2 .taken))
+    (λ z. omega (arith, c .refused2 .ensures .0)) (c .refused2 .ensures .1)
 
 number-at-requires : tie.Need-number-at-requires
 number-at-requires c κs =
