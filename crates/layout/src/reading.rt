@@ -1,5 +1,5 @@
 // The calls that only look.
-ghost use Prim.Native.Nat.{_+_, _*_, _/_, _≤_, _<_, min};
+ghost use Prim.Native.Nat.{_+_, _*_, _/_, _≤_, _<_};
 ghost use mathlib.Core.Path.{_≡_};
 ghost use lib.ListN.{length};
 ghost use Rattle.layout.specs.Looks.{lookupRefusal, lookup, extentOf, lookInPlace, read};
@@ -42,16 +42,6 @@ pub fn lookup(image: &[u8], name: &[u8]) -> Found
     }
 }
 
-// The smaller of 512 and x.
-fn at_most_block(x: usize) -> usize
-    ensures { λ r. ⌜ r ≡ min 512 x ⌝ }
-{
-    if x < 512 {
-        return x;
-    }
-    512
-}
-
 // Where a part of the image begins, and how long it is.
 pub struct Extent {
     pub start: usize,
@@ -80,7 +70,7 @@ pub fn extent_in_place(image: &[u8], name: &[u8], index: usize) -> Extent
     let left = size - 512 * index;
     Extent {
         start: 512 * b,
-        size: at_most_block(left),
+        size: super::content::least(512, left),
     }
 }
 

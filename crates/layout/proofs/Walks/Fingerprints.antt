@@ -16,7 +16,7 @@ use Rattle.layout.specs.Check.{slotOk, fileOk}
 use Rattle.layout.specs.Walks.Shapes.{DirectoryAt}
 use Rattle.layout.specs.Walks.Slots.{entryAt, nameIn, slotsOk}
 use Rattle.layout.specs.Walks.Names.{sums, fingerprint, Fingerprinted, Nearest}
-use Rattle.layout.proofs.Laws.Bytes.{length-part, part-part}
+use Rattle.layout.proofs.Laws.Bytes.{length-part, part-in-block}
 use Rattle.layout.proofs.Laws.Lists.{every-range}
 use Rattle.layout.proofs.Laws.Names.{same-eq, same-refl}
 use Rattle.layout.proofs.Laws.Sound.{slotOk-split}
@@ -52,7 +52,7 @@ pub field-in-block : (s : List ℕ) (b k x : ℕ) → 512 * b + 512 ≤ length s
     → part (part s (512 * b) x) (128 * (k % 4) + 48) 80 ≡ part s (entryAt b k + 48) 80
 field-in-block s b k x h e =
     let o : 512 * b + (128 * (k % 4) + 48) ≡ entryAt b k + 48 = omega arith in
-    rw e (part-part s (512 * b) 512 (128 * (k % 4) + 48) 80 h (omega arith)) ∙ ap (λ (j : ℕ). part s j 80) o
+    part-in-block s b x (128 * (k % 4) + 48) 80 h e (omega arith) ∙ ap (λ (j : ℕ). part s j 80) o
 
 pub field-long : (s : List ℕ) (b k : ℕ) (f : List ℕ) → f ≡ part s (entryAt b k + 48) 80 → 512 * b + 512 ≤ length s → length f ≡ 80
 field-long s b k f e h = ap length e ∙ length-part s (entryAt b k + 48) 80 (omega arith)
