@@ -24,9 +24,8 @@ returns c =
     let put323 = c .before .before .before .before .before .before .put323 in
     let put322 = c .before .before .before .before .before .before .before .before .before .before .put322 in
     let put32 = c .before .before .before .before .before .before .before .before .before .before .before .before .before .before .put32 in
-    let a′ = c .before .before .before .before .before .before .before .before .before .before .before .before .before .before .before .before .before .args in
+    let a = c .before .before .before .before .before .before .before .before .before .before .before .before .before .before .before .before .before .args in
     let p = c .before .before .before .before .before .before .before .before .before .before .before .before .before .before .before .before .before .pre in
-    let a = a′ in
     rw (put324 .ensures, put323 .ensures, put322 .ensures, put32 .ensures)
     (numbers-put (a .part .now) (a .n .first) (a .n .second) (a .n .third) (a .n .fourth) (p))
 

@@ -45,9 +45,8 @@ returns c =
     let clear = c .before .before .clear in
     let copy = c .before .before .before .before .before .before .copy in
     let put-numbers = c .before .before .before .before .before .before .before .before .before .before .put-numbers in
-    let a′ = c .before .before .before .before .before .before .before .before .before .before .before .before .before .before .args in
+    let a = c .before .before .before .before .before .before .before .before .before .before .before .before .before .before .args in
     let p = c .before .before .before .before .before .before .before .before .before .before .before .before .before .before .pre in
-    let a = a′ in
     shown-written (a .part .now) _ (a .bytes .now) _ _ (p .1) (p .0) (put-numbers .ensures) (copy .ensures) (clear .ensures) (omega arith)
 
 pub put-shown-spec : {M : Type 1} → statement M

@@ -35,9 +35,8 @@ filled-numbers-requires : tie.Need-filled-numbers-requires
 filled-numbers-requires c κs =
     let read-into = c .before .before .before .read-into in
     let get32 = c .before .before .before .before .before .get32 in
-    let a′ = c .before .before .before .before .before .before .before .before .before .args in
+    let a = c .before .before .before .before .before .before .before .before .before .args in
     let p = c .before .before .before .before .before .before .before .before .before .pre in
-    let a = a′ in
     omega (
       arith,
       read-small (read-into .last .1 .1 .1 .0) _ _ _ _ (read-into .result) (read-into .ensures),
@@ -59,9 +58,8 @@ returns c =
     let filled-numbers = c .before .before .before .filled-numbers in
     let read-into = c .before .before .before .before .before .before .before .read-into in
     let get32 = c .before .before .before .before .before .before .before .before .before .get32 in
-    let a′ = c .before .before .before .before .before .before .before .before .before .before .before .before .before .args in
+    let a = c .before .before .before .before .before .before .before .before .before .before .before .before .before .args in
     let p = c .before .before .before .before .before .before .before .before .before .before .before .before .before .pre in
-    let a = a′ in
     let l = length-data (a .script .now) (a .at) (p .0) ∙ sym (get32 .ensures) in
     read-written (a .part .now) (read-into .last .1 .1 .1 .0) _ _ _ _ _ (get32 .result) (read-into .result) _ _ _ _ (read-into .ensures) l
     (p .1 ∙ rw (get32 .ensures)) (omega arith) (filled-numbers .ensures) (put-numbers .ensures)

@@ -52,9 +52,8 @@ returns c =
     let save-blocks = c .before .before .before .before .before .before .save-blocks in
     let put32 = c .before .before .before .before .before .before .before .before .before .before .put32 in
     let get32 = c .before .before .before .before .before .before .before .before .before .before .before .before .get32 in
-    let a′ = c .before .before .before .before .before .before .before .before .before .before .before .before .before .before .before .before .before .args in
+    let a = c .before .before .before .before .before .before .before .before .before .before .before .before .before .before .before .before .before .args in
     let p = c .before .before .before .before .before .before .before .before .before .before .before .before .before .before .before .before .before .pre in
-    let a = a′ in
     put322 .ensures ∙ rw (save-blocks .ensures, put32 .ensures)
     (record-made (a .image .now) (a .marks .now) (a .journal .now) (a .n) _ (a .size) (p .0 .0) (get32 .ensures) (p .0 .1) (omega (arith, p, get32 .ensures)))
 

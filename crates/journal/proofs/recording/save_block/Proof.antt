@@ -33,9 +33,8 @@ returns : tie.Need-returns
 returns c =
     let copy = c .before .before .copy in
     let put32 = c .before .before .before .before .before .before .put32 in
-    let a′ = c .before .before .before .before .before .before .before .before .before .before .args in
+    let a = c .before .before .before .before .before .before .before .before .before .before .args in
     let p = c .before .before .before .before .before .before .before .before .before .before .pre in
-    let a = a′ in
     let h = p in
     lent (put32 .last .0) 4 512 _ (a .block .now) (copy .ensures) (h .0)
     ∙ ap (λ (x : List ℕ). splice x 4 (a .block .now)) (put32 .ensures) ∙ piece-made (a .piece .now) (a .block .now) (a .b) (h .1) (h .0)

@@ -36,8 +36,7 @@ returns : tie.Need-returns
 returns c =
     let put32 = c .before .before .put32 in
     let clear = c .before .before .before .before .before .before .clear in
-    let a′ = c .before .before .before .before .before .before .before .before .before .args in
-    let a = a′ in
+    let a = c .before .before .before .before .before .before .before .before .before .args in
     put32 .ensures ∙ ap (λ (x : List ℕ). splice x 1 (bytes4 (a .at)))
     (lent-zeros (a .journal .now) (a .at) (a .size) (a .at + a .size - a .at) _ (clear .ensures) (omega arith) (omega arith))
 

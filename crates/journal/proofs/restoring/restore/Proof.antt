@@ -85,10 +85,8 @@ loop-again : tie.Need-loop-again Inv-loop μ-loop
 loop-again c =
     let copy = c .before .before .copy in
     let get32 = c .before .before .before .before .before .get32 in
-    let l′ = c .before .before .before .before .before .before .before .loop in
-    let a′ = c .before .before .before .before .before .before .before .before .before .before .args in
-    let a = a′ in
-    let l = l′ in
+    let l = c .before .before .before .before .before .before .before .loop in
+    let a = c .before .before .before .before .before .before .before .before .before .before .args in
     let g = get32 .ensures in
     let h = restore-below _ _ _ _ _ _ _ (l .inv) (omega arith) in
     let b = get32 .result in

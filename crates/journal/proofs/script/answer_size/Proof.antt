@@ -23,9 +23,9 @@ add-result c = search needs
 
 returns : tie.Need-returns
 returns c =
-    let a′ = c .before .before .before .before .args in
+    let a = c .before .before .before .before .args in
     let p = c .before .before .before .before .pre in
-    let a = a′ in ap (λ (x : ℕ). 16 + x) (c .get32 .ensures) ∙ sym (size-read (a .script .now) (a .at) (p) (c .before .if1 .taken))
+    ap (λ (x : ℕ). 16 + x) (c .get32 .ensures) ∙ sym (size-read (a .script .now) (a .at) (p) (c .before .if1 .taken))
 
 shared-slice-read-if2 : tie.Need-shared-slice-read-if2
 shared-slice-read-if2 c = search needs
@@ -36,8 +36,8 @@ returns-2 c = let a = c .before .before .before .before .before .args in sym (si
 returns-3 : tie.Need-returns-3
 returns-3 c =
     let if1 = c .before .before .if1 in
-    let a′ = c .before .before .before .before .before .args in
-    let a = a′ in sym (size-plain (a .script .now) (a .at) (ne-eqb _ _ (if1 .left)) (ne-eqb _ _ (c .if2 .left)))
+    let a = c .before .before .before .before .before .args in
+    sym (size-plain (a .script .now) (a .at) (ne-eqb _ _ (if1 .left)) (ne-eqb _ _ (c .if2 .left)))
 
 pub answer-size-spec : {M : Type 1} → statement M
 answer-size-spec =

@@ -46,8 +46,7 @@ returns : tie.Need-returns
 unfolding dataAt
 returns c =
     let get32 = c .before .before .get32 in
-    let a′ = c .before .before .before .before .args in
-    let a = a′ in
+    let a = c .before .before .before .before .args in
     let e : a .at + 33 + get32 .result + c .before .get322 .result - (a .at + 33 + get32 .result) ≡ dataLength (a .script .now) (a .at) = omega (arith, c .before .get322 .ensures) in
     rw (e, get32 .ensures)
 

@@ -28,8 +28,8 @@ shared-slice-read-result c = search needs
 
 returns-4 : tie.Need-returns-4
 returns-4 c =
-    let a′ = c .before .before .before .before .before .before .before .args in
-    let a = a′ in sym (item-last (a .script .now) (a .at) (omega arith) (c .before .if3 .left))
+    let a = c .before .before .before .before .before .before .before .args in
+    sym (item-last (a .script .now) (a .at) (omega arith) (c .before .if3 .left))
 
 pub item-ok-spec : {M : Type 1} → statement M
 item-ok-spec =

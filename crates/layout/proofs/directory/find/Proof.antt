@@ -30,11 +30,9 @@ holds-at-requires c κs =
 
 returns : tie.Need-returns Inv-loop μ-loop
 returns c =
-    let l′ = c .before .before .before .loop in
-    let a′ = c .before .before .before .before .before .before .args in
+    let l = c .before .before .before .loop in
+    let a = c .before .before .before .before .before .before .args in
     let p = c .before .before .before .before .before .before .pre in
-    let l = l′ in
-    let a = a′ in
     let bs = p .0 .blocks in
     stands-here _ _ (a .d) _ _ _ _ bs (l .inv .0)
     (fileSlot-from (a .image .now) _ (a .name .now) (a .d) (bs .size) ∙ l .inv .1 ∙ slotFrom-here (fileNamed (a .image .now) (a .name .now)) _ _ _
@@ -58,10 +56,8 @@ loop-less c = omega arith
 loop-again : tie.Need-loop-again Inv-loop μ-loop
 loop-again c =
     let holds-at = c .before .before .holds-at in
-    let l′ = c .before .before .before .before .loop in
-    let a′ = c .before .before .before .before .before .before .before .args in
-    let l = l′ in
-    let a = a′ in (
+    let l = c .before .before .before .before .loop in
+    let a = c .before .before .before .before .before .before .before .args in (
       place-then _ _ _ _ _ _ _ (l .inv .0) (omega arith) (c .following .ensures),
       l .inv .1 ∙ slotFrom-next (fileNamed (a .image .now) (a .name .now))
           _ _ _ (entryAt (l .b) (l .k)) (place-entry _ _ _ _ _ (l .inv .0)) (omega arith) (sym (c .before .if1 .left) ∙ holds-at .ensures),
@@ -69,10 +65,9 @@ loop-again c =
 
 returns-2 : tie.Need-returns-2 Inv-loop μ-loop
 returns-2 c =
-    let a′ = c .before .before .before .before .args in
+    let a = c .before .before .before .before .args in
     let p = c .before .before .before .before .pre in
     let l = c .before .loop in
-    let a = a′ in
     stands-none _ _ _ (fileSlot-from (a .image .now) _ (a .name .now) (a .d) (p .0 .blocks .size) ∙ l .inv .1 ∙ slotFrom-end
     (fileNamed (a .image .now) (a .name .now)) _ _ _ (omega arith))
 

@@ -32,9 +32,8 @@ loop-holds c =
 
 follow-slot-requires : tie.Need-follow-slot-requires Inv-loop μ-loop
 follow-slot-requires c κs =
-    let l′ = c .before .before .loop in
+    let l = c .before .before .loop in
     let p = c .before .before .before .before .before .pre in
-    let l = l′ in
     (record { shape = p .0 .shape; table = p .0 .table; marks = l .inv .0 }, place-below _ _ _ _ _ _ (p .1 .blocks) (l .inv .1))
 
 same-length : tie.Need-same-length Inv-loop μ-loop

@@ -26,9 +26,8 @@ sub-left c = omega arith
 
 loop-holds : tie.Need-loop-holds Inv-loop μ-loop
 loop-holds c =
-    let a′ = c .before .before .args in
+    let a = c .before .before .args in
     let p = c .before .before .pre in
-    let a = a′ in
     (place-first _ _ _ (omega arith), omega arith, p .1, taken-none (a .image .now) (chain (next (a .image .now)) (a .first) (a .d)) (a .prints .now))
 
 field-at-requires : tie.Need-field-at-requires Inv-loop μ-loop

@@ -39,10 +39,8 @@ nearest-requires c κs = (omega arith, omega arith)
 
 loop-holds : tie.Need-loop-holds Inv-loop μ-loop
 loop-holds c =
-    let a′ = c .before .before .before .before .args in
-    let p′ = c .before .before .before .before .pre in
-    let a = a′ in
-    let p = p′ in
+    let a = c .before .before .before .before .args in
+    let p = c .before .before .before .before .pre in
     let r = c .nearest .ensures in (
       omega arith,
       r .high,
@@ -78,12 +76,9 @@ loop-less c = omega arith
 loop-again : tie.Need-loop-again Inv-loop μ-loop
 loop-again c =
     let same-names = c .before .before .same-names in
-    let l′ = c .before .before .before .before .loop in
-    let a′ = c .before .before .before .before .before .before .before .before .before .args in
-    let p′ = c .before .before .before .before .before .before .before .before .before .pre in
-    let l = l′ in
-    let a = a′ in
-    let p = p′ in
+    let l = c .before .before .before .before .loop in
+    let a = c .before .before .before .before .before .before .before .before .before .args in
+    let p = c .before .before .before .before .before .before .before .before .before .pre in
     let r = c .nearest2 .ensures in (
       omega arith,
       r .high,

@@ -39,8 +39,7 @@ returns-3 c =
     let is-file = c .before .before .before .before .is-file in
     let if1 = c .before .before .before .before .before .if1 in
     let good-name = c .before .before .before .before .before .before .good-name in
-    let a′ = c .before .before .before .before .before .before .before .before .before .args in
-    let a = a′ in
+    let a = c .before .before .before .before .before .before .before .before .before .args in
     let g : good-name .result ≡ true = not-false _ (if1 .left) in
     let f : is-file .result ≡ true = not-false _ (if2 .left) in
     refused-taken (a .image .now) (a .name .now) (a .kind) (sym g ∙ good-name .ensures) (sym f ∙ is-file .ensures) _ (find-file .ensures .slot) (c .if3 .taken)
@@ -57,8 +56,7 @@ returns-4 c =
     let is-file = c .before .before .before .before .before .before .before .is-file in
     let if1 = c .before .before .before .before .before .before .before .before .if1 in
     let good-name = c .before .before .before .before .before .before .before .before .before .good-name in
-    let a′ = c .before .before .before .before .before .before .before .before .before .before .before .before .args in
-    let a = a′ in
+    let a = c .before .before .before .before .before .before .before .before .before .before .before .before .args in
     let g : good-name .result ≡ true = not-false _ (if1 .left) in
     let f : is-file .result ≡ true = not-false _ (if2 .left) in
     refused-full (a .image .now) (a .name .now) (a .kind) (sym g ∙ good-name .ensures) (sym f ∙ is-file .ensures) _ (find-file .ensures .slot)
@@ -73,8 +71,7 @@ returns-5 c =
     let is-file = c .before .before .before .before .before .before .before .is-file in
     let if1 = c .before .before .before .before .before .before .before .before .if1 in
     let good-name = c .before .before .before .before .before .before .before .before .before .good-name in
-    let a′ = c .before .before .before .before .before .before .before .before .before .before .before .before .args in
-    let a = a′ in
+    let a = c .before .before .before .before .before .before .before .before .before .before .before .before .args in
     let g : good-name .result ≡ true = not-false _ (if1 .left) in
     let f : is-file .result ≡ true = not-false _ (if2 .left) in
     not-refused (a .image .now) (a .name .now) (a .kind) (sym g ∙ good-name .ensures) (sym f ∙ is-file .ensures) _ (find-file .ensures .slot)
