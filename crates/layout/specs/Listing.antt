@@ -25,11 +25,13 @@ decimal x = digits 10 x
 unfoldable pub printed : List ℕ → List ℕ
 printed name = map (λ x. cond (within 0x21 0x7E x) x 63) name
 
--- "Slot, size, blocks, name", with a space (32) between and a line feed (10) after
-unfoldable pub fileLine : List ℕ → ℕ → List ℕ
-fileLine s k =
-    let e = slotAt (root s) k in
+-- "Slot, size, blocks, name", with a space (32) between and a line feed (10) after: of the entry at e, as slot k; of slot k of the root
+unfoldable pub entryLine : List ℕ → ℕ → ℕ → List ℕ
+entryLine s e k =
     decimal k ++ (32 ∷ (decimal (sizeOf s e) ++ (32 ∷ (decimal (blocksOf s e) ++ (32 ∷ (printed (nameOf s e) ++ (10 ∷ [])))))))
+
+unfoldable pub fileLine : List ℕ → ℕ → List ℕ
+fileLine s k = entryLine s (slotAt (root s) k) k
 
 -- "blocks 16 used 6 free 10"
 unfoldable pub countLine : List ℕ → List ℕ

@@ -13,7 +13,7 @@ use Rattle.layout.specs.Refusals.{require}
 use Rattle.layout.specs.Geometry.{blockCount, rootBlock}
 use Rattle.layout.specs.Directory.{slotAt, typeOf, isFile, unpadded, sizeOf, blocksOf, nameOf, files, root}
 use Rattle.layout.specs.Check.{check}
-use Rattle.layout.specs.Listing.{printed, fileLine, countLine, refusedLine, listing}
+use Rattle.layout.specs.Listing.{printed, entryLine, fileLine, countLine, refusedLine, listing}
 use Rattle.lister.specs.Text.{maxListing}
 use Rattle.lister.proofs.Digits.{decimal-short}
 use Rattle.lister.proofs.Lines.{refused-listing, listed-sound, accepted-listing}
@@ -31,7 +31,7 @@ printed-short s e =
     simp length-map (omega (arith, unpadded-short (part s (e + 48) 80)))
 
 file-short : (s : List ℕ) (k : ℕ) → length (fileLine s k) ≤ 114
-unfolding fileLine
+unfolding entryLine fileLine
 file-short s k =
     let e = slotAt (root s) k in
     simp length-append (omega (arith, decimal-short k, decimal-short (sizeOf s e), decimal-short (blocksOf s e), printed-short s e))

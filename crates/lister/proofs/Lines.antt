@@ -14,8 +14,8 @@ use Rattle.layout.specs.Geometry.{blockCount, rootBlock}
 use Rattle.layout.specs.Table.{next, chain}
 use Rattle.layout.specs.Directory.{slotAt, typeOf, isFile, unpadded, nameOf, files, root}
 use Rattle.layout.specs.Check.{check}
-use Rattle.layout.specs.Listing.{decimal, printed, fileLine, countLine, refusedLine, listing}
-use Rattle.lister.specs.Text.{entryLine, slotLine, slotLines}
+use Rattle.layout.specs.Listing.{entryLine, decimal, printed, fileLine, countLine, refusedLine, listing}
+use Rattle.lister.specs.Text.{slotLine, slotLines}
 use Rattle.layout.specs.Walks.Slots.{Place, entryAt}
 use Rattle.layout.proofs.Laws.Tests.{require-zero, accept-refused}
 use Rattle.layout.proofs.Walks.Shapes.{sound-root, sound-directory}
@@ -40,7 +40,7 @@ module _ (f : List ℕ) (i : ℕ) where
 
 -- the lines of slots
 pub entry-line : (s : List ℕ) (e k : ℕ) → e ≡ slotAt (root s) k → entryLine s e k ≡ fileLine s k
-unfolding entryLine fileLine
+unfolding fileLine
 entry-line s e k q = rw q
 
 module _ (s : List ℕ) (e k ty : ℕ) (et : ty ≡ typeOf s e) where

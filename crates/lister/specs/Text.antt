@@ -1,13 +1,13 @@
 -- Code-facing definitions of the lister, that private contracts cite. The listing itself is Rattle.layout.specs.Listing.
 use Prim.Native.Nat.{ℕ, _+_, _*_}
 use mathlib.Core.Path.{_≡_}
-use mathlib.Core.List.{List, [], _∷_, _++_}
+use mathlib.Core.List.{List, []}
 use mathlib.Core.Bool.{cond}
 use lib.ListN.{length}
 use Rattle.layout.specs.Lists.{range, select, joined}
 use Rattle.layout.specs.Bytes.{splice}
-use Rattle.layout.specs.Directory.{slotAt, typeOf, sizeOf, blocksOf, nameOf, isFile, root}
-use Rattle.layout.specs.Listing.{decimal, printed, fileLine}
+use Rattle.layout.specs.Directory.{slotAt, typeOf, isFile, root}
+use Rattle.layout.specs.Listing.{entryLine, fileLine}
 
 -- what writing bytes at an offset leaves: the buffer, and the offset after them
 pub record Written (before : List ℕ) (at : ℕ) (bytes after : List ℕ) (stop : ℕ) : Type 0 where
@@ -18,11 +18,7 @@ pub record Written (before : List ℕ) (at : ℕ) (bytes after : List ℕ) (stop
 abbrev pub maxListing : ℕ
 maxListing = 50 + 114 * 254
 
--- the line of the entry at e, as slot k; what is written for a slot, nothing if it is no file; and for the slots k to k + j − 1 of the root
-unfoldable pub entryLine : List ℕ → ℕ → ℕ → List ℕ
-entryLine s e k =
-    decimal k ++ (32 ∷ (decimal (sizeOf s e) ++ (32 ∷ (decimal (blocksOf s e) ++ (32 ∷ (printed (nameOf s e) ++ (10 ∷ [])))))))
-
+-- what is written for a slot whose entry is at e, nothing if it is no file; and for the slots k to k + j − 1 of the root
 unfoldable pub slotLine : List ℕ → ℕ → ℕ → List ℕ
 slotLine s e k = cond (isFile (typeOf s e)) (entryLine s e k) []
 

@@ -13,12 +13,12 @@ use Rattle.volume.specs.Change.{refusal, after, named, slotGiven}
 use Rattle.journal.specs.Journal.{used, started, startRefusal, copies, recordOk, recordsFrom, records, wellFormed, ascending, recordBytes, added, lastRecord, restored, undoneImage, undoneJournal}
 use Rattle.journal.specs.Run.{recordOf, changeRefusal, afterChange, changeAnswer, undoRefusal, afterUndo, undoAnswer, lookAnswer, step, answer, run, answers}
 use Rattle.layout.specs.Looks.{nameRefusal, entryOf, lookupRefusal, lookup, readRefusal, read, extentOf, lookInPlace}
-use Rattle.layout.specs.Listing.{decimal, printed, fileLine, countLine, refusedLine, listing}
+use Rattle.layout.specs.Listing.{decimal, printed, entryLine, fileLine, countLine, refusedLine, listing}
 
 unfoldable pub rules : Unit {0}
 unfolding be32 bytes4 bytes8 zeros splice inVolume next setNext chain endsAfter chainOk freeBlocks occupied slotAt goodName nameOf nameOk files fileSlot freeSlot root fileBlocks content
     stage1 stage2 stage3 directoryOk stage4 attributesOk fileOk slotOk entriesOk stage5 fileChains chains owned tableOk stage6 stage7 check
-    nameRefusal entryOf lookupRefusal lookup readRefusal read extentOf lookInPlace decimal printed fileLine countLine refusedLine listing
+    nameRefusal entryOf lookupRefusal lookup readRefusal read extentOf lookInPlace decimal printed entryLine fileLine countLine refusedLine listing
     entryBytes directoryMade setOccupied linked taken grown freed released entriesNamed formatRefusal firstEntries headerBytes formatImage formatted
     createRefusal createSlot createImage createNamed newSize needed newBlocks put written setFile writeAt changedEntries writeNamed writeAtRefusal writeRefusal
     deleteAt deleteNamed refusal after named slotGiven used started startRefusal copies recordOk recordsFrom records wellFormed ascending recordBytes added

@@ -5,8 +5,7 @@ use Prim.Native.Nat.{ℕ, _+_, _-_, _*_, _%_}
 use native.Mathlib.Omega.{arith}
 use Rattle.layout.specs.Bytes.{part}
 use Rattle.layout.specs.Directory.{unpadded}
-use Rattle.layout.specs.Listing.{decimal, printed}
-use Rattle.lister.specs.Text.{entryLine}
+use Rattle.layout.specs.Listing.{entryLine, decimal, printed}
 use Rattle.lister.proofs.Pieces.{Pending, begin, room, more, last}
 use Rattle.lister.proofs.Lines.{afterSlot, afterSize, entry-pieces}
 use borrow.Author.Needs.{needs}
