@@ -5,10 +5,11 @@ ghost use lib.ListN.{length};
 ghost use Rattle.layout.specs.Refusals.{accept};
 ghost use Rattle.layout.specs.Check.{check};
 ghost use Rattle.layout.specs.Looks.{LookupAnswer, ReadAnswer, Extent, lookup, read, extentOf};
-ghost use Rattle.volume.specs.Change.{create, write, delete};
+ghost use Rattle.volume.specs.Change.{Change as ChangeAsked, create, write, delete, slotGiven};
 ghost use Rattle.volume.specs.Format.{formatRefusal, formatted};
 ghost use Rattle.journal.specs.Journal.{started, startRefusal};
-ghost use Rattle.journal.specs.Run.{state, changed, undone, changeAnswer, afterChange, undoAnswer, afterUndo};
+ghost use Rattle.journal.specs.Answers.{changedAnswer};
+ghost use Rattle.journal.specs.Run.{State, state, changed, undone, changeAnswer, afterChange, undoAnswer, afterUndo};
 
 // Sixteen bytes by value: C cannot pass an array so.
 #[repr(C)]
@@ -128,6 +129,40 @@ pub extern "C" fn bulgefs_journal_start(journal: &mut [u8]) -> u32
     journal::start::start(journal)
 }
 
+// The answer of a change, by its fields.
+fn with_slot(c: journal::calls::Changed) -> Created
+    ensures { λ r. ⌜ changed (r .number) (r .slot) (r .size) ≡ changedAnswer c ⌝ }
+{
+    match c {
+        journal::calls::Changed::Done { slot, size } => Created {
+            number: 0,
+            slot: slot,
+            size: size,
+        },
+        journal::calls::Changed::Refused(number) => Created {
+            number: number,
+            slot: 0,
+            size: 0,
+        },
+    }
+}
+
+// The same of a change that gives no slot.
+fn slotless(c: journal::calls::Changed) -> Changed
+    ensures { λ r. ⌜ ((p : State) (x : ChangeAsked) → slotGiven (p .image) x ≡ 0 → changedAnswer c ≡ changeAnswer p x → changed (r .number) 0 (r .size) ≡ changeAnswer p x) ⌝ }
+{
+    match c {
+        journal::calls::Changed::Done { slot: _, size } => Changed {
+            number: 0,
+            size: size,
+        },
+        journal::calls::Changed::Refused(number) => Changed {
+            number: number,
+            size: 0,
+        },
+    }
+}
+
 #[no_mangle]
 pub extern "C" fn bulgefs_create(
     image: &mut [u8],
@@ -143,7 +178,7 @@ pub extern "C" fn bulgefs_create(
     ensures answer { λ r. ⌜ changed (r .number) (r .slot) (r .size) ≡ changeAnswer (state (now (image .entry)) (now (journal .entry))) (create (now (name .entry)) kind user group permissions flags time) ⌝ }
     ensures state { λ _. ⌜ state (now (image .exit)) (now (journal .exit)) ≡ afterChange (state (now (image .entry)) (now (journal .entry))) (create (now (name .entry)) kind user group permissions flags time) ⌝ }
 {
-    match journal::calls::create(
+    with_slot(journal::calls::create(
         image,
         journal,
         name,
@@ -153,18 +188,7 @@ pub extern "C" fn bulgefs_create(
         permissions,
         flags,
         time,
-    ) {
-        journal::calls::Changed::Done { slot, size } => Created {
-            number: 0,
-            slot: slot,
-            size: size,
-        },
-        journal::calls::Changed::Refused(number) => Created {
-            number: number,
-            slot: 0,
-            size: 0,
-        },
-    }
+    ))
 }
 
 #[no_mangle]
@@ -179,16 +203,7 @@ pub extern "C" fn bulgefs_write(
     ensures answer { λ r. ⌜ changed (r .number) 0 (r .size) ≡ changeAnswer (state (now (image .entry)) (now (journal .entry))) (write (now (name .entry)) offset (now (bytes .entry)) time) ⌝ }
     ensures state { λ _. ⌜ state (now (image .exit)) (now (journal .exit)) ≡ afterChange (state (now (image .entry)) (now (journal .entry))) (write (now (name .entry)) offset (now (bytes .entry)) time) ⌝ }
 {
-    match journal::calls::write(image, journal, name, offset as usize, bytes, time) {
-        journal::calls::Changed::Done { slot: _, size } => Changed {
-            number: 0,
-            size: size,
-        },
-        journal::calls::Changed::Refused(number) => Changed {
-            number: number,
-            size: 0,
-        },
-    }
+    slotless(journal::calls::write(image, journal, name, offset as usize, bytes, time))
 }
 
 #[no_mangle]
@@ -196,16 +211,7 @@ pub extern "C" fn bulgefs_delete(image: &mut [u8], journal: &mut [u8], name: &[u
     ensures answer { λ r. ⌜ changed (r .number) 0 (r .size) ≡ changeAnswer (state (now (image .entry)) (now (journal .entry))) (delete (now (name .entry))) ⌝ }
     ensures state { λ _. ⌜ state (now (image .exit)) (now (journal .exit)) ≡ afterChange (state (now (image .entry)) (now (journal .entry))) (delete (now (name .entry))) ⌝ }
 {
-    match journal::calls::delete(image, journal, name) {
-        journal::calls::Changed::Done { slot: _, size } => Changed {
-            number: 0,
-            size: size,
-        },
-        journal::calls::Changed::Refused(number) => Changed {
-            number: number,
-            size: 0,
-        },
-    }
+    slotless(journal::calls::delete(image, journal, name))
 }
 
 #[no_mangle]

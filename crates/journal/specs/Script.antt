@@ -11,7 +11,7 @@ use Rattle.layout.specs.Lists.{within, every, joined}
 use Rattle.layout.specs.Refusals.{require, accept}
 use Rattle.layout.specs.Bytes.{be32, bytes4, zeros, part, splice}
 use Rattle.layout.specs.Check.{check}
-use Rattle.volume.specs.Change.{create, write, delete}
+use Rattle.volume.specs.Change.{Change, create, write, delete}
 use Rattle.journal.specs.Journal.{recordsFrom, started, startRefusal}
 use Rattle.journal.specs.Run.{checkImage, findFile, readFile, lookAt, Call, change, undo, look, Answer, changed, undone, checked, found, filled, shown, State, run, answers, state}
 use Rattle.journal.specs.Replay.{replayed, standing, replayAnswers}
@@ -45,19 +45,22 @@ Fits s at = at + itemSize s at ≤ length s
 
 -- Ops: 1 check, 2 look up, 3 read (the data is its buffer as it is before the call), 4 look in place (the offset is its index), 5 create, 6 write,
 -- 7 delete, 8 undo.
+unfoldable pub changeAt : List ℕ → ℕ → Change
+changeAt s at =
+    let name = nameAt s at in
+    let time = be64 s (at + 17) in
+    cond (eqb (opAt s at) 5) (create name (getD s (at + 1) 0) (getD s (at + 2) 0) (getD s (at + 3) 0) (getD s (at + 4) 0) (be32 s (at + 5)) time)
+    (cond (eqb (opAt s at) 6) (write name (be64 s (at + 9)) (dataAt s at) time) (delete name))
+
 unfoldable pub callAt : List ℕ → ℕ → Call
 callAt s at =
     let name = nameAt s at in
     let offset = be64 s (at + 9) in
-    let time = be64 s (at + 17) in
     cond (eqb (opAt s at) 1) (look checkImage)
     (cond (eqb (opAt s at) 2) (look (findFile name))
     (cond (eqb (opAt s at) 3) (look (readFile name offset (dataAt s at)))
     (cond (eqb (opAt s at) 4) (look (lookAt name offset))
-    (cond (eqb (opAt s at) 5)
-    (change (create name (getD s (at + 1) 0) (getD s (at + 2) 0) (getD s (at + 3) 0) (getD s (at + 4) 0) (be32 s (at + 5)) time))
-    (cond (eqb (opAt s at) 6) (change (write name offset (dataAt s at) time))
-    (cond (eqb (opAt s at) 7) (change (delete name)) undo))))))
+    (cond (eqb (opAt s at) 8) undo (change (changeAt s at))))))
 
 -- an item that is not cut off, with a known op
 unfoldable pub itemOk : List ℕ → ℕ → Bool

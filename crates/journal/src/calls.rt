@@ -1,9 +1,11 @@
 // The calls that are lent a journal. Each checks the image and scans the journal once.
 ghost use mathlib.Core.Path.{_≡_};
 ghost use Rattle.volume.specs.Change.{create, write, delete};
+ghost use Rattle.volume.specs.Asked.{asked};
 ghost use Rattle.journal.specs.Run.{afterUndo, undoAnswer, afterChange, changeAnswer, state};
 ghost use Rattle.journal.specs.Walks.Changes.{Inspects};
 ghost use Rattle.journal.specs.Answers.{changedAnswer, undoneAnswer};
+use volume::change::Change;
 
 // What undo gives: the length of the record taken back, or the number of the refusal.
 pub enum Undone {
@@ -65,6 +67,36 @@ pub fn undo(image: &mut [u8], journal: &mut [u8]) -> Undone
     Undone::Done(size)
 }
 
+// Any change: weighed, recorded, made.
+pub fn change(
+    image: &mut [u8],
+    journal: &mut [u8],
+    what: Change,
+    name: &[u8],
+    bytes: &[u8],
+) -> Changed
+    ensures answer { λ r. ⌜ changedAnswer r ≡ changeAnswer (state (now (image .entry)) (now (journal .entry))) (asked what (now (name .entry)) (now (bytes .entry))) ⌝ }
+    ensures state { λ _. ⌜ state (now (image .exit)) (now (journal .exit)) ≡ afterChange (state (now (image .entry)) (now (journal .entry))) (asked what (now (name .entry)) (now (bytes .entry))) ⌝ }
+{
+    let unready = inspect(image, journal).number;
+    if unready != 0 {
+        return Changed::Refused(unready);
+    }
+    let refusal = volume::change::refusal(image, what, name, bytes);
+    if refusal != 0 {
+        return Changed::Refused(refusal);
+    }
+    let size = super::naming::record_change(image, journal, what, name, bytes);
+    if size == 0 {
+        return Changed::Refused(15);
+    }
+    let slot = volume::change::make(image, what, name, bytes);
+    Changed::Done {
+        slot: slot,
+        size: size,
+    }
+}
+
 // Create: a new empty file, in the lowest free slot.
 pub fn create(
     image: &mut [u8],
@@ -80,23 +112,15 @@ pub fn create(
     ensures answer { λ r. ⌜ changedAnswer r ≡ changeAnswer (state (now (image .entry)) (now (journal .entry))) (create (now (name .entry)) kind user group permissions flags time) ⌝ }
     ensures state { λ _. ⌜ state (now (image .exit)) (now (journal .exit)) ≡ afterChange (state (now (image .entry)) (now (journal .entry))) (create (now (name .entry)) kind user group permissions flags time) ⌝ }
 {
-    let unready = inspect(image, journal).number;
-    if unready != 0 {
-        return Changed::Refused(unready);
-    }
-    let refusal = volume::create::create_refusal(image, name, kind);
-    if refusal != 0 {
-        return Changed::Refused(refusal);
-    }
-    let size = super::naming::record_create(image, journal);
-    if size == 0 {
-        return Changed::Refused(15);
-    }
-    let slot = volume::create::create(image, name, kind, user, group, permissions, flags, time);
-    Changed::Done {
-        slot: slot,
-        size: size,
-    }
+    let what = Change::Create {
+        kind: kind,
+        user: user,
+        group: group,
+        permissions: permissions,
+        flags: flags,
+        time: time,
+    };
+    change(image, journal, what, name, b"")
 }
 
 // Write: puts data at an offset of a file.
@@ -111,24 +135,11 @@ pub fn write(
     ensures answer { λ r. ⌜ changedAnswer r ≡ changeAnswer (state (now (image .entry)) (now (journal .entry))) (write (now (name .entry)) offset (now (bytes .entry)) time) ⌝ }
     ensures state { λ _. ⌜ state (now (image .exit)) (now (journal .exit)) ≡ afterChange (state (now (image .entry)) (now (journal .entry))) (write (now (name .entry)) offset (now (bytes .entry)) time) ⌝ }
 {
-    let unready = inspect(image, journal).number;
-    if unready != 0 {
-        return Changed::Refused(unready);
-    }
-    let count = bytes.len();
-    let refusal = volume::write::write_refusal(image, name, offset, count);
-    if refusal != 0 {
-        return Changed::Refused(refusal);
-    }
-    let size = super::naming::record_write(image, journal, name, offset, count);
-    if size == 0 {
-        return Changed::Refused(15);
-    }
-    volume::write::write(image, name, offset, bytes, time);
-    Changed::Done {
-        slot: 0,
-        size: size,
-    }
+    let what = Change::Write {
+        offset: offset,
+        time: time,
+    };
+    change(image, journal, what, name, bytes)
 }
 
 // Delete: frees a file's blocks and its slot.
@@ -136,21 +147,5 @@ pub fn delete(image: &mut [u8], journal: &mut [u8], name: &[u8]) -> Changed
     ensures answer { λ r. ⌜ changedAnswer r ≡ changeAnswer (state (now (image .entry)) (now (journal .entry))) (delete (now (name .entry))) ⌝ }
     ensures state { λ _. ⌜ state (now (image .exit)) (now (journal .exit)) ≡ afterChange (state (now (image .entry)) (now (journal .entry))) (delete (now (name .entry))) ⌝ }
 {
-    let unready = inspect(image, journal).number;
-    if unready != 0 {
-        return Changed::Refused(unready);
-    }
-    let refusal = volume::delete::delete_refusal(image, name);
-    if refusal != 0 {
-        return Changed::Refused(refusal);
-    }
-    let size = super::naming::record_delete(image, journal, name);
-    if size == 0 {
-        return Changed::Refused(15);
-    }
-    volume::delete::delete(image, name);
-    Changed::Done {
-        slot: 0,
-        size: size,
-    }
+    change(image, journal, Change::Delete, name, b"")
 }

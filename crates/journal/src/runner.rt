@@ -8,12 +8,14 @@ ghost use Rattle.layout.specs.Lists.{every, joined};
 ghost use Rattle.layout.specs.Bytes.{splice};
 ghost use Rattle.journal.specs.Run.{undo, answer, run, answers, state};
 ghost use Rattle.journal.specs.Answers.{changedAnswer, undoneAnswer};
-ghost use Rattle.journal.specs.Script.{numbers, opAt, callAt, encoded, itemOk, itemsFrom, callsOf, answersSize, leaves, outcome, replayOutcome, Fresh};
+ghost use Rattle.volume.specs.Asked.{asked};
+ghost use Rattle.journal.specs.Script.{numbers, Fits, nameAt, dataAt, opAt, changeAt, callAt, encoded, itemOk, itemsFrom, callsOf, answersSize, leaves, outcome, replayOutcome, Fresh};
 ghost use Rattle.journal.specs.Walks.Scripts.{Item, Made};
 use super::answers::Numbers;
 use super::script::data_of;
 use super::script::get64;
 use super::script::name_of;
+use volume::change::Change;
 
 // The numbers of a change's answer.
 fn changed_numbers(c: super::calls::Changed) -> Numbers
@@ -55,53 +57,30 @@ fn undone_numbers(u: super::calls::Undone) -> Numbers
     }
 }
 
-// Create as the item at `at` asks.
-fn create(script: &[u8], at: usize, image: &mut [u8], journal: &mut [u8], part: &mut [u8])
-    requires { ⌜ (Item (now script) at (now part)) × (opAt (now script) at ≡ 5) ⌝ }
-    ensures { λ _. ⌜ Made (state (now (image .entry)) (now (journal .entry))) (callAt (now (script .entry)) at) (now (image .exit)) (now (journal .exit)) (now (part .exit)) ⌝ }
+// The change that the item at `at` asks for.
+fn change_of(script: &[u8], at: usize) -> Change
+    requires { ⌜ Fits (now script) at ⌝ }
+    ensures { λ r. ⌜ asked r (nameAt (now (script .entry)) at) (dataAt (now (script .entry)) at) ≡ changeAt (now (script .entry)) at ⌝ }
 {
-    let kind = script[at + 1];
-    let user = script[at + 2];
-    let group = script[at + 3];
-    let permissions = script[at + 4];
-    let flags = layout::number::get32(script, at + 5);
+    let op = script[at];
     let time = get64(script, at + 17);
-    let name = name_of(script, at);
-    let c = super::calls::create(
-        image,
-        journal,
-        name,
-        kind,
-        user,
-        group,
-        permissions,
-        flags,
-        time,
-    );
-    super::answers::put_numbers(part, changed_numbers(c));
-}
-
-// Write as the item at `at` asks.
-fn write(script: &[u8], at: usize, image: &mut [u8], journal: &mut [u8], part: &mut [u8])
-    requires { ⌜ (Item (now script) at (now part)) × (opAt (now script) at ≡ 6) ⌝ }
-    ensures { λ _. ⌜ Made (state (now (image .entry)) (now (journal .entry))) (callAt (now (script .entry)) at) (now (image .exit)) (now (journal .exit)) (now (part .exit)) ⌝ }
-{
-    let offset = get64(script, at + 9) as usize;
-    let time = get64(script, at + 17);
-    let name = name_of(script, at);
-    let bytes = data_of(script, at);
-    let c = super::calls::write(image, journal, name, offset, bytes, time);
-    super::answers::put_numbers(part, changed_numbers(c));
-}
-
-// Delete as the item at `at` asks.
-fn delete(script: &[u8], at: usize, image: &mut [u8], journal: &mut [u8], part: &mut [u8])
-    requires { ⌜ (Item (now script) at (now part)) × (opAt (now script) at ≡ 7) ⌝ }
-    ensures { λ _. ⌜ Made (state (now (image .entry)) (now (journal .entry))) (callAt (now (script .entry)) at) (now (image .exit)) (now (journal .exit)) (now (part .exit)) ⌝ }
-{
-    let name = name_of(script, at);
-    let c = super::calls::delete(image, journal, name);
-    super::answers::put_numbers(part, changed_numbers(c));
+    if op == 5 {
+        return Change::Create {
+            kind: script[at + 1],
+            user: script[at + 2],
+            group: script[at + 3],
+            permissions: script[at + 4],
+            flags: layout::number::get32(script, at + 5),
+            time: time,
+        };
+    }
+    if op == 6 {
+        return Change::Write {
+            offset: get64(script, at + 9) as usize,
+            time: time,
+        };
+    }
+    Change::Delete
 }
 
 // Undo, with its answer.
@@ -135,22 +114,18 @@ fn look(script: &[u8], at: usize, image: &[u8], part: &mut [u8])
 
 // Make the change or undo of the item at `at`.
 fn change(script: &[u8], at: usize, image: &mut [u8], journal: &mut [u8], part: &mut [u8])
-    requires { ⌜ (Item (now script) at (now part)) × (5 ≤ opAt (now script) at) × (opAt (now script) at ≤ 8) ⌝ }
+    requires { ⌜ (Item (now script) at (now part)) × (5 ≤ opAt (now script) at) ⌝ }
     ensures { λ _. ⌜ Made (state (now (image .entry)) (now (journal .entry))) (callAt (now (script .entry)) at) (now (image .exit)) (now (journal .exit)) (now (part .exit)) ⌝ }
 {
-    if script[at] == 5 {
-        create(script, at, image, journal, part);
+    if script[at] == 8 {
+        undo(image, journal, part);
         return;
     }
-    if script[at] == 6 {
-        write(script, at, image, journal, part);
-        return;
-    }
-    if script[at] == 7 {
-        delete(script, at, image, journal, part);
-        return;
-    }
-    undo(image, journal, part);
+    let what = change_of(script, at);
+    let name = name_of(script, at);
+    let bytes = data_of(script, at);
+    let c = super::calls::change(image, journal, what, name, bytes);
+    super::answers::put_numbers(part, changed_numbers(c));
 }
 
 // Make the call of the item at `at`.

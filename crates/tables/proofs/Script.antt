@@ -6,7 +6,7 @@ use lib.ListN.{replicate, take}
 use Rattle.layout.specs.Lists.{every, same}
 use Rattle.journal.specs.Journal.{started}
 use Rattle.journal.specs.Run.{State}
-use Rattle.journal.specs.Script.{be64, nameAt, dataAt, callAt, itemOk, itemsFrom, callsFrom, encoded, answerSize, answersSize, scriptRefusal, given, outcome}
+use Rattle.journal.specs.Script.{be64, nameAt, dataAt, changeAt, callAt, itemOk, itemsFrom, callsFrom, encoded, answerSize, answersSize, scriptRefusal, given, outcome}
 use Rattle.tables.proofs.Rules.{rules}
 use Rattle.tables.proofs.Samples.{formattedAs, samples}
 
@@ -42,5 +42,5 @@ table =
     ∷ []
 
 pub example-holds : T (every (λ row. same (row .0) (row .1)) table)
-unfolding table header script told start samples be64 nameAt dataAt callAt itemOk itemsFrom callsFrom encoded answerSize answersSize scriptRefusal given outcome rules Rattle.journal.specs.Script.numbers
+unfolding table header script told start samples be64 nameAt dataAt changeAt callAt itemOk itemsFrom callsFrom encoded answerSize answersSize scriptRefusal given outcome rules Rattle.journal.specs.Script.numbers
 example-holds = tt

@@ -3,13 +3,15 @@ use Prim.Native.Nat.{ℕ, zero, suc, _+_, _≤_}
 use mathlib.Core.Path.{_≡_, refl, sym, ap, _∙_}
 use mathlib.Core.List.{List}
 use native.Mathlib.Omega.{arith}
-use lib.ListN.{length, getD}
-use Rattle.layout.specs.Bytes.{be32, splice}
-use Rattle.volume.specs.Change.{Change, create, write, delete}
+use lib.ListN.{length}
+use Rattle.layout.specs.Bytes.{splice}
+use Rattle.volume.specs.Change.{Change}
+use Rattle.volume.specs.Asked.{asked}
+use Rattle.volume.specs.declared.change.Change.{Change as Kind}
 use Rattle.journal.specs.Run.{Call, Answer, State, Look, change, undo, look, step, answer, afterChange, changeAnswer, afterUndo, undoAnswer, lookAnswer, state}
-use Rattle.journal.specs.Script.{be64, opAt, nameAt, dataAt, callAt, answerSize, numbers, encoded}
+use Rattle.journal.specs.Script.{opAt, nameAt, dataAt, changeAt, callAt, answerSize, numbers, encoded}
 use Rattle.journal.specs.Walks.Scripts.{Made}
-use Rattle.journal.proofs.Walks.Scripts.{is-create, is-write, is-delete, is-check, is-lookup, is-read, is-look-in-place}
+use Rattle.journal.proofs.Walks.Scripts.{is-change, is-check, is-lookup, is-read, is-look-in-place}
 use Rattle.journal.proofs.Walks.Encoding.{numbers-alone}
 
 module _ (p : State) (image journal part part′ : List ℕ) (n₁ n₂ n₃ n₄ : ℕ) (a : Answer)
@@ -32,18 +34,10 @@ pub look-told : (image journal part : List ℕ) (call : Call) (l : Look) → cal
 unfolding answer
 look-told image journal part call l e told = told ∙ sym (ap (λ (c : Call). encoded (answer (state image journal) c)) e)
 
--- the calls of an item by what the code has read of it
-module _ (s : List ℕ) (at : ℕ) (name : List ℕ) (named : name ≡ nameAt s at) where
-  pub create-call : (flags time : ℕ) → flags ≡ be32 s (at + 5) → time ≡ be64 s (at + 17) → opAt s at ≡ 5
-      → callAt s at ≡ change (create name (getD s (at + 1) 0) (getD s (at + 2) 0) (getD s (at + 3) 0) (getD s (at + 4) 0) flags time)
-  create-call flags time f g op = is-create s at op ∙ rw (named, f, g)
-
-  pub write-call : (offset time : ℕ) (bytes : List ℕ) → offset ≡ be64 s (at + 9) → time ≡ be64 s (at + 17) → bytes ≡ dataAt s at → opAt s at ≡ 6
-      → callAt s at ≡ change (write name offset bytes time)
-  write-call offset time bytes f g b op = is-write s at op ∙ rw (named, f, g, b)
-
-  pub delete-call : opAt s at ≡ 7 → callAt s at ≡ change (delete name)
-  delete-call op = is-delete s at op ∙ rw named
+-- the call of an item by what the code has read of it
+pub item-change : (s : List ℕ) (at : ℕ) (what : Kind) (name bytes : List ℕ) → name ≡ nameAt s at → bytes ≡ dataAt s at
+    → asked what (nameAt s at) (dataAt s at) ≡ changeAt s at → 5 ≤ opAt s at → (opAt s at ≡ 8 → ⊥) → callAt s at ≡ change (asked what name bytes)
+item-change s at what name bytes n b a h ne = is-change s at h ne ∙ ap change (sym a) ∙ rw (n, b)
 
 -- a call that only looks leaves image and journal
 one-of : {P : Type 0} (x : ℕ) → 1 ≤ x → x ≤ 4 → (x ≡ 1 → P) → (x ≡ 2 → P) → (x ≡ 3 → P) → (x ≡ 4 → P) → P

@@ -9,9 +9,8 @@ use lib.Dec.{leb, eqb}
 use lib.ListN.{length, getD}
 use Rattle.layout.specs.Lists.{every}
 use Rattle.layout.specs.Bytes.{be32}
-use Rattle.volume.specs.Change.{create, write, delete}
 use Rattle.journal.specs.Run.{Call, change, undo, look, checkImage, findFile, readFile, lookAt}
-use Rattle.journal.specs.Script.{be64, opAt, nameAt, dataAt, dataLength, itemSize, callAt, itemOk, itemsFrom, callsFrom, answerSize, answersSize}
+use Rattle.journal.specs.Script.{be64, opAt, nameAt, dataAt, dataLength, itemSize, changeAt, callAt, itemOk, itemsFrom, callsFrom, answerSize, answersSize}
 use Rattle.layout.proofs.Laws.Tests.{and-split}
 use Rattle.layout.proofs.Laws.Bytes.{length-part}
 use Rattle.journal.proofs.Laws.Walk.{records-none, records-more, records-enough}
@@ -94,18 +93,16 @@ module _ (s : List ℕ) (at : ℕ) where
   unfolding callAt
   is-look-in-place e = rw e
 
-  pub is-create : opAt s at ≡ 5
-      → callAt s at ≡ change (create (nameAt s at) (getD s (at + 1) 0) (getD s (at + 2) 0) (getD s (at + 3) 0) (getD s (at + 4) 0) (be32 s (at + 5)) (be64 s (at + 17)))
+  pub is-change : 5 ≤ opAt s at → (opAt s at ≡ 8 → ⊥) → callAt s at ≡ change (changeAt s at)
   unfolding callAt
-  is-create e = rw e
-
-  pub is-write : opAt s at ≡ 6 → callAt s at ≡ change (write (nameAt s at) (be64 s (at + 9)) (dataAt s at) (be64 s (at + 17)))
-  unfolding callAt
-  is-write e = rw e
-
-  pub is-delete : opAt s at ≡ 7 → callAt s at ≡ change (delete (nameAt s at))
-  unfolding callAt
-  is-delete e = rw e
+  is-change h ne =
+      rw (
+        ne-eqb (opAt s at) 1 (λ e. omega arith),
+        ne-eqb (opAt s at) 2 (λ e. omega arith),
+        ne-eqb (opAt s at) 3 (λ e. omega arith),
+        ne-eqb (opAt s at) 4 (λ e. omega arith),
+        ne-eqb (opAt s at) 8 ne,
+      )
 
   pub is-undo : opAt s at ≡ 8 → callAt s at ≡ undo
   unfolding callAt
@@ -133,10 +130,7 @@ module _ (s : List ℕ) (at : ℕ) where
   size-plain e f =
       rw (e, f)
       (either (eqb (opAt s at) 1) _ _ 16 refl
-      (either (eqb (opAt s at) 2) _ _ 16 refl
-      (either (eqb (opAt s at) 5) _ _ 16 refl
-      (either (eqb (opAt s at) 6) _ _ 16 refl
-      (either (eqb (opAt s at) 7) _ _ 16 refl refl)))))
+      (either (eqb (opAt s at) 2) _ _ 16 refl (either (eqb (opAt s at) 8) _ _ 16 refl refl)))
 
   pub size-low : opAt s at ≤ 2 → answerSize (callAt s at) ≡ 16
   size-low h = size-plain (ne-eqb (opAt s at) 3 (λ e. omega arith)) (ne-eqb (opAt s at) 4 (λ e. omega arith))

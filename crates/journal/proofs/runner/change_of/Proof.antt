@@ -1,0 +1,85 @@
+use borrow.Author.Tests.{ne-eqb}
+use Rattle.journal.specs.Script.{changeAt}
+use borrow.Author.Needs.{needs}
+use Rattle.journal.proofs.runner.change_of.Statement.{statement}
+use Rattle.journal.proofs.runner.change_of.Tie as tie
+
+shared-slice-read-op : tie.Need-shared-slice-read-op
+shared-slice-read-op c = search needs
+
+add-get64 : tie.Need-add-get64
+add-get64 c = search needs
+
+get64-requires : tie.Need-get64-requires
+get64-requires c κs = search needs
+
+add-t9 : tie.Need-add-t9
+add-t9 c = search needs
+
+shared-slice-read-t11 : tie.Need-shared-slice-read-t11
+shared-slice-read-t11 c = search needs
+
+add-t12 : tie.Need-add-t12
+add-t12 c = search needs
+
+shared-slice-read-t14 : tie.Need-shared-slice-read-t14
+shared-slice-read-t14 c = search needs
+
+add-t15 : tie.Need-add-t15
+add-t15 c = search needs
+
+shared-slice-read-t17 : tie.Need-shared-slice-read-t17
+shared-slice-read-t17 c = search needs
+
+add-t18 : tie.Need-add-t18
+add-t18 c = search needs
+
+shared-slice-read-t20 : tie.Need-shared-slice-read-t20
+shared-slice-read-t20 c = search needs
+
+add-get32 : tie.Need-add-get32
+add-get32 c = search needs
+
+get32-requires : tie.Need-get32-requires
+get32-requires c κs = search needs
+
+returns : tie.Need-returns
+unfolding changeAt
+returns c = rw (c .before .before .before .before .before .if1 .taken, c .before .before .before .before .before .before .get64 .ensures, c .get32 .ensures)
+
+add-get64-2 : tie.Need-add-get64-2
+add-get64-2 c = search needs
+
+get64-requires-2 : tie.Need-get64-requires-2
+get64-requires-2 c κs = search needs
+
+returns-2 : tie.Need-returns-2
+unfolding changeAt
+returns-2 c = rw (ne-eqb _ 5 (c .before .before .if1 .left), c .before .if2 .taken, c .before .before .before .get64 .ensures, c .get642 .ensures)
+
+returns-3 : tie.Need-returns-3
+unfolding changeAt
+returns-3 c = rw (ne-eqb _ 5 (c .before .if1 .left), ne-eqb _ 6 (c .if2 .left))
+
+pub change-of-spec : {M : Type 1} → statement M
+change-of-spec =
+    tie.close
+    (tie.spec
+    shared-slice-read-op
+    add-get64
+    get64-requires
+    add-t9
+    shared-slice-read-t11
+    add-t12
+    shared-slice-read-t14
+    add-t15
+    shared-slice-read-t17
+    add-t18
+    shared-slice-read-t20
+    add-get32
+    get32-requires
+    returns
+    add-get64-2
+    get64-requires-2
+    returns-2
+    returns-3)

@@ -1,0 +1,64 @@
+use mathlib.Core.Path.{refl}
+use Rattle.volume.specs.Change.{refusal, after, slotGiven}
+use borrow.Author.Needs.{needs}
+use Rattle.volume.proofs.change.make.Statement.{statement}
+use Rattle.volume.proofs.change.make.Tie as tie
+
+enum-known-what : tie.Need-enum-known-what
+enum-known-what c = search needs
+
+create-requires : tie.Need-create-requires
+unfolding refusal
+create-requires c κs = let p = c .before .before .before .before .before .before .before .pre in (p .0, rw (c .before .before .what .given .1) at (p .1))
+
+enum-known-what-2 : tie.Need-enum-known-what-2
+enum-known-what-2 c = search needs
+
+write-requires : tie.Need-write-requires
+unfolding refusal
+write-requires c κs = let p = c .before .before .before .before .before .before .before .pre in (p .0, rw (c .before .before .what2 .given .1) at (p .1))
+
+enum-told : tie.Need-enum-told
+enum-told c = search needs
+
+delete-requires : tie.Need-delete-requires
+unfolding refusal
+delete-requires c κs = let p = c .before .before .before .before .before .before .pre in (p .0, rw (c .before .enum-told .given .1) at (p .1))
+
+same-length : tie.Need-same-length
+same-length c = search needs
+
+returns : tie.Need-returns
+unfolding after slotGiven
+returns c = rw (c .before .before .before .before .before .what .given .1) (c .before .before .create .ensures)
+
+same-length-2 : tie.Need-same-length-2
+same-length-2 c = search needs
+
+returns-2 : tie.Need-returns-2
+unfolding after slotGiven
+returns-2 c = rw (c .before .before .before .before .before .what2 .given .1) (refl, c .before .before .write .ensures)
+
+same-length-3 : tie.Need-same-length-3
+same-length-3 c = search needs
+
+returns-3 : tie.Need-returns-3
+unfolding after slotGiven
+returns-3 c = rw (c .before .before .before .before .enum-told .given .1) (refl, c .before .before .delete .ensures)
+
+pub make-spec : {M : Type 1} → statement M
+make-spec =
+    tie.close
+    (tie.spec
+    enum-known-what
+    create-requires
+    enum-known-what-2
+    write-requires
+    enum-told
+    delete-requires
+    same-length
+    returns
+    same-length-2
+    returns-2
+    same-length-3
+    returns-3)

@@ -1,0 +1,48 @@
+use Rattle.volume.specs.Change.{refusal}
+use borrow.Author.Needs.{needs}
+use Rattle.volume.proofs.change.refusal.Statement.{statement}
+use Rattle.volume.proofs.change.refusal.Tie as tie
+
+enum-known-what : tie.Need-enum-known-what
+enum-known-what c = search needs
+
+create-refusal-requires : tie.Need-create-refusal-requires
+create-refusal-requires c κs = search needs
+
+enum-known-what-2 : tie.Need-enum-known-what-2
+enum-known-what-2 c = search needs
+
+write-refusal-requires : tie.Need-write-refusal-requires
+write-refusal-requires c κs = search needs
+
+enum-told : tie.Need-enum-told
+enum-told c = search needs
+
+delete-refusal-requires : tie.Need-delete-refusal-requires
+delete-refusal-requires c κs = search needs
+
+returns : tie.Need-returns
+unfolding refusal
+returns c = rw (c .before .before .what .given .1) (c .create-refusal .ensures)
+
+returns-2 : tie.Need-returns-2
+unfolding refusal
+returns-2 c = rw (c .before .before .what2 .given .1) (c .write-refusal .ensures)
+
+returns-3 : tie.Need-returns-3
+unfolding refusal
+returns-3 c = rw (c .before .enum-told .given .1) (c .delete-refusal .ensures)
+
+pub refusal-spec : {M : Type 1} → statement M
+refusal-spec =
+    tie.close
+    (tie.spec
+    enum-known-what
+    create-refusal-requires
+    enum-known-what-2
+    write-refusal-requires
+    enum-told
+    delete-refusal-requires
+    returns
+    returns-2
+    returns-3)
