@@ -115,8 +115,8 @@ abbrev pub leaves : ℕ → List ℕ → List ℕ → List ℕ → Outcome
 leaves number image journal out = record { number = number; state = state image journal; out = out }
 
 unfoldable pub given : State → List ℕ → List ℕ → State → List Answer → Outcome
-given p script out last told =
-    let done : Outcome = record { number = 0; state = last; out = splice out 0 (joined encoded told) } in
+given p script out last answered =
+    let done : Outcome = record { number = 0; state = last; out = splice out 0 (joined encoded answered) } in
     accept (scriptRefusal script (length out)) done (record { number = scriptRefusal script (length out); state = p; out = out })
 
 -- by the rules, call by call; and by the replay of the changes that stand, from a sound image and a journal just started
@@ -127,7 +127,7 @@ unfoldable pub replayOutcome : State → List ℕ → List ℕ → Outcome
 replayOutcome start script out =
     given start script out (replayed start (standing start [] (callsOf script))) (replayAnswers start [] (callsOf script))
 
-pub record Fresh (image journal : List ℕ) : Type 0 where
+pub record JustStarted (image journal : List ℕ) : Type 0 where
   pub sound : check image ≡ 0
   pub sized : startRefusal journal ≡ 0
   pub just : journal ≡ started (length journal)

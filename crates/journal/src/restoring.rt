@@ -3,7 +3,7 @@ ghost use mathlib.Core.Path.{_≡_};
 ghost use Prim.Native.Nat.{_+_, _*_, _≤_};
 ghost use lib.ListN.{length};
 ghost use Rattle.layout.specs.Limits.{maxJournal};
-ghost use Rattle.layout.specs.Lists.{range};
+ghost use Rattle.layout.specs.Lists.{interval};
 ghost use Rattle.layout.specs.Bytes.{be32, bytes4, zeros, splice};
 ghost use Rattle.journal.specs.Journal.{restored, undoneImage, undoneJournal, lastRecord};
 ghost use Rattle.journal.specs.Walks.Undoing.{Saved, Last};
@@ -11,7 +11,7 @@ ghost use Rattle.journal.specs.Walks.Undoing.{Saved, Last};
 // Puts back the bytes of the k blocks of the record at `at`, all below n.
 pub fn restore(image: &mut [u8], journal: &[u8], n: usize, at: usize, k: usize)
     requires { ⌜ Saved (now image) (now journal) n at k ⌝ }
-    ensures { λ _. ⌜ now (image .exit) ≡ restored (now (image .entry)) (now (journal .entry)) at (range 0 k) ⌝ }
+    ensures { λ _. ⌜ now (image .exit) ≡ restored (now (image .entry)) (now (journal .entry)) at (interval 0 k) ⌝ }
 {
     for i in 0..k {
         let p = at + 4 + 516 * i;

@@ -9,8 +9,8 @@ ghost use Rattle.layout.specs.Bytes.{splice};
 ghost use Rattle.journal.specs.Run.{undo, answer, run, answers, state};
 ghost use Rattle.journal.specs.Answers.{changedAnswer, undoneAnswer};
 ghost use Rattle.volume.specs.Asked.{asked};
-ghost use Rattle.journal.specs.Script.{numbers, Fits, nameAt, dataAt, opAt, changeAt, callAt, encoded, itemOk, itemsFrom, callsOf, answersSize, leaves, outcome, replayOutcome, Fresh};
-ghost use Rattle.journal.specs.Walks.Scripts.{Item, Made};
+ghost use Rattle.journal.specs.Script.{numbers, Fits, nameAt, dataAt, opAt, changeAt, callAt, encoded, itemOk, itemsFrom, callsOf, answersSize, leaves, outcome, replayOutcome, JustStarted};
+ghost use Rattle.journal.specs.Walks.Scripts.{Item, CallDone};
 use super::answers::Numbers;
 use super::script::data_of;
 use super::script::get64;
@@ -86,7 +86,7 @@ fn change_of(script: &[u8], at: usize) -> Change
 // Undo, with its answer.
 fn undo(image: &mut [u8], journal: &mut [u8], part: &mut [u8])
     requires { ⌜ length (now part) ≡ 16 ⌝ }
-    ensures { λ _. ⌜ Made (state (now (image .entry)) (now (journal .entry))) undo (now (image .exit)) (now (journal .exit)) (now (part .exit)) ⌝ }
+    ensures { λ _. ⌜ CallDone (state (now (image .entry)) (now (journal .entry))) undo (now (image .exit)) (now (journal .exit)) (now (part .exit)) ⌝ }
 {
     let u = super::calls::undo(image, journal);
     super::answers::put_numbers(part, undone_numbers(u));
@@ -115,7 +115,7 @@ fn look(script: &[u8], at: usize, image: &[u8], part: &mut [u8])
 // Make the change or undo of the item at `at`.
 fn change(script: &[u8], at: usize, image: &mut [u8], journal: &mut [u8], part: &mut [u8])
     requires { ⌜ (Item (now script) at (now part)) × (5 ≤ opAt (now script) at) ⌝ }
-    ensures { λ _. ⌜ Made (state (now (image .entry)) (now (journal .entry))) (callAt (now (script .entry)) at) (now (image .exit)) (now (journal .exit)) (now (part .exit)) ⌝ }
+    ensures { λ _. ⌜ CallDone (state (now (image .entry)) (now (journal .entry))) (callAt (now (script .entry)) at) (now (image .exit)) (now (journal .exit)) (now (part .exit)) ⌝ }
 {
     if script[at] == 8 {
         undo(image, journal, part);
@@ -131,7 +131,7 @@ fn change(script: &[u8], at: usize, image: &mut [u8], journal: &mut [u8], part: 
 // Make the call of the item at `at`.
 fn make(script: &[u8], at: usize, image: &mut [u8], journal: &mut [u8], part: &mut [u8])
     requires { ⌜ (Item (now script) at (now part)) × (1 ≤ opAt (now script) at) × (opAt (now script) at ≤ 8) ⌝ }
-    ensures { λ _. ⌜ Made (state (now (image .entry)) (now (journal .entry))) (callAt (now (script .entry)) at) (now (image .exit)) (now (journal .exit)) (now (part .exit)) ⌝ }
+    ensures { λ _. ⌜ CallDone (state (now (image .entry)) (now (journal .entry))) (callAt (now (script .entry)) at) (now (image .exit)) (now (journal .exit)) (now (part .exit)) ⌝ }
 {
     if script[at] <= 4 {
         look(script, at, image, part);
@@ -160,7 +160,7 @@ fn execute(script: &[u8], image: &mut [u8], journal: &mut [u8], out: &mut [u8])
 // a refused script changes nothing.
 pub fn run(script: &[u8], image: &mut [u8], journal: &mut [u8], out: &mut [u8]) -> u32
     ensures outcome { λ r. ⌜ leaves r (now (image .exit)) (now (journal .exit)) (now (out .exit)) ≡ outcome (state (now (image .entry)) (now (journal .entry))) (now (script .entry)) (now (out .entry)) ⌝ }
-    ensures replay { λ r. ⌜ (Fresh (now (image .entry)) (now (journal .entry)) → leaves r (now (image .exit)) (now (journal .exit)) (now (out .exit)) ≡ replayOutcome (state (now (image .entry)) (now (journal .entry))) (now (script .entry)) (now (out .entry))) ⌝ }
+    ensures replay { λ r. ⌜ (JustStarted (now (image .entry)) (now (journal .entry)) → leaves r (now (image .exit)) (now (journal .exit)) (now (out .exit)) ≡ replayOutcome (state (now (image .entry)) (now (journal .entry))) (now (script .entry)) (now (out .entry))) ⌝ }
 {
     if !super::script::well_formed(script) {
         return 1;

@@ -5,7 +5,7 @@ ghost use lib.ListN.{length};
 ghost use Rattle.layout.specs.Limits.{maxBlocks};
 ghost use Rattle.layout.specs.Lists.{every};
 ghost use Rattle.journal.specs.Journal.{recordOk, records, wellFormed};
-ghost use Rattle.journal.specs.Walks.Scanning.{Headed, Scans, headOk, numbersOk};
+ghost use Rattle.journal.specs.Walks.Scanning.{Headed, Scans, headOk, blocksRise};
 use layout::limits::MAX_JOURNAL;
 use layout::limits::MIN_JOURNAL;
 
@@ -16,9 +16,9 @@ pub struct Scanned {
 }
 
 // Whether the numbers of the k blocks of the record at `at` rise strictly and are below n.
-fn numbers_ok(journal: &[u8], n: usize, at: usize, k: usize) -> bool
+fn blocks_rise(journal: &[u8], n: usize, at: usize, k: usize) -> bool
     requires { ⌜ (at + 4 + 516 * k ≤ length (now journal)) × (n ≤ maxBlocks) ⌝ }
-    ensures { λ r. ⌜ r ≡ numbersOk (now (journal .entry)) n at 0 0 k ⌝ }
+    ensures { λ r. ⌜ r ≡ blocksRise (now (journal .entry)) n at 0 0 k ⌝ }
 {
     let mut low = 0;
     for i in 0..k {
@@ -53,7 +53,7 @@ fn record_ok(journal: &[u8], used: usize, n: usize, at: usize) -> bool
     if used < at + size {
         return false;
     }
-    numbers_ok(journal, n, at, k)
+    blocks_rise(journal, n, at, k)
 }
 
 // Goes through the records up to the used length.

@@ -5,7 +5,7 @@ use mathlib.Core.List.{List, [], _∷_, map}
 use mathlib.Core.Bool.{Bool, _&&_, _||_}
 use lib.ListN.{length, getD, take}
 use lib.Dec.{eqb}
-use Rattle.layout.specs.Lists.{within, iff, range, every, has, distinct, same, joined}
+use Rattle.layout.specs.Lists.{within, iff, interval, every, has, distinct, same, joined}
 use Rattle.layout.specs.Refusals.{require}
 use Rattle.layout.specs.Bytes.{be32}
 use Rattle.layout.specs.Limits.{minBlocks, maxBlocks, maxDirectory}
@@ -74,8 +74,8 @@ unfoldable pub tableOk : (ℕ → ℕ) → ℕ → List (ℕ × ℕ) → Bool
 tableOk v n cs =
     let t = tableBlocks n in
     let os = owned v cs in
-    every (λ c. chainOk v n (c .0) (c .1)) cs && (distinct eqb os && (every (λ b. eqb (v b) 1) (range 0 (t + 1))
-    && every (λ b. eqb (v b) 0 || has eqb b os) (range (t + 1) (128 * t - (t + 1)))))
+    every (λ c. chainOk v n (c .0) (c .1)) cs && (distinct eqb os && (every (λ b. eqb (v b) 1) (interval 0 (t + 1))
+    && every (λ b. eqb (v b) 0 || has eqb b os) (interval (t + 1) (128 * t - (t + 1)))))
 
 unfoldable pub stage6 : List ℕ → Bool
 stage6 s = tableOk (next s) (blockCount s) (chains s (root s))

@@ -5,7 +5,7 @@ use mathlib.Core.List.{List, [], _∷_, _++_}
 use mathlib.Core.Bool.{Bool, not, _&&_}
 use lib.ListN.{length, getD, take}
 use lib.Dec.{eqb}
-use Rattle.layout.specs.Lists.{within, range, every, select, lowest, same, joined}
+use Rattle.layout.specs.Lists.{within, interval, every, select, lowest, same, joined}
 use Rattle.layout.specs.Bytes.{be32, part, block, zeros}
 use Rattle.layout.specs.Limits.{maxName}
 use Rattle.layout.specs.Geometry.{blockCount, rootBlock}
@@ -17,7 +17,7 @@ slotAt ds k = 512 * getD ds (k / 4) 0 + 128 * (k % 4)
 
 -- slots 1 to 4d−2, each free or a file
 abbrev pub slots : List ℕ → List ℕ
-slots ds = range 1 (4 * length ds - 2)
+slots ds = interval 1 (4 * length ds - 2)
 
 -- the fields of an entry
 abbrev pub typeOf : List ℕ → ℕ → ℕ

@@ -26,7 +26,7 @@ pub fn equal(a: &[u8], b: &[u8]) -> bool
 }
 
 // Whether every byte is 0.
-pub fn zeros(s: &[u8]) -> bool
+pub fn all_zero(s: &[u8]) -> bool
     ensures { λ r. ⌜ r ≡ allZero (now (s .entry)) ⌝ }
 {
     for i in 0..s.len() {
@@ -61,7 +61,7 @@ pub fn name_ok(field: &[u8]) -> bool
     if MAX_NAME < k {
         return false;
     }
-    zeros(&field[k..])
+    all_zero(&field[k..])
 }
 
 // Whether a name has 1 to 79 bytes, none of them 0.

@@ -104,7 +104,7 @@ fn same_names(image: &[u8], n: usize, first: usize, d: usize, k: usize, i: usize
 }
 
 // Whether a slot after k is a file of the name of the file in slot k.
-fn taken(image: &[u8], n: usize, first: usize, d: usize, prints: &[usize], k: usize) -> bool
+fn name_in(image: &[u8], n: usize, first: usize, d: usize, prints: &[usize], k: usize) -> bool
     requires { ⌜ (Fingerprinted (now image) n first d (now prints)) × (1 ≤ k) × (k + 1 < 4 * d)
         × (isFile (typeOf (now image) (slotAt (chain (next (now image)) first d) k)) ≡ true) ⌝ }
     ensures { λ r. ⌜ r ≡ nameIn (now (image .entry)) (chain (next (now (image .entry))) first d)
@@ -140,7 +140,7 @@ fn alone(
     if !super::directory::is_file(super::directory::type_at(image, b, k)) {
         return true;
     }
-    !taken(image, n, first, d, prints, k)
+    !name_in(image, n, first, d, prints, k)
 }
 
 // Whether no two files of a directory have the same name, by the fingerprints of its slots.

@@ -6,7 +6,7 @@ use mathlib.Core.List.{List, _++_}
 use native.Mathlib.Omega.{arith}
 use lib.Dec.{leb}
 use lib.ListN.{length, length-append, length-take, length-map}
-use Rattle.layout.specs.Lists.{range, select, keep, joined}
+use Rattle.layout.specs.Lists.{interval, select, keep, joined}
 use Rattle.layout.specs.Bytes.{part, be32}
 use Rattle.layout.specs.Limits.{maxListed}
 use Rattle.layout.specs.Refusals.{require}
@@ -44,11 +44,11 @@ pub refused-short : (number : ℕ) → length (refusedLine number) ≤ 50
 unfolding refusedLine
 refused-short number = simp length-append (omega (arith, decimal-short number))
 
-lines-short : (s : List ℕ) (p : ℕ → Bool) (a k : ℕ) → length (joined (fileLine s) (select p (range a k))) ≤ 114 * k
+lines-short : (s : List ℕ) (p : ℕ → Bool) (a k : ℕ) → length (joined (fileLine s) (select p (interval a k))) ≤ 114 * k
 lines-short s p a zero = omega arith
 lines-short s p a (suc k) = go (p a) (lines-short s p (suc a) k)
   where
-    go : (t : Bool) → length (joined (fileLine s) (select p (range (suc a) k))) ≤ 114 * k → length (joined (fileLine s) (keep t a (select p (range (suc a) k)))) ≤ 114 * suc k
+    go : (t : Bool) → length (joined (fileLine s) (select p (interval (suc a) k))) ≤ 114 * k → length (joined (fileLine s) (keep t a (select p (interval (suc a) k)))) ≤ 114 * suc k
     go true h = simp length-append (omega (arith, file-short s a))
     go false h = omega arith
 

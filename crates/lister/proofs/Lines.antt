@@ -21,7 +21,7 @@ use Rattle.layout.proofs.Laws.Tests.{require-zero, accept-refused}
 use Rattle.layout.proofs.Walks.Shapes.{sound-root, sound-directory}
 use Rattle.layout.proofs.Walks.Names.{unpadded-end, unpadded-next}
 use Rattle.layout.proofs.Walks.Slots.{place-entry}
-use Rattle.layout.proofs.Laws.Lists.{range-next}
+use Rattle.layout.proofs.Laws.Lists.{interval-next}
 
 -- the name in a field, from byte i on
 module _ (f : List ℕ) (i : ℕ) where
@@ -63,7 +63,7 @@ module _ (s : List ℕ) (k j : ℕ) where
 
   pub lines-more : (e : ℕ) → e ≡ slotAt (root s) k → 0 < j → slotLines s k j ≡ slotLine s e k ++ slotLines s (k + 1) (j - 1)
   unfolding slotLines slotLine
-  lines-more e q h = rw (range-next k j h, entry-line s e k q, q) (lines-keep (isFile (typeOf s (slotAt (root s) k))) _)
+  lines-more e q h = rw (interval-next k j h, entry-line s e k q, q) (lines-keep (isFile (typeOf s (slotAt (root s) k))) _)
 
   pub lines-turn : (first d b : ℕ) → chain (next s) first d ≡ root s → Place (chain (next s) first d) d b k j → 0 < j → slotLines s k j ≡ slotLine s (entryAt b k) k ++ slotLines s (k + 1) (j - 1)
   lines-turn first d b e p h = lines-more (entryAt b k) (place-entry (chain (next s) first d) d b k j p ∙ ap (λ (ds : List ℕ). slotAt ds k) e) h

@@ -5,7 +5,7 @@ use mathlib.Core.List.{List, [], _++_}
 use native.Mathlib.Omega.{arith}
 use lib.ListN.{length, length-append}
 use Rattle.layout.specs.Bytes.{splice}
-use Rattle.lister.specs.Text.{Written}
+use Rattle.lister.specs.Text.{TextPut}
 use Rattle.layout.proofs.Laws.Bytes.{length-splice, splice-append, splice-nil}
 
 -- Of a text that goes over `before` at `at`, the rest is still to be written, at p: the buffer is now `after`.
@@ -22,7 +22,7 @@ module _ {s : List ℕ} {at : ℕ} {w t : List ℕ} {p : ℕ} {r : List ℕ} (l 
   pub room : (x y : List ℕ) → r ≡ x ++ y → p + length x ≤ length t
   room x y e = omega (arith, l .fits, simp length-append at (ap length e))
 
-  pub more : {x t′ : List ℕ} {p′ : ℕ} → Written t p x t′ p′ → (y : List ℕ) → r ≡ x ++ y → Pending s at w t′ p′ y
+  pub more : {x t′ : List ℕ} {p′ : ℕ} → TextPut t p x t′ p′ → (y : List ℕ) → r ≡ x ++ y → Pending s at w t′ p′ y
   more {x} {t′} {p′} h y e =
       let n : length r ≡ length x + length y = simp length-append at (ap length e) in
       let f : p + length x + length y ≤ length t = omega (arith, l .fits) in
@@ -34,12 +34,12 @@ module _ {s : List ℕ} {at : ℕ} {w t : List ℕ} {p : ℕ} {r : List ℕ} (l 
         fits = omega (arith, h .offset);
       }
 
-  pub last : {x t′ : List ℕ} {p′ : ℕ} → Written t p x t′ p′ → r ≡ x → Written s at w t′ p′
+  pub last : {x t′ : List ℕ} {p′ : ℕ} → TextPut t p x t′ p′ → r ≡ x → TextPut s at w t′ p′
   last h e = record { buffer = h .buffer ∙ ap (splice t p) (sym e) ∙ l .same; offset = h .offset ∙ ap (λ (z : List ℕ). p + length z) (sym e) ∙ l .offset }
 
-  pub finish : r ≡ [] → Written s at w t p
+  pub finish : r ≡ [] → TextPut s at w t p
   finish e = record { buffer = sym (ap (splice t p) e ∙ splice-nil t p) ∙ l .same; offset = omega (arith, l .offset, ap length e) }
 
 -- a text at the start of a buffer
-pub at-start : {s x t : List ℕ} {n : ℕ} → Written s 0 x t n → (y : List ℕ) → x ≡ y → (t ≡ splice s 0 y) × (n ≡ length y)
+pub at-start : {s x t : List ℕ} {n : ℕ} → TextPut s 0 x t n → (y : List ℕ) → x ≡ y → (t ≡ splice s 0 y) × (n ≡ length y)
 at-start {s} h y e = (h .buffer ∙ ap (splice s 0) e, omega (arith, h .offset, ap length e))

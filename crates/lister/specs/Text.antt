@@ -4,13 +4,13 @@ use mathlib.Core.Path.{_≡_}
 use mathlib.Core.List.{List, []}
 use mathlib.Core.Bool.{cond}
 use lib.ListN.{length}
-use Rattle.layout.specs.Lists.{range, select, joined}
+use Rattle.layout.specs.Lists.{interval, select, joined}
 use Rattle.layout.specs.Bytes.{splice}
 use Rattle.layout.specs.Directory.{slotAt, typeOf, isFile, root}
 use Rattle.layout.specs.Listing.{entryLine, fileLine}
 
 -- what writing bytes at an offset leaves: the buffer, and the offset after them
-pub record Written (before : List ℕ) (at : ℕ) (bytes after : List ℕ) (stop : ℕ) : Type 0 where
+pub record TextPut (before : List ℕ) (at : ℕ) (bytes after : List ℕ) (stop : ℕ) : Type 0 where
   pub buffer : after ≡ splice before at bytes
   pub offset : stop ≡ at + length bytes
 
@@ -23,4 +23,4 @@ unfoldable pub slotLine : List ℕ → ℕ → ℕ → List ℕ
 slotLine s e k = cond (isFile (typeOf s e)) (entryLine s e k) []
 
 unfoldable pub slotLines : List ℕ → ℕ → ℕ → List ℕ
-slotLines s k j = joined (fileLine s) (select (λ x. isFile (typeOf s (slotAt (root s) x))) (range k j))
+slotLines s k j = joined (fileLine s) (select (λ x. isFile (typeOf s (slotAt (root s) x))) (interval k j))

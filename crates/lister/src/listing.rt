@@ -12,7 +12,7 @@ ghost use Rattle.layout.specs.Table.{next, chain};
 ghost use Rattle.layout.specs.Directory.{files, root};
 ghost use Rattle.layout.specs.Check.{check};
 ghost use Rattle.layout.specs.Listing.{entryLine, fileLine, countLine, refusedLine, listing};
-ghost use Rattle.lister.specs.Text.{Written, maxListing, slotLine, slotLines};
+ghost use Rattle.lister.specs.Text.{TextPut, maxListing, slotLine, slotLines};
 use super::text;
 use layout::directory::number_at;
 use layout::limits::NAME_FIELD;
@@ -28,7 +28,7 @@ pub const MAX_LISTING: usize = 50 + 114 * 254;
 // The line of the file in slot k, which is in block b.
 fn entry_line(image: &[u8], b: usize, k: usize, out: &mut [u8], at: usize) -> usize
     requires { ⌜ (512 * b + 512 ≤ length (now image)) × (at + length (entryLine (now image) (entryAt b k) k) ≤ length (now out)) ⌝ }
-    ensures { λ r. ⌜ Written (now (out .entry)) at (entryLine (now (image .entry)) (entryAt b k) k) (now (out .exit)) r ⌝ }
+    ensures { λ r. ⌜ TextPut (now (out .entry)) at (entryLine (now (image .entry)) (entryAt b k) k) (now (out .exit)) r ⌝ }
 {
     let size = number_at(image, b, k, 8);
     let blocks = number_at(image, b, k, 12);
@@ -45,7 +45,7 @@ fn entry_line(image: &[u8], b: usize, k: usize, out: &mut [u8], at: usize) -> us
 // The line of slot k, which is in block b, if it is a file.
 fn slot_line(image: &[u8], b: usize, k: usize, out: &mut [u8], at: usize) -> usize
     requires { ⌜ (512 * b + 512 ≤ length (now image)) × (at + length (slotLine (now image) (entryAt b k) k) ≤ length (now out)) ⌝ }
-    ensures { λ r. ⌜ Written (now (out .entry)) at (slotLine (now (image .entry)) (entryAt b k) k) (now (out .exit)) r ⌝ }
+    ensures { λ r. ⌜ TextPut (now (out .entry)) at (slotLine (now (image .entry)) (entryAt b k) k) (now (out .exit)) r ⌝ }
 {
     if !layout::directory::is_file(layout::directory::type_at(image, b, k)) {
         return at;
@@ -56,7 +56,7 @@ fn slot_line(image: &[u8], b: usize, k: usize, out: &mut [u8], at: usize) -> usi
 // The lines of the files of the root, whose d blocks start at `first`.
 fn file_lines(image: &[u8], n: usize, first: usize, d: usize, out: &mut [u8], at: usize) -> usize
     requires { ⌜ (DirectoryAt (now image) n first d) × (chain (next (now image)) first d ≡ root (now image)) × (at + length (slotLines (now image) 1 (4 * d - 2)) ≤ length (now out)) ⌝ }
-    ensures { λ r. ⌜ Written (now (out .entry)) at (slotLines (now (image .entry)) 1 (4 * d - 2)) (now (out .exit)) r ⌝ }
+    ensures { λ r. ⌜ TextPut (now (out .entry)) at (slotLines (now (image .entry)) 1 (4 * d - 2)) (now (out .exit)) r ⌝ }
 {
     let mut p = at;
     let mut b = first;
@@ -74,7 +74,7 @@ fn file_lines(image: &[u8], n: usize, first: usize, d: usize, out: &mut [u8], at
 // "blocks 16 used 6 free 10"
 fn count_line(image: &[u8], out: &mut [u8]) -> usize
     requires { ⌜ (512 ≤ length (now image)) × (length (countLine (now image)) ≤ length (now out)) ⌝ }
-    ensures { λ r. ⌜ Written (now (out .entry)) 0 (countLine (now (image .entry))) (now (out .exit)) r ⌝ }
+    ensures { λ r. ⌜ TextPut (now (out .entry)) 0 (countLine (now (image .entry))) (now (out .exit)) r ⌝ }
 {
     let n = image.len() / 512;
     let used = number_at(image, 0, 0, 20);
@@ -88,7 +88,7 @@ fn count_line(image: &[u8], out: &mut [u8]) -> usize
 // "refused 5"
 fn refused_line(number: usize, out: &mut [u8]) -> usize
     requires { ⌜ length (refusedLine number) ≤ length (now out) ⌝ }
-    ensures { λ r. ⌜ Written (now (out .entry)) 0 (refusedLine number) (now (out .exit)) r ⌝ }
+    ensures { λ r. ⌜ TextPut (now (out .entry)) 0 (refusedLine number) (now (out .exit)) r ⌝ }
 {
     let p = text::put_labelled(out, 0, b"refused ", number);
     text::put_byte(out, p, b'\n')
@@ -97,7 +97,7 @@ fn refused_line(number: usize, out: &mut [u8]) -> usize
 // The list of a sound image.
 fn list(image: &[u8], out: &mut [u8]) -> usize
     requires { ⌜ (check (now image) ≡ 0) × (length (countLine (now image) ++ joined (fileLine (now image)) (files (now image) (root (now image)))) ≤ length (now out)) ⌝ }
-    ensures { λ r. ⌜ Written (now (out .entry)) 0 (countLine (now (image .entry)) ++ joined (fileLine (now (image .entry))) (files (now (image .entry)) (root (now (image .entry))))) (now (out .exit)) r ⌝ }
+    ensures { λ r. ⌜ TextPut (now (out .entry)) 0 (countLine (now (image .entry)) ++ joined (fileLine (now (image .entry))) (files (now (image .entry)) (root (now (image .entry))))) (now (out .exit)) r ⌝ }
 {
     let n = image.len() / 512;
     let first = (n + 127) / 128 + 1;

@@ -7,12 +7,12 @@ ghost use lib.ListN.{length};
 ghost use Rattle.layout.specs.Lists.{within};
 ghost use Rattle.layout.specs.Directory.{unpadded};
 ghost use Rattle.layout.specs.Listing.{digits, decimal, printed};
-ghost use Rattle.lister.specs.Text.{Written};
+ghost use Rattle.lister.specs.Text.{TextPut};
 
 // One byte.
 pub fn put_byte(out: &mut [u8], at: usize, x: u8) -> usize
     requires { ⌜ at + 1 ≤ length (now out) ⌝ }
-    ensures { λ r. ⌜ Written (now (out .entry)) at (x ∷ []) (now (out .exit)) r ⌝ }
+    ensures { λ r. ⌜ TextPut (now (out .entry)) at (x ∷ []) (now (out .exit)) r ⌝ }
 {
     out[at] = x;
     at + 1
@@ -21,7 +21,7 @@ pub fn put_byte(out: &mut [u8], at: usize, x: u8) -> usize
 // A byte string.
 pub fn put_bytes(out: &mut [u8], at: usize, bytes: &[u8]) -> usize
     requires { ⌜ at + length (now bytes) ≤ length (now out) ⌝ }
-    ensures { λ r. ⌜ Written (now (out .entry)) at (now (bytes .entry)) (now (out .exit)) r ⌝ }
+    ensures { λ r. ⌜ TextPut (now (out .entry)) at (now (bytes .entry)) (now (out .exit)) r ⌝ }
 {
     let count = bytes.len();
     layout::bytes::copy_part(bytes, 0, out, at, count);
@@ -39,7 +39,7 @@ fn digit(x: usize) -> u8
 // A number in decimal, of at most `most` digits.
 fn put_digits(out: &mut [u8], at: usize, most: usize, x: usize) -> usize
     requires { ⌜ at + length (digits most x) ≤ length (now out) ⌝ }
-    ensures { λ r. ⌜ Written (now (out .entry)) at (digits most x) (now (out .exit)) r ⌝ }
+    ensures { λ r. ⌜ TextPut (now (out .entry)) at (digits most x) (now (out .exit)) r ⌝ }
 {
     if most == 0 {
         return at;
@@ -54,7 +54,7 @@ fn put_digits(out: &mut [u8], at: usize, most: usize, x: usize) -> usize
 // A number in decimal.
 pub fn put_decimal(out: &mut [u8], at: usize, x: usize) -> usize
     requires { ⌜ at + length (decimal x) ≤ length (now out) ⌝ }
-    ensures { λ r. ⌜ Written (now (out .entry)) at (decimal x) (now (out .exit)) r ⌝ }
+    ensures { λ r. ⌜ TextPut (now (out .entry)) at (decimal x) (now (out .exit)) r ⌝ }
 {
     put_digits(out, at, 10, x)
 }
@@ -62,7 +62,7 @@ pub fn put_decimal(out: &mut [u8], at: usize, x: usize) -> usize
 // A label and a number.
 pub fn put_labelled(out: &mut [u8], at: usize, label: &[u8], x: usize) -> usize
     requires { ⌜ at + length (now label ++ decimal x) ≤ length (now out) ⌝ }
-    ensures { λ r. ⌜ Written (now (out .entry)) at (now (label .entry) ++ decimal x) (now (out .exit)) r ⌝ }
+    ensures { λ r. ⌜ TextPut (now (out .entry)) at (now (label .entry) ++ decimal x) (now (out .exit)) r ⌝ }
 {
     let p = put_bytes(out, at, label);
     put_decimal(out, p, x)
@@ -84,7 +84,7 @@ fn shown(x: u8) -> u8
 // The name in a field.
 pub fn put_name(out: &mut [u8], at: usize, field: &[u8]) -> usize
     requires { ⌜ at + length (printed (unpadded (now field))) ≤ length (now out) ⌝ }
-    ensures { λ r. ⌜ Written (now (out .entry)) at (printed (unpadded (now (field .entry)))) (now (out .exit)) r ⌝ }
+    ensures { λ r. ⌜ TextPut (now (out .entry)) at (printed (unpadded (now (field .entry)))) (now (out .exit)) r ⌝ }
 {
     let mut p = at;
     for i in 0..field.len() {

@@ -35,8 +35,8 @@ fn main() {
     volume::format::format(&mut image, 2, 0, uuid, &label);
     journal::start::start(&mut journal);
     let number = journal::runner::run(&script[..got], &mut image, &mut journal, &mut answers);
-    let told = [(number % 256) as u8];
-    io::write_all(libc::STDOUT_FILENO, &told);
+    let status = [(number % 256) as u8];
+    io::write_all(libc::STDOUT_FILENO, &status);
     io::write_all(libc::STDOUT_FILENO, &image);
     io::write_all(libc::STDOUT_FILENO, &journal);
     io::write_all(libc::STDOUT_FILENO, &answers);

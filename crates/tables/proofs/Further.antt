@@ -5,7 +5,7 @@ use mathlib.Core.List.{List, [], _∷_, _++_, map}
 use mathlib.Core.Bool.{Bool, true, false}
 use lib.Dec.{T}
 use lib.ListN.{replicate, take, drop}
-use Rattle.layout.specs.Lists.{range, every, same}
+use Rattle.layout.specs.Lists.{interval, every, same}
 use Rattle.layout.specs.Bytes.{be32, bytes4, splice}
 use Rattle.layout.specs.Table.{next, setNext}
 use Rattle.layout.specs.Check.{check}
@@ -122,7 +122,7 @@ pub starts : List (List ℕ × List ℕ)
 starts =
     (map (λ d. formatRefusal (blank 4) d label) (0 ∷ 1 ∷ 2 ∷ 3 ∷ 64 ∷ 65 ∷ []), 9 ∷ 0 ∷ 0 ∷ 14 ∷ 14 ∷ 9 ∷ [])
     ∷ (formatRefusal (7 ∷ []) 0 [] ∷ formatRefusal (blank 4) 1 [] ∷ formatRefusal (blank 4) 9 (7 ∷ label) ∷ [], 1 ∷ 9 ∷ 9 ∷ [])
-    ∷ (formatted (blank 3) 2 (range 1 16) label 1000, blank 3)
+    ∷ (formatted (blank 3) 2 (interval 1 16) label 1000, blank 3)
     ∷ (check (formattedAs 4 2) ∷ be32 (formattedAs 4 2) 20 ∷ be32 (formattedAs 4 2) 24 ∷ [], 0 ∷ 4 ∷ 0 ∷ [])
     ∷ (startRefusal (replicate 4 7) ∷ startRefusal (replicate 5 7) ∷ [], 8 ∷ 0 ∷ [])
     ∷ (started 7, 1 ∷ 0 ∷ 0 ∷ 0 ∷ 5 ∷ 0 ∷ 0 ∷ [])
@@ -139,7 +139,7 @@ changes =
     let short : State = record { image = s; journal = started 525 } in
     -- delete, and undo of it: image and journal as before
     (numbers (answer p₂ (change (delete fileA))), 0 ∷ 0 ∷ 1552 ∷ [])
-    ∷ (map (next (gone .image)) (range 0 6) ++ (be32 (gone .image) 20 ∷ be32 (gone .image) 24 ∷ check (gone .image) ∷ []), 1 ∷ 1 ∷ 3 ∷ 1 ∷ 0 ∷ 0 ∷ 4 ∷ 4 ∷ 0 ∷ [])
+    ∷ (map (next (gone .image)) (interval 0 6) ++ (be32 (gone .image) 20 ∷ be32 (gone .image) 24 ∷ check (gone .image) ∷ []), 1 ∷ 1 ∷ 3 ∷ 1 ∷ 0 ∷ 0 ∷ 4 ∷ 4 ∷ 0 ∷ [])
     ∷ (numbers (answer gone undo), 0 ∷ 1552 ∷ [])
     ∷ (back .image, s)
     ∷ (back .journal, p₂ .journal)

@@ -2,7 +2,7 @@
 use Prim.Native.Nat.{ℕ, _*_, _%_}
 use mathlib.Core.List.{List, [], _∷_, map}
 use lib.ListN.{replicate}
-use Rattle.layout.specs.Lists.{range}
+use Rattle.layout.specs.Lists.{interval}
 use Rattle.volume.specs.Format.{formatted}
 use Rattle.volume.specs.Change.{Change, create, write}
 use Rattle.journal.specs.Run.{Answer, changed, undone, checked, found, filled, shown}
@@ -15,11 +15,11 @@ unfoldable pub label : List ℕ
 label = replicate 128 86
 
 unfoldable pub formattedAs : ℕ → ℕ → List ℕ
-formattedAs n d = formatted (blank n) d (range 1 16) label 1000
+formattedAs n d = formatted (blank n) d (interval 1 16) label 1000
 
 -- data in which each place shows
 unfoldable pub pattern : ℕ → List ℕ
-pattern count = map (λ x. x % 251) (range 0 count)
+pattern count = map (λ x. x % 251) (interval 0 count)
 
 -- the file "A" (65), a create of the file of a one-byte name, and a write to "A"
 unfoldable pub fileA : List ℕ

@@ -22,8 +22,8 @@ script =
     ++ ((header (3 ∷ 0 ∷ 0 ∷ 0 ∷ 0 ∷ []) 1 0 1 4 ++ (65 ∷ 255 ∷ 255 ∷ 255 ∷ 255 ∷ []))
     ++ header (8 ∷ 0 ∷ 0 ∷ 0 ∷ 0 ∷ []) 0 0 0 0))
 
-pub told : List ℕ
-told =
+pub expected : List ℕ
+expected =
     replicate 7 0 ++ (1 ∷ 0 ∷ 0 ∷ 2 ∷ 8 ∷ replicate 4 0)
     ++ (replicate 10 0 ++ (8 ∷ 0x14 ∷ replicate 4 0)
     ++ (replicate 7 0 ++ (2 ∷ replicate 8 0) ++ (0x62 ∷ 0x63 ∷ 255 ∷ 255 ∷ [])
@@ -36,11 +36,11 @@ pub table : List (List ℕ × List ℕ)
 table =
     let o = outcome start script (replicate 70 9) in
     (o .number ∷ [], 0 ∷ [])
-    ∷ (o .out, told ++ (9 ∷ 9 ∷ []))
+    ∷ (o .out, expected ++ (9 ∷ 9 ∷ []))
     -- the last item cut off; no room for the last byte
     ∷ (outcome start (take 141 script) (replicate 70 9) .number ∷ outcome start script (replicate 67 9) .number ∷ [], 1 ∷ 2 ∷ [])
     ∷ []
 
 pub example-holds : T (every (λ row. same (row .0) (row .1)) table)
-unfolding table header script told start samples be64 nameAt dataAt changeAt callAt itemOk itemsFrom callsFrom encoded answerSize answersSize scriptRefusal given outcome rules Rattle.journal.specs.Script.numbers
+unfolding table header script expected start samples be64 nameAt dataAt changeAt callAt itemOk itemsFrom callsFrom encoded answerSize answersSize scriptRefusal given outcome rules Rattle.journal.specs.Script.numbers
 example-holds = tt

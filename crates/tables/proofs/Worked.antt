@@ -3,7 +3,7 @@ use mathlib.Core.List.{List, [], _∷_, _++_, map}
 use Prim.Native.Nat.{ℕ}
 use lib.Dec.{T}
 use lib.ListN.{length}
-use Rattle.layout.specs.Lists.{range, every, same}
+use Rattle.layout.specs.Lists.{interval, every, same}
 use Rattle.layout.specs.Bytes.{be32}
 use Rattle.layout.specs.Geometry.{tableBlocks}
 use Rattle.layout.specs.Table.{next}
@@ -34,7 +34,7 @@ workedNumbers =
     -- "t: n=128 gives 1, 129 gives 2, 4,096 gives 32."
     ∷ (map tableBlocks (128 ∷ 129 ∷ 4096 ∷ []), 1 ∷ 2 ∷ 32 ∷ [])
     -- "n=16, d=2: entries 0 to 3 are 1, 1, 3, 1; free 12; six file slots."
-    ∷ (map (next s₀) (range 0 4), 1 ∷ 1 ∷ 3 ∷ 1 ∷ [])
+    ∷ (map (next s₀) (interval 0 4), 1 ∷ 1 ∷ 3 ∷ 1 ∷ [])
     ∷ (be32 s₀ 24 ∷ length (slots (root s₀)) ∷ check s₀ ∷ [], 12 ∷ 6 ∷ 0 ∷ [])
     -- "then create "A" (record 520) and write 513 bytes at 0: entries 4, 5 are 5, 1; used 6; record 2,584 (blocks 0, 1, 2, 4, 5); journal 3,109."
     ∷ (numbers (answer p₀ (change (createFile 65))), 0 ∷ 1 ∷ 520 ∷ [])

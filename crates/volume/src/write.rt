@@ -116,7 +116,7 @@ fn plan_write(image: &[u8], name: &[u8], offset: usize, count: usize) -> Plan
     }
 }
 
-// An accepted write: takes the blocks needed, puts the data and tells the entry anew.
+// An accepted write: takes the blocks needed, puts the data and sets the entry's numbers.
 pub fn write(image: &mut [u8], name: &[u8], offset: usize, bytes: &[u8], time: u64)
     requires { ⌜ (check (now image) ≡ 0) × (writeRefusal (now image) (now name) offset (length (now bytes)) ≡ 0) ⌝ }
     ensures { λ _. ⌜ now (image .exit) ≡ writeAt (now (image .entry)) (entryOf (now (image .entry)) (now (name .entry))) offset (now (bytes .entry)) time ⌝ }

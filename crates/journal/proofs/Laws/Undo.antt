@@ -26,7 +26,7 @@ use Rattle.journal.proofs.Laws.Append.{well, well-ok, Shaped, Appended,
 
 -- THE PROPERTY OF PAIRS that a run keeps, of n blocks and a journal of a size: the image is sound, the journal is well formed and has zeros past
 -- the used part, and the lengths are those of the start.
-pub record Made (n size : ℕ) (p : State) : Type 0 where
+pub record RunInvariant (n size : ℕ) (p : State) : Type 0 where
   pub sound : check (p .image) ≡ 0
   pub blocks : blockCount (p .image) ≡ n
   pub well-formed : wellFormed (p .journal) (blockCount (p .image)) ≡ true
@@ -49,7 +49,7 @@ accepted p c e =
     let f = require-zero (leb (used (p .journal) + length (recordOf p c)) (length (p .journal))) 14 0 (d .1) in
     record { sound = a .0; well-formed = b .0; allowed = d .0; fits = leb-true _ _ (f .0) }
 
-module _ (kept-sound : KeptSound) {n size : ℕ} (p : State) (c : Change) (m : Made n size p) (ok : changeRefusal p c ≡ 0) where
+module _ (kept-sound : KeptSound) {n size : ℕ} (p : State) (c : Change) (m : RunInvariant n size p) (ok : changeRefusal p c ≡ 0) where
   acc : Accepted p c
   acc = accepted p c ok
 
@@ -91,9 +91,9 @@ module _ (kept-sound : KeptSound) {n size : ℕ} (p : State) (c : Change) (m : M
   sound-new : check (after (p .image) c) ≡ 0
   sound-new = kept-sound (p .image) c (acc .sound) (acc .allowed)
 
-  pub kept : Made n size (afterChange p c)
+  pub kept : RunInvariant n size (afterChange p c)
   kept =
-      let k : Made n size q = record
+      let k : RunInvariant n size q = record
       { sound = sound-new; blocks = blocks-stay ∙ m .blocks; well-formed = well-new; long = laws .long ∙ m .long; shaped = laws .shaped } in
       rw after-is k
 
@@ -113,9 +113,9 @@ module _ (kept-sound : KeptSound) {n size : ℕ} (p : State) (c : Change) (m : M
   unfolding afterUndo
   back = rw (after-is, undo-ok, image-back, laws .journal-back)
 
-  pub told : undoAnswer (afterChange p c) ≡ undone 0 (length (recordOf p c))
+  pub undone-length : undoAnswer (afterChange p c) ≡ undone 0 (length (recordOf p c))
   unfolding undoAnswer recordOf
-  told = rw (after-is, undo-ok, laws .size)
+  undone-length = rw (after-is, undo-ok, laws .size)
 
 -- a journal just started, where there is nothing to undo
 module _ (s : List ℕ) (size : ℕ) (sound : check s ≡ 0) (low : minJournal ≤ size) (high : size ≤ maxJournal) where
@@ -136,7 +136,7 @@ module _ (s : List ℕ) (size : ℕ) (sound : check s ≡ 0) (low : minJournal �
     recorded = rw records-start;
   })
 
-  pub first : Made (blockCount s) size (record { image = s; journal = started size })
+  pub first : RunInvariant (blockCount s) size (record { image = s; journal = started size })
   first = record {
     sound = sound;
     blocks = refl;
@@ -153,6 +153,6 @@ module _ (s : List ℕ) (size : ℕ) (sound : check s ≡ 0) (low : minJournal �
   unfolding afterUndo
   none = rw refused
 
-  pub told-none : undoAnswer (record { image = s; journal = started size }) ≡ undone 16 0
+  pub undone-none : undoAnswer (record { image = s; journal = started size }) ≡ undone 16 0
   unfolding undoAnswer
-  told-none = rw refused
+  undone-none = rw refused

@@ -29,15 +29,15 @@ use Rattle.journal.proofs.Walks.Undoing.{unready}
 module _ (s j : List ℕ) where
   pub inspects-unsound : {last : ℕ} (r : ℕ) → r ≡ check s → (r ≡ 0 → ⊥) → Inspects (state s j) r last
   unfolding readyRefusal
-  inspects-unsound r e h = record { weighed = rw (← e) (sym (firstOf-refused r _ h)); found = λ z. absurd (h z) }
+  inspects-unsound r e h = record { number-is = rw (← e) (sym (firstOf-refused r _ h)); found = λ z. absurd (h z) }
 
   pub inspects-malformed : {last : ℕ} → check s ≡ 0 → false ≡ wellFormed j (blockCount s) → Inspects (state s j) 8 last
   unfolding readyRefusal
-  inspects-malformed c w = record { weighed = rw (c, ← w); found = λ z. omega arith }
+  inspects-malformed c w = record { number-is = rw (c, ← w); found = λ z. omega arith }
 
   pub inspects-ready : {last : ℕ} → check s ≡ 0 → true ≡ wellFormed j (blockCount s) → last ≡ lastRecord j → Inspects (state s j) 0 last
   unfolding readyRefusal
-  inspects-ready c w l = record { weighed = rw (c, ← w); found = λ z. l }
+  inspects-ready c w l = record { number-is = rw (c, ← w); found = λ z. l }
 
 pub ready : (s j : List ℕ) → readyRefusal (state s j) ≡ 0 → Ready s j
 unfolding readyRefusal
@@ -76,9 +76,9 @@ module _ (c : Change) (s j : List ℕ) where
         let z = sound s (w .sound) in
         omega (arith, length-record (blockCount s) s (z .whole) (z .most) (ascending (blockCount s) (named s c)) (ascending-below (blockCount s) (named s c)))
 
-    weighed : refusal s c ≡ 0 → changeRefusal (state s j) c ≡ roomRefusal j (recordOf (state s j) c)
+    number-is : refusal s c ≡ 0 → changeRefusal (state s j) c ≡ roomRefusal j (recordOf (state s j) c)
     unfolding changeRefusal roomRefusal
-    weighed ok = rw (w .sound, w .well-formed, ok)
+    number-is ok = rw (w .sound, w .well-formed, ok)
 
     fifteen : (k : ℕ) → roomRefusal j (recordOf (state s j) c) ≡ suc k → roomRefusal j (recordOf (state s j) c) ≡ 15
     unfolding roomRefusal
@@ -94,14 +94,14 @@ module _ (c : Change) (s j : List ℕ) where
         where
           go : (k : ℕ) → roomRefusal j (recordOf (state s j) c) ≡ k → Does c (state s j) (changed 15 0 0) (state s i)
           go zero e = absurd (record-some (sym (room 0 e .0) ∙ z))
-          go (suc k) e = rw (room (suc k) e .1) (refused 15 (weighed ok ∙ fifteen k e) (λ d. omega arith))
+          go (suc k) e = rw (room (suc k) e .1) (refused 15 (number-is ok ∙ fifteen k e) (λ d. omega arith))
 
       pub change-done : (size ≡ 0 → ⊥) → (slot : ℕ) → slot ≡ slotGiven s c → (t : List ℕ) → t ≡ after s c → Does c (state s j) (changed 0 slot size) (state t i)
       unfolding changeAnswer afterChange
       change-done h slot a t b = go (roomRefusal j (recordOf (state s j) c)) refl
         where
           go : (k : ℕ) → roomRefusal j (recordOf (state s j) c) ≡ k → Does c (state s j) (changed 0 slot size) (state t i)
-          go zero e = rw (weighed ok ∙ e, a, b, room 0 e .0, room 0 e .1) (refl, refl)
+          go zero e = rw (number-is ok ∙ e, a, b, room 0 e .0, room 0 e .1) (refl, refl)
           go (suc k) e = absurd (h (room (suc k) e .0))
 
 -- the marks of named blocks, recorded

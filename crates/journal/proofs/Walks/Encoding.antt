@@ -74,9 +74,9 @@ module _ (f : Filled) (b : List ℕ) where
   buffer-alone = elim f [ Bytes count ↦ refl | Refused number ↦ refl ]
 
 -- what read_into left in the part, and the numbers before it
-pub read-told : (s b name before : List ℕ) (image : List ℕ) (offset : ℕ) (f : Filled) → readAnswer f b ≡ read image name offset before → length s ≡ 16 + length before
+pub read-answered : (s b name before : List ℕ) (image : List ℕ) (offset : ℕ) (f : Filled) → readAnswer f b ≡ read image name offset before → length s ≡ 16 + length before
     → splice (splice s 16 b) 0 (numbers (readAnswer f [] .number) (readAnswer f [] .count) 0 0) ≡ encoded (filled (read image name offset before))
-read-told s b name before image offset f e h =
+read-answered s b name before image offset f e h =
     let l : length b ≡ length before = ap length (sym (buffer-alone f b)) ∙ ap (λ (a : ReadAnswer). length (a .buffer)) e ∙ read-length image name offset before in
     rw (number-alone f b, count-alone f b) (read-encoded s b (readAnswer f b) (omega arith) (buffer-alone f b)) ∙ ap (λ (a : ReadAnswer). encoded (filled a)) e
 
@@ -107,4 +107,4 @@ pub read-written : (s b t name before image : List ℕ) (offset size : ℕ) (f :
     → (n₁ ≡ readAnswer f [] .number) × (n₂ ≡ readAnswer f [] .count) × (n₃ ≡ 0) × (n₄ ≡ 0)
     → t ≡ splice (putMid 16 (16 + size - 16) s b) 0 (numbers n₁ n₂ n₃ n₄) → t ≡ encoded (filled (read image name offset before))
 read-written s b t name before image offset size f n₁ n₂ n₃ n₄ e l h k n d =
-    d ∙ rw (n .0, n .1, n .2, n .3) (rw (putMid-splice s 16 (16 + size - 16) b k) (read-told s b name before image offset f e (h ∙ omega arith)))
+    d ∙ rw (n .0, n .1, n .2, n .3) (rw (putMid-splice s 16 (16 + size - 16) b k) (read-answered s b name before image offset f e (h ∙ omega arith)))

@@ -10,29 +10,29 @@ use Rattle.volume.specs.Asked.{asked}
 use Rattle.volume.specs.declared.change.Change.{Change as Kind}
 use Rattle.journal.specs.Run.{Call, Answer, State, Look, change, undo, look, step, answer, afterChange, changeAnswer, afterUndo, undoAnswer, lookAnswer, state}
 use Rattle.journal.specs.Script.{opAt, nameAt, dataAt, changeAt, callAt, answerSize, numbers, encoded}
-use Rattle.journal.specs.Walks.Scripts.{Made}
+use Rattle.journal.specs.Walks.Scripts.{CallDone}
 use Rattle.journal.proofs.Walks.Scripts.{is-change, is-check, is-lookup, is-read, is-look-in-place}
 use Rattle.journal.proofs.Walks.Encoding.{numbers-alone}
 
 module _ (p : State) (image journal part part′ : List ℕ) (n₁ n₂ n₃ n₄ : ℕ) (a : Answer)
     (encodes : numbers n₁ n₂ n₃ n₄ ≡ encoded a) (writes : part′ ≡ splice part 0 (numbers n₁ n₂ n₃ n₄)) where
   pub change-made : (call : Call) (c : Change) → call ≡ change c → length part ≡ answerSize call → a ≡ changeAnswer p c → state image journal ≡ afterChange p c
-      → Made p call image journal part′
+      → CallDone p call image journal part′
   unfolding step answer answerSize
-  change-made call c e l told after =
+  change-made call c e l answered after =
       record {
         after = after ∙ sym (ap (step p) e);
-        told = writes ∙ numbers-alone part n₁ n₂ n₃ n₄ (l ∙ ap answerSize e) ∙ encodes ∙ ap encoded (told ∙ sym (ap (answer p) e));
+        answered = writes ∙ numbers-alone part n₁ n₂ n₃ n₄ (l ∙ ap answerSize e) ∙ encodes ∙ ap encoded (answered ∙ sym (ap (answer p) e));
       }
 
-  pub undo-made : length part ≡ 16 → a ≡ undoAnswer p → state image journal ≡ afterUndo p → Made p undo image journal part′
+  pub undo-made : length part ≡ 16 → a ≡ undoAnswer p → state image journal ≡ afterUndo p → CallDone p undo image journal part′
   unfolding step answer
-  undo-made l told after = record { after = after; told = writes ∙ numbers-alone part n₁ n₂ n₃ n₄ l ∙ encodes ∙ ap encoded told }
+  undo-made l answered after = record { after = after; answered = writes ∙ numbers-alone part n₁ n₂ n₃ n₄ l ∙ encodes ∙ ap encoded answered }
 
-pub look-told : (image journal part : List ℕ) (call : Call) (l : Look) → call ≡ look l → part ≡ encoded (lookAnswer image l)
+pub look-answered : (image journal part : List ℕ) (call : Call) (l : Look) → call ≡ look l → part ≡ encoded (lookAnswer image l)
     → part ≡ encoded (answer (state image journal) call)
 unfolding answer
-look-told image journal part call l e told = told ∙ sym (ap (λ (c : Call). encoded (answer (state image journal) c)) e)
+look-answered image journal part call l e answered = answered ∙ sym (ap (λ (c : Call). encoded (answer (state image journal) c)) e)
 
 -- the call of an item by what the code has read of it
 pub item-change : (s : List ℕ) (at : ℕ) (what : Kind) (name bytes : List ℕ) → name ≡ nameAt s at → bytes ≡ dataAt s at
@@ -56,5 +56,5 @@ look-keeps p s at l h =
 
 pub look-made : (image journal part s : List ℕ) (at : ℕ) → 1 ≤ opAt s at → opAt s at ≤ 4
     → ((j : List ℕ) → part ≡ encoded (answer (state image j) (callAt s at)))
-    → Made (state image journal) (callAt s at) image journal part
-look-made image journal part s at l h told = record { after = sym (look-keeps (state image journal) s at l h); told = told journal }
+    → CallDone (state image journal) (callAt s at) image journal part
+look-made image journal part s at l h answered = record { after = sym (look-keeps (state image journal) s at l h); answered = answered journal }

@@ -12,18 +12,18 @@ use Rattle.layout.specs.Bytes.{zeros}
 use Rattle.journal.specs.Journal.{ascending}
 use Rattle.journal.specs.Walks.Saves.{markedFrom}
 use Rattle.volume.specs.Walks.Marks.{marked}
-use Rattle.layout.proofs.Laws.Lists.{select-below, range-from, select-same, select-split}
+use Rattle.layout.proofs.Laws.Lists.{select-below, interval-from, select-same, select-split}
 use Rattle.layout.proofs.Laws.Bytes.{length-zeros, getD-zeros}
 use Rattle.volume.proofs.Walks.Marks.{marked-at}
 
 module _ (m : List ℕ) (b n : ℕ) (h : b < n) where
   pub marked-skip : getD m b 0 ≡ 0 → markedFrom m b (n - b) ≡ markedFrom m (b + 1) (n - (b + 1))
   unfolding markedFrom
-  marked-skip e = rw (range-from n b h, eq-eqb _ _ e)
+  marked-skip e = rw (interval-from n b h, eq-eqb _ _ e)
 
   pub marked-take : (getD m b 0 ≡ 0 → ⊥) → markedFrom m b (n - b) ≡ b ∷ markedFrom m (b + 1) (n - (b + 1))
   unfolding markedFrom
-  marked-take e = rw (range-from n b h, ne-eqb _ _ e)
+  marked-take e = rw (interval-from n b h, ne-eqb _ _ e)
 
 pub marked-done : (m : List ℕ) (b n : ℕ) → n ≤ b → markedFrom m b (n - b) ≡ []
 unfolding markedFrom

@@ -10,11 +10,11 @@ use Rattle.layout.specs.Limits.{minJournal, maxJournal}
 use Rattle.journal.specs.Journal.{startRefusal}
 use Rattle.journal.specs.Run.{State, Answer, answers, state}
 use Rattle.journal.specs.Replay.{MatchesReplay, replayed, standing}
-use Rattle.journal.specs.Script.{callsOf, Outcome, given, outcome, replayOutcome, Fresh}
+use Rattle.journal.specs.Script.{callsOf, Outcome, given, outcome, replayOutcome, JustStarted}
 use Rattle.layout.proofs.Laws.Tests.{and-split, require-zero}
 use Rattle.journal.proofs.Theorems.{every-run}
 
-fresh-matches : (image journal s : List ℕ) → Fresh image journal → MatchesReplay (state image journal) (callsOf s)
+fresh-matches : (image journal s : List ℕ) → JustStarted image journal → MatchesReplay (state image journal) (callsOf s)
 unfolding startRefusal
 fresh-matches image journal s f =
     let w = and-split (leb minJournal (length journal)) (leb (length journal) maxJournal) (require-zero (within minJournal maxJournal (length journal)) 7 0 (f .sized) .0) in
@@ -22,7 +22,7 @@ fresh-matches image journal s f =
     (every-run image (length journal) (callsOf s) (f .sound) (leb-true _ _ (w .0)) (leb-true _ _ (w .1)))
 
 pub replays : (image journal s out : List ℕ) (left : Outcome) → left ≡ outcome (state image journal) s out
-    → (left ≡ outcome (state image journal) s out) × (Fresh image journal → left ≡ replayOutcome (state image journal) s out)
+    → (left ≡ outcome (state image journal) s out) × (JustStarted image journal → left ≡ replayOutcome (state image journal) s out)
 unfolding outcome replayOutcome
 replays image journal s out left e = (
   e,

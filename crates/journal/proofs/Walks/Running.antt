@@ -11,7 +11,7 @@ use Rattle.layout.specs.Lists.{every, joined}
 use Rattle.layout.specs.Bytes.{splice}
 use Rattle.journal.specs.Run.{Call, State, step, answer, run, answers, state}
 use Rattle.journal.specs.Script.{itemSize, callAt, itemOk, itemsFrom, callsFrom, callsOf, encoded, answerSize, answersSize, scriptRefusal, Outcome, leaves, given, outcome}
-use Rattle.journal.specs.Walks.Scripts.{Made}
+use Rattle.journal.specs.Walks.Scripts.{CallDone}
 use Rattle.layout.proofs.Laws.Bytes.{putMid-splice, length-splice, splice-nil, splice-append}
 use Rattle.journal.proofs.Walks.Scripts.{Next, next, calls-none, calls-step, sizes-step}
 use Rattle.journal.proofs.Walks.Encoding.{answer-length}
@@ -37,7 +37,7 @@ module _ (start : State) (s out₀ image journal out : List ℕ) (at q : ℕ) (i
   pub run-next : at < length s → (Next s at) × (q + answerSize (callAt s at) ≤ length out)
   run-next h = (next s at h (i .items), omega (arith, i .room, sizes-step s at h))
 
-  run-step : at < length s → (image′ journal′ out′ part′ : List ℕ) → Made (state image journal) (callAt s at) image′ journal′ part′
+  run-step : at < length s → (image′ journal′ out′ part′ : List ℕ) → CallDone (state image journal) (callAt s at) image′ journal′ part′
       → out′ ≡ splice out q part′ → Midway start s out₀ image′ journal′ out′ (at + itemSize s at) (q + answerSize (callAt s at))
   unfolding run answers
   run-step h image′ journal′ out′ part′ m e =
@@ -45,27 +45,27 @@ module _ (start : State) (s out₀ image journal out : List ℕ) (at q : ℕ) (i
       let c : Call = callAt s at in
       let rest : List Call = callsFrom s (at + itemSize s at) in
       let more : callsFrom s at ≡ c ∷ rest = calls-step s at h in
-      let told : List ℕ = encoded (answer p c) in
+      let answered : List ℕ = encoded (answer p c) in
       let later : List ℕ = joined encoded (answers (step p c) rest) in
-      let l : length told ≡ answerSize c = answer-length p c in
+      let l : length answered ≡ answerSize c = answer-length p c in
       let k : length later ≡ answersSize rest = answers-length (step p c) rest in
       let sizes = sizes-step s at h in
       let room : q + answersSize (callsFrom s at) ≤ length out = i .room in
-      let wrote : out′ ≡ splice out q told = e ∙ ap (splice out q) (m .told) in
-      let long : length out′ ≡ length out = ap length wrote ∙ length-splice out q told (omega arith) in
+      let wrote : out′ ≡ splice out q answered = e ∙ ap (splice out q) (m .answered) in
+      let long : length out′ ≡ length out = ap length wrote ∙ length-splice out q answered (omega arith) in
       record {
         items = next s at h (i .items) .rest;
         room = omega arith;
         states = i .states ∙ ap (run p) more ∙ ap (λ (x : State). run x rest) (sym (m .after));
         outs =
             i .outs ∙ ap (λ (cs : List Call). splice out q (joined encoded (answers p cs))) more
-            ∙ sym (splice-append out q told later (omega arith))
+            ∙ sym (splice-append out q answered later (omega arith))
             ∙ rw (wrote, l, m .after);
       }
 
   -- as the code does it: the answer was written to a part of out
   pub run-turn : at < length s → (size room : ℕ) → size ≡ itemSize s at → room ≡ answerSize (callAt s at) → (image′ journal′ part′ : List ℕ)
-      → Made (state image journal) (callAt s at) image′ journal′ part′ → length part′ ≡ q + room - q
+      → CallDone (state image journal) (callAt s at) image′ journal′ part′ → length part′ ≡ q + room - q
       → Midway start s out₀ image′ journal′ (putMid q (q + room - q) out part′) (at + size) (q + room)
   run-turn h size room e f image′ journal′ part′ m l =
       rw (putMid-splice out q (q + room - q) part′ l, e, f) (run-step h image′ journal′ (splice out q part′) part′ m refl)

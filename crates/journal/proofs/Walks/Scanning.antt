@@ -8,37 +8,37 @@ use native.Mathlib.Numerals.{add-one}
 use borrow.Author.Tests.{lt-ltb, le-ltb, le-leb, lt-leb, eq-eqb, leb-true, eqb-true}
 use lib.Dec.{ltb, leb, eqb}
 use lib.ListN.{length, getD}
-use Rattle.layout.specs.Lists.{within, range, every, lastOr}
+use Rattle.layout.specs.Lists.{within, interval, every, lastOr}
 use Rattle.layout.specs.Bytes.{be32}
 use Rattle.layout.specs.Limits.{minJournal, maxJournal}
 use Rattle.journal.specs.Journal.{used, copies, blockAt, rising, recordOk, recordsFrom, records, wellFormed, lastRecord}
-use Rattle.journal.specs.Walks.Scanning.{headOk, Headed, numbersOk, Scans}
+use Rattle.journal.specs.Walks.Scanning.{headOk, Headed, blocksRise, Scans}
 use Rattle.layout.proofs.Laws.Tests.{and-split, is-false}
 use Rattle.journal.proofs.Laws.Append.{Fine, fine}
-use Rattle.journal.proofs.Laws.Walk.{records-none, records-more}
+use Rattle.journal.proofs.Laws.RecordWalk.{records-none, records-more}
 
 -- the i-th number of a record of k blocks
 module _ (j : List ℕ) (n at lo i k : ℕ) (h : i < k) where
   abbrev later : List ℕ
-  later = map (blockAt j at) (range (suc i) (k - (i + 1)))
+  later = map (blockAt j at) (interval (suc i) (k - (i + 1)))
 
-  numbers-one : numbersOk j n at lo i (k - i)
+  numbers-one : blocksRise j n at lo i (k - i)
       ≡ (leb lo (blockAt j at i) && rising (suc (blockAt j at i)) later) && (ltb (blockAt j at i) n && every (λ b. ltb b n) later)
-  unfolding numbersOk
-  numbers-one = let e : k - i ≡ suc (k - (i + 1)) = omega arith in ap (λ (x : ℕ). numbersOk j n at lo i x) e
+  unfolding blocksRise
+  numbers-one = let e : k - i ≡ suc (k - (i + 1)) = omega arith in ap (λ (x : ℕ). blocksRise j n at lo i x) e
 
-  pub numbers-low : blockAt j at i < lo → numbersOk j n at lo i (k - i) ≡ false
+  pub numbers-low : blockAt j at i < lo → blocksRise j n at lo i (k - i) ≡ false
   numbers-low l = numbers-one ∙ rw (lt-leb _ _ l)
 
-  pub numbers-high : lo ≤ blockAt j at i → n ≤ blockAt j at i → numbersOk j n at lo i (k - i) ≡ false
+  pub numbers-high : lo ≤ blockAt j at i → n ≤ blockAt j at i → blocksRise j n at lo i (k - i) ≡ false
   numbers-high l g = numbers-one ∙ rw (le-leb _ _ l, le-ltb _ _ g) (and-false (rising (suc (blockAt j at i)) later))
 
-  pub numbers-step : lo ≤ blockAt j at i → blockAt j at i < n → numbersOk j n at lo i (k - i) ≡ numbersOk j n at (blockAt j at i + 1) (i + 1) (k - (i + 1))
-  unfolding numbersOk
+  pub numbers-step : lo ≤ blockAt j at i → blockAt j at i < n → blocksRise j n at lo i (k - i) ≡ blocksRise j n at (blockAt j at i + 1) (i + 1) (k - (i + 1))
+  unfolding blocksRise
   numbers-step l g = numbers-one ∙ rw (le-leb _ _ l, lt-ltb _ _ g, add-one (blockAt j at i), add-one i)
 
-pub numbers-end : (j : List ℕ) (n at lo i k : ℕ) → k ≤ i → numbersOk j n at lo i (k - i) ≡ true
-unfolding numbersOk
+pub numbers-end : (j : List ℕ) (n at lo i k : ℕ) → k ≤ i → blocksRise j n at lo i (k - i) ≡ true
+unfolding blocksRise
 numbers-end j n at lo i k h = let e : k - i ≡ 0 = omega arith in rw e
 
 -- the record at an offset
@@ -46,8 +46,8 @@ pub record-bad : (j : List ℕ) (n at : ℕ) → (Fine j n at → ⊥) → recor
 record-bad j n at f = is-false (recordOk j n at) (λ t. f (fine j n at t))
 
 pub record-rest : (j : List ℕ) (n at : ℕ) → 520 ≤ be32 j at → be32 j at ≡ 4 + 516 * copies j at → at + be32 j at ≤ used j
-    → recordOk j n at ≡ numbersOk j n at 0 0 (copies j at)
-unfolding recordOk numbersOk
+    → recordOk j n at ≡ blocksRise j n at 0 0 (copies j at)
+unfolding recordOk blocksRise
 record-rest j n at a b c = rw (le-leb 1 (copies j at) (omega arith), eq-eqb (be32 j at) (4 + 516 * copies j at) b, le-leb (at + be32 j at) (used j) c)
 
 pub record-size : (j : List ℕ) (n at : ℕ) → recordOk j n at ≡ true → (520 ≤ be32 j at) × (at + be32 j at ≤ used j)

@@ -13,7 +13,7 @@ use Rattle.journal.specs.Run.{Call, change, undo, look, checkImage, find
 use Rattle.journal.specs.Script.{be64, opAt, nameAt, dataAt, dataLength, itemSize, changeAt, callAt, itemOk, itemsFrom, callsFrom, answerSize, answersSize}
 use Rattle.layout.proofs.Laws.Tests.{and-split}
 use Rattle.layout.proofs.Laws.Bytes.{length-part}
-use Rattle.journal.proofs.Laws.Walk.{records-none, records-more, records-enough}
+use Rattle.journal.proofs.Laws.RecordWalk.{records-none, records-more, records-enough}
 
 module _ (s : List ℕ) (at : ℕ) where
   pub items-none : length s ≤ at → itemsFrom s at ≡ []

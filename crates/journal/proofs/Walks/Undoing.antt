@@ -7,7 +7,7 @@ use mathlib.Core.Logic.{⊎-elim}
 use native.Mathlib.Omega.{arith}
 use borrow.Author.Tests.{ne-eqb}
 use lib.ListN.{length}
-use Rattle.layout.specs.Lists.{range, lastOr}
+use Rattle.layout.specs.Lists.{interval, lastOr}
 use Rattle.layout.specs.Refusals.{require, firstOf}
 use Rattle.layout.specs.Bytes.{be32, bytes4, zeros, splice}
 use Rattle.layout.specs.Geometry.{blockCount}
@@ -69,7 +69,7 @@ module _ (s j : List ℕ) (at : ℕ) (l : Last s j at) where
       let high : used j ≤ length j = last-well .used-high in
       record { whole = z .whole; blocks = z .most; inside = omega arith; below = rw e (f .below) }
 
-  pub last-image : (k : ℕ) → k ≡ copies j at → restored s j at (range 0 k) ≡ undoneImage s j
+  pub last-image : (k : ℕ) → k ≡ copies j at → restored s j at (interval 0 k) ≡ undoneImage s j
   unfolding undoneImage
   last-image k e = rw (e, l .last)
 

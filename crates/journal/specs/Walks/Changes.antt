@@ -20,7 +20,7 @@ pub record Ready (s j : List ℕ) : Type 0 where
   pub well-formed : wellFormed j (blockCount s) ≡ true
 
 pub record Inspects (p : State) (number last : ℕ) : Type 0 where
-  pub weighed : number ≡ readyRefusal p
+  pub number-is : number ≡ readyRefusal p
   pub found : number ≡ 0 → last ≡ lastRecord (p .journal)
 
 -- the record of named blocks

@@ -5,7 +5,7 @@ use mathlib.Core.List.{List, map}
 use mathlib.Core.Bool.{Bool, true, _&&_}
 use lib.ListN.{length, getD}
 use lib.Dec.{eqb, ltb}
-use Rattle.layout.specs.Lists.{within, range, every}
+use Rattle.layout.specs.Lists.{within, interval, every}
 use Rattle.layout.specs.Limits.{maxBlocks, minJournal, maxJournal}
 use Rattle.journal.specs.Journal.{used, blockAt, rising, lastRecord}
 
@@ -22,9 +22,9 @@ pub record Headed (j : List ℕ) (u n : ℕ) : Type 0 where
   pub blocks : n ≤ maxBlocks
 
 -- of the record at an offset, the numbers of the k blocks from the i-th on: they rise from lo on and are below n
-unfoldable pub numbersOk : List ℕ → ℕ → ℕ → ℕ → ℕ → ℕ → Bool
-numbersOk j n at lo i k =
-    let bs = map (blockAt j at) (range i k) in
+unfoldable pub blocksRise : List ℕ → ℕ → ℕ → ℕ → ℕ → ℕ → Bool
+blocksRise j n at lo i k =
+    let bs = map (blockAt j at) (interval i k) in
     rising lo bs && every (λ b. ltb b n) bs
 
 -- what a scan gives: whether all is right, and then the offset of the last record

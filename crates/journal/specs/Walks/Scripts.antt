@@ -12,6 +12,6 @@ pub record Item (s : List ℕ) (at : ℕ) (part : List ℕ) : Type 0 where
   pub room : length part ≡ answerSize (callAt s at)
 
 -- a call that was made: image, journal and its answer after it
-pub record Made (p : State) (c : Call) (image journal part : List ℕ) : Type 0 where
+pub record CallDone (p : State) (c : Call) (image journal part : List ℕ) : Type 0 where
   pub after : state image journal ≡ step p c
-  pub told : part ≡ encoded (answer p c)
+  pub answered : part ≡ encoded (answer p c)

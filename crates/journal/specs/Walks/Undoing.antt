@@ -5,7 +5,7 @@ use mathlib.Core.List.{List, map}
 use mathlib.Core.Bool.{true}
 use lib.ListN.{length}
 use lib.Dec.{ltb}
-use Rattle.layout.specs.Lists.{range, every}
+use Rattle.layout.specs.Lists.{interval, every}
 use Rattle.layout.specs.Limits.{maxBlocks}
 use Rattle.layout.specs.Geometry.{blockCount}
 use Rattle.layout.specs.Check.{check}
@@ -16,7 +16,7 @@ pub record Saved (s j : List ℕ) (n at k : ℕ) : Type 0 where
   pub whole : length s ≡ 512 * n
   pub blocks : n ≤ maxBlocks
   pub inside : at + 4 + 516 * k ≤ length j
-  pub below : every (λ b. ltb b n) (map (blockAt j at) (range 0 k)) ≡ true
+  pub below : every (λ b. ltb b n) (map (blockAt j at) (interval 0 k)) ≡ true
 
 -- a sound image with a well-formed journal, whose last record begins at an offset
 pub record Last (s j : List ℕ) (at : ℕ) : Type 0 where

@@ -15,7 +15,7 @@ use Rattle.layout.specs.Directory.{fileSlot, nameOf, slotAt, typeOf, blo
 use Rattle.layout.specs.Geometry.{blockCount, tableBlocks}
 use Rattle.layout.specs.Table.{next, chain, freeBlocks, occupied}
 use Rattle.layout.specs.Bytes.{block, be32}
-use Rattle.layout.specs.Lists.{range, select, distinct}
+use Rattle.layout.specs.Lists.{interval, select, distinct}
 use Rattle.layout.proofs.Laws.Tests.{lt-or-gt, lt-or-ge}
 use Rattle.layout.proofs.Laws.Lists.{In, distinct-left, in-take, select-in, select-ascends, select-lowest, select-distinct, select-split}
 use Rattle.layout.proofs.Laws.Chains.{nth, chain-used, in-chain}
@@ -168,7 +168,7 @@ free-fresh s S j =
     n = blockCount s
 
     all : List ℕ
-    all = select (λ b. eqb (next s b) 0) (range 0 n)
+    all = select (λ b. eqb (next s b) 0) (interval 0 n)
 
     fact : (x : ℕ) → In x (take j all) → (0 ≤ x) × (x < 0 + n) × (eqb (next s x) 0 ≡ true)
     fact x i = select-in (λ b. eqb (next s b) 0) 0 n x (in-take x j all i)
@@ -194,4 +194,4 @@ free-lowest s j =
     }
   where
     all : List ℕ
-    all = select (λ x. eqb (next s x) 0) (range 0 (blockCount s))
+    all = select (λ x. eqb (next s x) 0) (interval 0 (blockCount s))

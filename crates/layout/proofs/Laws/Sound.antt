@@ -10,14 +10,14 @@ use lib.Dec.{eqb}
 use lib.ListN.{length, getD}
 use borrow.Author.Tests.{eq-eqb, eqb-true}
 use Rattle.layout.specs.Limits.{minBlocks, maxBlocks, maxDirectory}
-use Rattle.layout.specs.Lists.{within, range, every, has, distinct, same, keep, select, joined}
+use Rattle.layout.specs.Lists.{within, interval, every, has, distinct, same, keep, select, joined}
 use Rattle.layout.specs.Bytes.{be32}
 use Rattle.layout.specs.Geometry.{blockCount, tableBlocks, rootBlock}
 use Rattle.layout.specs.Table.{next, chain, chainOk, occupied}
 use Rattle.layout.specs.Directory.{slotAt, slots, typeOf, firstBlock, blocksOf, selfOf, parentOf, isFree, isFile, nameOf, files, root}
 use Rattle.layout.specs.Check.{stage1, stage2, stage3, directoryOk, stage4, fileOk, slotOk, entriesOk, stage5, fileChains, chains, owned, tableOk, stage6, stage7, check}
 use Rattle.layout.proofs.Laws.Chains.{nth, length-chain, getD-chain, in-chain, chain-in, Chain, chainOk-split, chainOk-join, chain-distinct}
-use Rattle.layout.proofs.Laws.Lists.{In, every-range, range-every, in-joined, joined-in, joined-distinct-apart, joined-distinct, has-eqb-in, in-has-eqb}
+use Rattle.layout.proofs.Laws.Lists.{In, every-interval, interval-every, in-joined, joined-in, joined-distinct-apart, joined-distinct, has-eqb-in, in-has-eqb}
 use Rattle.layout.proofs.Laws.Names.{same-eq, same-refl}
 use Rattle.layout.proofs.Laws.Tables.{Table}
 use Rattle.layout.proofs.Laws.Tests.{and-split, and-join, or-split, true-not-false, lt-or-gt, require-zero, within-split, within-join, eqb-self}
@@ -94,12 +94,12 @@ single-in : {A : Type 0} (t : Bool) (x : A) → t ≡ true → In x (single t x)
 single-in true x e = inl refl
 single-in false x e = absurd (true-not-false e refl)
 
-map-select : {A : Type 0} (g : ℕ → A) (p : ℕ → Bool) (a k : ℕ) → map g (select p (range a k)) ≡ joined (λ j. single (p j) (g j)) (range a k)
+map-select : {A : Type 0} (g : ℕ → A) (p : ℕ → Bool) (a k : ℕ) → map g (select p (interval a k)) ≡ joined (λ j. single (p j) (g j)) (interval a k)
 map-select g p a zero = refl
 map-select {A} g p a (suc k) = go (p a) (map-select g p (suc a) k)
   where
-    go : (t : Bool) → map g (select p (range (suc a) k)) ≡ joined (λ j. single (p j) (g j)) (range (suc a) k)
-        → map g (keep t a (select p (range (suc a) k))) ≡ single t (g a) ++ joined (λ j. single (p j) (g j)) (range (suc a) k)
+    go : (t : Bool) → map g (select p (interval (suc a) k)) ≡ joined (λ j. single (p j) (g j)) (interval (suc a) k)
+        → map g (keep t a (select p (interval (suc a) k))) ≡ single t (g a) ++ joined (λ j. single (p j) (g j)) (interval (suc a) k)
     go true e = ap (λ (r : List A). g a ∷ r) e
     go false e = e
 
@@ -118,17 +118,17 @@ module _ (s ds : List ℕ) (v : ℕ → ℕ) where
   unfolding FileAt of-slot chain
   of-none k w e = ap (chain v (firstAt s ds k)) (no-file-held s (slotAt ds k) (blocksOf s (slotAt ds k)) w e)
 
-  owned-range : (a k : ℕ) → ((j : ℕ) → a ≤ j → j < a + k → slotOk s (slotAt ds j) ≡ true)
-      → owned v (joined (λ j. fileChains s (slotAt ds j)) (select FileAt (range a k))) ≡ joined of-slot (range a k)
+  owned-interval : (a k : ℕ) → ((j : ℕ) → a ≤ j → j < a + k → slotOk s (slotAt ds j) ≡ true)
+      → owned v (joined (λ j. fileChains s (slotAt ds j)) (select FileAt (interval a k))) ≡ joined of-slot (interval a k)
   unfolding owned fileChains
-  owned-range a zero f = refl
-  owned-range a (suc k) f = go (FileAt a) refl (owned-range (suc a) k (λ j h l. f j (omega arith) (omega arith)))
+  owned-interval a zero f = refl
+  owned-interval a (suc k) f = go (FileAt a) refl (owned-interval (suc a) k (λ j h l. f j (omega arith) (omega arith)))
     where
       rest : List (ℕ × ℕ)
-      rest = joined (λ j. fileChains s (slotAt ds j)) (select FileAt (range (suc a) k))
+      rest = joined (λ j. fileChains s (slotAt ds j)) (select FileAt (interval (suc a) k))
 
-      go : (t : Bool) → FileAt a ≡ t → owned v rest ≡ joined of-slot (range (suc a) k)
-          → owned v (joined (λ j. fileChains s (slotAt ds j)) (keep t a (select FileAt (range (suc a) k)))) ≡ of-slot a ++ joined of-slot (range (suc a) k)
+      go : (t : Bool) → FileAt a ≡ t → owned v rest ≡ joined of-slot (interval (suc a) k)
+          → owned v (joined (λ j. fileChains s (slotAt ds j)) (keep t a (select FileAt (interval (suc a) k)))) ≡ of-slot a ++ joined of-slot (interval (suc a) k)
       go true e ih = rw (of-file a e) (ap (λ (r : List ℕ). chain v (firstAt s ds a) (blocksOf s (slotAt ds a)) ++ r) ih)
       go false e ih = rw (of-none a (f a (omega arith) (omega arith)) e) ih
 
@@ -138,17 +138,17 @@ module _ (s ds : List ℕ) (v : ℕ → ℕ) where
     RightAt k = chainOk v n (firstAt s ds k) (heldAt s ds k)
 
     every-files : (a k : ℕ) → ((j : ℕ) → a ≤ j → j < a + k → slotOk s (slotAt ds j) ≡ true)
-        → every (λ c. chainOk v n (c .0) (c .1)) (joined (λ j. fileChains s (slotAt ds j)) (select FileAt (range a k))) ≡ every RightAt (range a k)
+        → every (λ c. chainOk v n (c .0) (c .1)) (joined (λ j. fileChains s (slotAt ds j)) (select FileAt (interval a k))) ≡ every RightAt (interval a k)
     unfolding fileChains RightAt chainOk FileAt
     every-files a zero f = refl
     every-files a (suc k) f = go (FileAt a) refl (every-files (suc a) k (λ j h l. f j (omega arith) (omega arith)))
       where
         rest : List (ℕ × ℕ)
-        rest = joined (λ j. fileChains s (slotAt ds j)) (select FileAt (range (suc a) k))
+        rest = joined (λ j. fileChains s (slotAt ds j)) (select FileAt (interval (suc a) k))
 
-        go : (t : Bool) → FileAt a ≡ t → every (λ c. chainOk v n (c .0) (c .1)) rest ≡ every RightAt (range (suc a) k)
-            → every (λ c. chainOk v n (c .0) (c .1)) (joined (λ j. fileChains s (slotAt ds j)) (keep t a (select FileAt (range (suc a) k)))) ≡
-            (RightAt a && every RightAt (range (suc a) k))
+        go : (t : Bool) → FileAt a ≡ t → every (λ c. chainOk v n (c .0) (c .1)) rest ≡ every RightAt (interval (suc a) k)
+            → every (λ c. chainOk v n (c .0) (c .1)) (joined (λ j. fileChains s (slotAt ds j)) (keep t a (select FileAt (interval (suc a) k)))) ≡
+            (RightAt a && every RightAt (interval (suc a) k))
         go true e ih =
             let x : heldAt s ds a ≡ blocksOf s (slotAt ds a) = file-held (typeOf s (slotAt ds a)) (blocksOf s (slotAt ds a)) e in
             rw (x, ih)
@@ -161,17 +161,17 @@ blocksOn v f l k = chain v (f k) (l k)
 
 -- the tests of stage 6 on a list of chains, and the table's facts
 module _ (n m : ℕ) (v f l : ℕ → ℕ) where
-  to-table : every (λ k. chainOk v n (f k) (l k)) (range 0 m) ≡ true → distinct eqb (joined (blocksOn v f l) (range 0 m)) ≡ true
-      → every (λ b. eqb (v b) 1) (range 0 (tableBlocks n + 1)) ≡ true
-      → every (λ b. eqb (v b) 0 || has eqb b (joined (blocksOn v f l) (range 0 m)))
-      (range (tableBlocks n + 1) (128 * tableBlocks n - (tableBlocks n + 1))) ≡ true
+  to-table : every (λ k. chainOk v n (f k) (l k)) (interval 0 m) ≡ true → distinct eqb (joined (blocksOn v f l) (interval 0 m)) ≡ true
+      → every (λ b. eqb (v b) 1) (interval 0 (tableBlocks n + 1)) ≡ true
+      → every (λ b. eqb (v b) 0 || has eqb b (joined (blocksOn v f l) (interval 0 m)))
+      (interval (tableBlocks n + 1) (128 * tableBlocks n - (tableBlocks n + 1))) ≡ true
       → Table n m v f l
   to-table rs ds lo hi =
       record {
-        right = λ k h. chainOk-split v n (f k) (l k) (every-range (λ j. chainOk v n (f j) (l j)) 0 m rs k (omega arith) (omega arith));
+        right = λ k h. chainOk-split v n (f k) (l k) (every-interval (λ j. chainOk v n (f j) (l j)) 0 m rs k (omega arith) (omega arith));
         apart = λ j k hj hk ne x y a b e. meet j k hj hk ne x y a b e;
-        low = λ b h. eqb-true (v b) 1 (every-range (λ c. eqb (v c) 1) 0 (tableBlocks n + 1) lo b (omega arith) (omega arith));
-        high = λ b h a ne. owner b ne (every-range (λ c. eqb (v c) 0 || has eqb c (joined (blocksOn v f l) (range 0 m))) (tableBlocks n + 1)
+        low = λ b h. eqb-true (v b) 1 (every-interval (λ c. eqb (v c) 1) 0 (tableBlocks n + 1) lo b (omega arith) (omega arith));
+        high = λ b h a ne. owner b ne (every-interval (λ c. eqb (v c) 0 || has eqb c (joined (blocksOn v f l) (interval 0 m))) (tableBlocks n + 1)
             (128 * tableBlocks n - (tableBlocks n + 1)) hi b (omega arith) (omega arith));
       }
     where
@@ -183,20 +183,20 @@ module _ (n m : ℕ) (v f l : ℕ → ℕ) where
       meet : (j k : ℕ) → j < m → k < m → j ≢ k → (x y : ℕ) → x < l j → y < l k → nth v x (f j) ≡ nth v y (f k) → ⊥
       meet j k hj hk ne x y a b e = ⊎-elim (λ lt. one-way j k hk lt x y a b e) (λ lt. one-way k j hj lt y x b a (sym e)) (lt-or-gt j k ne)
 
-      owner : (b : ℕ) → v b ≢ 0 → (eqb (v b) 0 || has eqb b (joined (blocksOn v f l) (range 0 m))) ≡ true
+      owner : (b : ℕ) → v b ≢ 0 → (eqb (v b) 0 || has eqb b (joined (blocksOn v f l) (interval 0 m))) ≡ true
           → (k : ℕ) × (x : ℕ) × (k < m) × (x < l k) × (b ≡ nth v x (f k))
       owner b ne e =
-          let i = ⊎-elim (λ z. absurd (ne (eqb-true (v b) 0 z))) (λ w. has-eqb-in b (joined (blocksOn v f l) (range 0 m)) w)
-          (or-split (eqb (v b) 0) (has eqb b (joined (blocksOn v f l) (range 0 m))) e) in
+          let i = ⊎-elim (λ z. absurd (ne (eqb-true (v b) 0 z))) (λ w. has-eqb-in b (joined (blocksOn v f l) (interval 0 m)) w)
+          (or-split (eqb (v b) 0) (has eqb b (joined (blocksOn v f l) (interval 0 m))) e) in
           let r = in-joined (blocksOn v f l) 0 m b i in
           let c = in-chain v (f (r .0)) (l (r .0)) b (r .3) in
           (r .0, c .0, omega arith, c .1, c .2)
 
   module _ (T : Table n m v f l) (h₃ : minBlocks ≤ n) where
-    from-right : every (λ k. chainOk v n (f k) (l k)) (range 0 m) ≡ true
-    from-right = range-every (λ k. chainOk v n (f k) (l k)) 0 m (λ k h g. chainOk-join v n (f k) (l k) (T .right k (omega arith)))
+    from-right : every (λ k. chainOk v n (f k) (l k)) (interval 0 m) ≡ true
+    from-right = interval-every (λ k. chainOk v n (f k) (l k)) 0 m (λ k h g. chainOk-join v n (f k) (l k) (T .right k (omega arith)))
 
-    from-distinct : distinct eqb (joined (blocksOn v f l) (range 0 m)) ≡ true
+    from-distinct : distinct eqb (joined (blocksOn v f l) (interval 0 m)) ≡ true
     from-distinct =
         joined-distinct (blocksOn v f l) eqb eqb-true eqb-self 0 m
         (λ j h g. chain-distinct v n (f j) (l j) (T .right j (omega arith)) h₃)
@@ -205,21 +205,21 @@ module _ (n m : ℕ) (v f l : ℕ → ℕ) where
         let b = in-chain v (f j) (l j) x q in
         T .apart i j (omega arith) (omega arith) (λ e. omega arith) (a .0) (b .0) (a .1) (b .1) (sym (a .2) ∙ b .2))
 
-    from-low : every (λ b. eqb (v b) 1) (range 0 (tableBlocks n + 1)) ≡ true
-    from-low = range-every (λ b. eqb (v b) 1) 0 (tableBlocks n + 1) (λ b h g. eq-eqb (v b) 1 (T .low b (omega arith)))
+    from-low : every (λ b. eqb (v b) 1) (interval 0 (tableBlocks n + 1)) ≡ true
+    from-low = interval-every (λ b. eqb (v b) 1) 0 (tableBlocks n + 1) (λ b h g. eq-eqb (v b) 1 (T .low b (omega arith)))
 
-    from-high : every (λ b. eqb (v b) 0 || has eqb b (joined (blocksOn v f l) (range 0 m)))
-        (range (tableBlocks n + 1) (128 * tableBlocks n - (tableBlocks n + 1))) ≡ true
+    from-high : every (λ b. eqb (v b) 0 || has eqb b (joined (blocksOn v f l) (interval 0 m)))
+        (interval (tableBlocks n + 1) (128 * tableBlocks n - (tableBlocks n + 1))) ≡ true
     from-high =
-        range-every (λ b. eqb (v b) 0 || has eqb b (joined (blocksOn v f l) (range 0 m))) (tableBlocks n + 1) (128 * tableBlocks n - (tableBlocks n + 1))
+        interval-every (λ b. eqb (v b) 0 || has eqb b (joined (blocksOn v f l) (interval 0 m))) (tableBlocks n + 1) (128 * tableBlocks n - (tableBlocks n + 1))
         (λ b h g. at b h g (ℕ-discrete (v b) 0))
       where
         at : (b : ℕ) → tableBlocks n + 1 ≤ b → b < tableBlocks n + 1 + (128 * tableBlocks n - (tableBlocks n + 1)) → Dec (v b ≡ 0)
-            → (eqb (v b) 0 || has eqb b (joined (blocksOn v f l) (range 0 m))) ≡ true
+            → (eqb (v b) 0 || has eqb b (joined (blocksOn v f l) (interval 0 m))) ≡ true
         at b h g (yes z) = rw (eq-eqb (v b) 0 z)
         at b h g (no z) =
             let r = T .high b (omega arith) (omega arith) z in
-            rw (in-has-eqb b (joined (blocksOn v f l) (range 0 m))
+            rw (in-has-eqb b (joined (blocksOn v f l) (interval 0 m))
             (joined-in (blocksOn v f l) 0 m b (r .0) (omega arith) (omega arith) (chain-in v (f (r .0)) (l (r .0)) b (r .1) (r .3) (r .4))))
             (or-true (eqb (v b) 0))
 
@@ -245,18 +245,18 @@ module _ (s : List ℕ) (d₁ : 1 ≤ dirSize s) where
     heldAt-zero = rw (slotAt-zero, st)
 
     module _ (ok : (k : ℕ) → 1 ≤ k → k < 4 * dirSize s - 1 → slotOk s (slotAt (root s) k) ≡ true) where
-      all-slots : range 0 (4 * dirSize s - 1) ≡ 0 ∷ range 1 (4 * dirSize s - 2)
+      all-slots : interval 0 (4 * dirSize s - 1) ≡ 0 ∷ interval 1 (4 * dirSize s - 2)
       all-slots = let e : 4 * dirSize s - 1 ≡ suc (4 * dirSize s - 2) = omega arith in rw e
 
-      owned-all : owned (next s) (chains s (root s)) ≡ joined (blocksOn (next s) (firstAt s (root s)) (heldAt s (root s))) (range 0 (4 * dirSize s - 1))
+      owned-all : owned (next s) (chains s (root s)) ≡ joined (blocksOn (next s) (firstAt s (root s)) (heldAt s (root s))) (interval 0 (4 * dirSize s - 1))
       unfolding owned chains files FileAt of-slot
       owned-all =
           rw (all-slots, length-root s, getD-root 0 (omega arith), firstAt-zero, heldAt-zero)
           (ap (λ (r : List ℕ). chain (next s) (rootOf s) (dirSize s) ++ r)
-          (owned-range s (root s) (next s) 1 (4 * dirSize s - 2) (λ j h l. ok j h (omega arith))))
+          (owned-interval s (root s) (next s) 1 (4 * dirSize s - 2) (λ j h l. ok j h (omega arith))))
 
       every-all : every (λ c. chainOk (next s) (blockCount s) (c .0) (c .1)) (chains s (root s)) ≡ every
-          (λ k. chainOk (next s) (blockCount s) (firstAt s (root s) k) (heldAt s (root s) k)) (range 0 (4 * dirSize s - 1))
+          (λ k. chainOk (next s) (blockCount s) (firstAt s (root s) k) (heldAt s (root s) k)) (interval 0 (4 * dirSize s - 1))
       unfolding owned chains files FileAt RightAt
       every-all =
           rw (all-slots, length-root s, getD-root 0 (omega arith), firstAt-zero, heldAt-zero)
@@ -267,7 +267,7 @@ module _ (s : List ℕ) (d₁ : 1 ≤ dirSize s) where
 abbrev nameAt : List ℕ → List ℕ → ℕ → List (List ℕ)
 nameAt s ds j = single (isFile (typeOf s (slotAt ds j))) (nameOf s (slotAt ds j))
 
-names-all : (s ds : List ℕ) → map (λ k. nameOf s (slotAt ds k)) (files s ds) ≡ joined (nameAt s ds) (range 1 (4 * length ds - 2))
+names-all : (s ds : List ℕ) → map (λ k. nameOf s (slotAt ds k)) (files s ds) ≡ joined (nameAt s ds) (interval 1 (4 * length ds - 2))
 unfolding files
 names-all s ds = map-select (λ k. nameOf s (slotAt ds k)) (λ k. isFile (typeOf s (slotAt ds k))) 1 (4 * length ds - 2)
 
@@ -329,7 +329,7 @@ module _ (s : List ℕ) (e : check s ≡ 0) where
       (eqb-true _ _ (a .0), b .0, b .1)
 
   ok : (k : ℕ) → 1 ≤ k → k < 4 * dirSize s - 1 → slotOk s (slotAt (root s) k) ≡ true
-  ok k h g = every-range (λ j. slotOk s (slotAt (root s) j)) 1 (4 * length (root s) - 2) (five-parts .1) k h (omega (arith, length-root s))
+  ok k h g = every-interval (λ j. slotOk s (slotAt (root s) j)) 1 (4 * length (root s) - 2) (five-parts .1) k h (omega (arith, length-root s))
 
   names-differ : (j k : ℕ) → 1 ≤ j → j < k → k < 4 * dirSize s - 1 → isFile (typeOf s (slotAt (root s) j)) ≡ true → isFile (typeOf s (slotAt (root s) k)) ≡ true
       → nameOf s (slotAt (root s) j) ≢ nameOf s (slotAt (root s) k)
@@ -347,7 +347,7 @@ module _ (s : List ℕ) (e : check s ≡ 0) where
       let q = owned-all s (me .d₁) (me .st) (me .sb) ok in
       let a = and-split (every (λ c. chainOk (next s) n (c .0) (c .1)) (chains s (root s))) _ (ss .six) in
       let b = and-split (distinct eqb os) _ (a .1) in
-      let c = and-split (every (λ x. eqb (next s x) 1) (range 0 (t + 1))) _ (b .1) in
+      let c = and-split (every (λ x. eqb (next s x) 1) (interval 0 (t + 1))) _ (b .1) in
       to-table n (4 * dirSize s - 1) (next s) (firstAt s (root s)) (heldAt s (root s))
       (sym (every-all s (me .d₁) (me .st) (me .sb) ok) ∙ a .0) (rw q at (b .0)) (c .0) (rw q at (c .1))
 
@@ -396,7 +396,7 @@ module _ (s : List ℕ) (S : Sound s) where
   is-five =
       let q = length-root s in
       and-join (eq-eqb (typeOf s (slotAt (root s) (4 * length (root s) - 1))) 255 (rw q (S .end-type))) (and-join
-      (range-every (λ k. slotOk s (slotAt (root s) k)) 1 (4 * length (root s) - 2) (λ k h g. S .slot k h (omega arith)))
+      (interval-every (λ k. slotOk s (slotAt (root s) k)) 1 (4 * length (root s) - 2) (λ k h g. S .slot k h (omega arith)))
       (rw (names-all s (root s)) (joined-distinct (nameAt s (root s)) same same-eq same-refl 1 (4 * length (root s) - 2)
       (λ j h g. alone (isFile (typeOf s (slotAt (root s) j))) (nameOf s (slotAt (root s) j)))
       (λ i j h lt g x a b.

@@ -17,7 +17,7 @@ use Rattle.layout.specs.Walks.Shapes.{DirectoryAt}
 use Rattle.layout.specs.Walks.Slots.{entryAt, nameIn, slotsOk}
 use Rattle.layout.specs.Walks.Names.{sums, fingerprint, Fingerprinted, Nearest}
 use Rattle.layout.proofs.Laws.Bytes.{length-part, part-in-block}
-use Rattle.layout.proofs.Laws.Lists.{every-range}
+use Rattle.layout.proofs.Laws.Lists.{every-interval}
 use Rattle.layout.proofs.Laws.Names.{same-eq, same-refl}
 use Rattle.layout.proofs.Laws.Sound.{slotOk-split}
 use Rattle.layout.proofs.Laws.Tests.{below-more, and-split, is-false, true-not-false}
@@ -107,7 +107,7 @@ nameIn-skip s ds name (suc m) k j h f =
 pub good-slot : {s : List ℕ} {n first d : ℕ} {ps : List ℕ} → Fingerprinted s n first d ps → (x : ℕ) → 1 ≤ x → x + 1 < 4 * d
     → slotOk s (slotAt (chain (next s) first d) x) ≡ true
 unfolding slotsOk
-good-slot {s} {n} {first} {d} p x h g = every-range (λ y. slotOk s (slotAt (chain (next s) first d) y)) 1 (4 * d - 2) (p .good) x h (omega arith)
+good-slot {s} {n} {first} {d} p x h g = every-interval (λ y. slotOk s (slotAt (chain (next s) first d) y)) 1 (4 * d - 2) (p .good) x h (omega arith)
 
 -- from one slot to the next whose fingerprint is that of slot k
 module _ (s : List ℕ) (n first d : ℕ) (ps : List ℕ) (p : Fingerprinted s n first d ps) (k : ℕ) (low : 1 ≤ k) (high : k + 1 < 4 * d)

@@ -29,7 +29,7 @@ use Rattle.layout.proofs.Walks.Shapes.{sound-chain}
 module _ (s name : List ℕ) where
   pub opens-refused : {refusal number slot b first size blocks : ℕ} → number ≡ refusal → (number ≡ 0 → ⊥) → NoFile slot b first size blocks
       → Opens s name refusal number slot b first size blocks
-  opens-refused e h z = record { weighed = e; file = λ q. absurd (h q); none = λ q. z }
+  opens-refused e h z = record { number-is = e; file = λ q. absurd (h q); none = λ q. z }
 
   pub name-bad : false ≡ goodName name → 9 ≡ nameRefusal s name
   unfolding nameRefusal
@@ -46,7 +46,7 @@ module _ (s name : List ℕ) where
     opens-found h p q t =
         let here : entryAt b k ≡ entryOf s name = st .block h .1 ∙ ap (slotAt (root s)) (st .slot) in
         record {
-          weighed = rw (← g, ← st .slot, ne-eqb k 0 h);
+          number-is = rw (← g, ← st .slot, ne-eqb k 0 h);
           file =
               λ z. record {
                 found = st .slot;
@@ -67,7 +67,7 @@ module _ (s name : List ℕ) where
   pub opens-checked : check s ≡ 0 → {number slot b first size blocks : ℕ} → Opens s name (nameRefusal s name) number slot b first size blocks
       → Opens s name (lookupRefusal s name) number slot b first size blocks
   unfolding lookupRefusal
-  opens-checked e o = record { weighed = rw e (o .weighed); file = o .file; none = o .none }
+  opens-checked e o = record { number-is = rw e (o .number-is); file = o .file; none = o .none }
 
 -- the file of an accepted name on a sound image, by the numbers found
 module _ {s name : List ℕ} {slot b first size blocks : ℕ} (l : Located s name slot b first size blocks) where
@@ -90,18 +90,18 @@ module _ {s name : List ℕ} {number slot b first size blocks : ℕ} (o : Opens 
   pub lookup-refused : (number ≡ 0 → ⊥) → record { number = number; slot = 0; size = 0; blocks = 0 } ≡ lookup s name
   unfolding lookup
   lookup-refused h =
-      sym (accept-refused (lookupRefusal s name) _ _ (λ q. h (o .weighed ∙ q)) ∙ rw (← o .weighed))
+      sym (accept-refused (lookupRefusal s name) _ _ (λ q. h (o .number-is ∙ q)) ∙ rw (← o .number-is))
 
   pub opened-extent-refused : (i : ℕ) → (number ≡ 0 → ⊥) → extentOf s name i ≡ record { start = 0; size = 0 }
-  opened-extent-refused i h = extent-refused s name i (λ q. h (o .weighed ∙ q))
+  opened-extent-refused i h = extent-refused s name i (λ q. h (o .number-is ∙ q))
 
   pub read-refused : (offset : ℕ) (buffer : List ℕ) → (number ≡ 0 → ⊥) → read s name offset buffer ≡ record { number = number; count = 0; buffer = buffer }
   unfolding read readRefusal
-  read-refused offset buffer h = rw (← o .weighed, firstOf-refused number (require (leb offset (sizeOf s (entryOf s name))) 12 0) h) (accept-refused number _ _ h)
+  read-refused offset buffer h = rw (← o .number-is, firstOf-refused number (require (leb offset (sizeOf s (entryOf s name))) 12 0) h) (accept-refused number _ _ h)
 
   module _ (z : number ≡ 0) where
     accepted : lookupRefusal s name ≡ 0
-    accepted = sym (o .weighed) ∙ z
+    accepted = sym (o .number-is) ∙ z
 
     loc : Located s name slot b first size blocks
     loc = o .file z

@@ -8,7 +8,7 @@ use lib.Dec.{eqb}
 use lib.ListN.{length, getD, set, replicate, length-set}
 use lib.Seq.{append-snoc, getD-set-other, getD-set-same}
 use borrow.Author.Tests.{eqb-false, eqb-true}
-use Rattle.layout.specs.Lists.{range, every, has, distinct, joined}
+use Rattle.layout.specs.Lists.{interval, every, has, distinct, joined}
 use Rattle.layout.specs.Bytes.{zeros}
 use Rattle.layout.specs.Geometry.{inVolume}
 use Rattle.layout.specs.Table.{chain, endsAfter, chainOk}
@@ -70,7 +70,7 @@ module _ (v : ℕ → ℕ) (n : ℕ) where
       → Tied (walk v n k b m) (endsAfter v n b k && distinct eqb (os ++ chain v b k)) (os ++ chain v b k) (length m)
   unfolding walk endsAfter chain
   walk-tied zero b m os h g d = record { ok = rw (append-nil os, d) (sym (and-true (eqb b 1))); marks = λ z. rw (append-nil os) g; sized = refl }
-  walk-tied (suc k) b m os h g d = range (inVolume n b) refl (walk-tied k (v b) (set m b 1) (os ++ (b ∷ [])))
+  walk-tied (suc k) b m os h g d = interval (inVolume n b) refl (walk-tied k (v b) (set m b 1) (os ++ (b ∷ [])))
     where
       Goal : Type 0
       Goal = Tied (walk v n (suc k) b m) (endsAfter v n b (suc k) && distinct eqb (os ++ chain v b (suc k))) (os ++ chain v b (suc k)) (length m)
@@ -91,9 +91,9 @@ module _ (v : ℕ → ℕ) (n : ℕ) where
           let l : length (set m b 1) ≡ length m = length-set m b 1 in
           rw (i, z) (rw (append-snoc os b (chain v (v b) k), l) at (r (omega arith) (marked-more m os b (omega arith) g) (distinct-more b os d e)))
 
-      range : (t : Bool) → inVolume n b ≡ t → Ih → Goal
-      range true e r = fresh (has eqb b os) refl e r
-      range false e r = rw e (tied-false m false (os ++ (b ∷ chain v (v b) k)) refl)
+      interval : (t : Bool) → inVolume n b ≡ t → Ih → Goal
+      interval true e r = fresh (has eqb b os) refl e r
+      interval false e r = rw e (tied-false m false (os ++ (b ∷ chain v (v b) k)) refl)
 
   pub follow-tied : (k b : ℕ) (m os : List ℕ) → n ≤ length m → Marked m os → distinct eqb os ≡ true
       → Tied (follow v n k b m) (chainOk v n b k && distinct eqb (os ++ chain v b k)) (os ++ chain v b k) (length m)

@@ -8,7 +8,7 @@ use lib.Dec.{eqb, leb}
 use lib.ListN.{length, getD}
 use borrow.Author.Tests.{leb-true}
 use Rattle.layout.specs.Limits.{maxBlocks, maxDirectory}
-use Rattle.layout.specs.Lists.{within, range, every, has, distinct, select, joined}
+use Rattle.layout.specs.Lists.{within, interval, every, has, distinct, select, joined}
 use Rattle.layout.specs.Bytes.{be32, zeros}
 use Rattle.layout.specs.Geometry.{blockCount, tableBlocks, rootBlock}
 use Rattle.layout.specs.Table.{next, chain, chainOk}
@@ -27,11 +27,11 @@ use Rattle.layout.proofs.Walks.Shapes.{shape-blockCount}
 use Rattle.layout.proofs.Walks.Slots.{place-first}
 
 -- the entries that no chain holds
-rest-tied : (v : ℕ → ℕ) (m os : List ℕ) (a k : ℕ) → Marked m os → every (λ b. eqb (v b) 0 || has eqb b os) (range a k) ≡ restFree v m a k
+rest-tied : (v : ℕ → ℕ) (m os : List ℕ) (a k : ℕ) → Marked m os → every (λ b. eqb (v b) 0 || has eqb b os) (interval a k) ≡ restFree v m a k
 unfolding restFree
 rest-tied v m os a k g =
     every-same (λ b. eqb (v b) 0 || has eqb b os) (λ b. eqb (v b) 0 || not (eqb (getD m b 0) 0))
-    (λ x. ap (λ (t : Bool). eqb (v x) 0 || t) (sym (ap not (g .at x) ∙ Bool·not-not (has eqb x os)))) (range a k)
+    (λ x. ap (λ (t : Bool). eqb (v x) 0 || t) (sym (ap not (g .at x) ∙ Bool·not-not (has eqb x os)))) (interval a k)
 
 -- a directory's self entry and chain
 self-first : (a b c w x : Bool) → a && (b && (c && (w && x))) ≡ (a && (b && (c && w))) && x
@@ -53,7 +53,7 @@ cond-ok false w m = refl
 
 -- the chains of a directory: its own, and its files'
 abbrev ownChains : List ℕ → List ℕ → ℕ → List (ℕ × ℕ)
-ownChains s ds d = joined (λ k. fileChains s (slotAt ds k)) (select (λ k. isFile (typeOf s (slotAt ds k))) (range 1 (4 * d - 2)))
+ownChains s ds d = joined (λ k. fileChains s (slotAt ds k)) (select (λ k. isFile (typeOf s (slotAt ds k))) (interval 1 (4 * d - 2)))
 
 chains-parts : (s : List ℕ) (b d : ℕ) → 1 ≤ d → chains s (chain (next s) b d) ≡ (b, d) ∷ ownChains s (chain (next s) b d) d
 unfolding chains files
@@ -83,10 +83,10 @@ followTable-tied s n b d m h some ok once g =
     all = every (λ c. chainOk (next s) n (c .0) (c .1)) cs
 
     ones : Bool
-    ones = every (λ b. eqb (next s b) 1) (range 0 (tableBlocks n + 1))
+    ones = every (λ b. eqb (next s b) 1) (interval 0 (tableBlocks n + 1))
 
     rest : Bool
-    rest = every (λ b. eqb (next s b) 0 || has eqb b os) (range (tableBlocks n + 1) (128 * tableBlocks n - (tableBlocks n + 1)))
+    rest = every (λ b. eqb (next s b) 0 || has eqb b os) (interval (tableBlocks n + 1) (128 * tableBlocks n - (tableBlocks n + 1)))
 
     tied : Tied (followAll (next s) n cs m) (all && distinct eqb os) os (length m)
     tied = followAll-tied (next s) n cs m ds h g once

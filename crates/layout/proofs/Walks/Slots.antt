@@ -7,7 +7,7 @@ use native.Mathlib.Omega.{arith}
 use lib.Dec.{eqb}
 use lib.ListN.{length, getD}
 use borrow.Author.Tests.{eqb-false, eqb-true, eq-eqb, ne-eqb}
-use Rattle.layout.specs.Lists.{range, has, distinct, same, keep, select, joined}
+use Rattle.layout.specs.Lists.{interval, has, distinct, same, keep, select, joined}
 use Rattle.layout.specs.Bytes.{be32}
 use Rattle.layout.specs.Table.{next, chain}
 use Rattle.layout.specs.Directory.{slotAt, typeOf, blocksOf, isFile, nameOf, files, fileSlot, freeSlot}
@@ -18,7 +18,7 @@ use Rattle.layout.specs.Walks.Shapes.{Blocks}
 use Rattle.layout.specs.Walks.Slots.{Place, entryAt, slotBlock, slotsOk, nameIn, namesApart, fileNamed, slotFree, slotFrom, Stands}
 use Rattle.layout.specs.Walks.Stages.{followSlot, followFiles, followDirectory}
 use Rattle.layout.proofs.Laws.Chains.{chain-next}
-use Rattle.layout.proofs.Laws.Lists.{range-next}
+use Rattle.layout.proofs.Laws.Lists.{interval-next}
 
 pub place-below : (n : ℕ) (ds : List ℕ) (d b k j : ℕ) → Blocks n d ds → Place ds d b k j → b < n
 place-below n ds d b k j bs p = rw (p .here) (bs .below (k / 4) (omega arith))
@@ -101,7 +101,7 @@ module _ (s ds : List ℕ) (k j : ℕ) where
 
   slots-suc : 0 < j → slotsOk s ds k j ≡ slotOk s (slotAt ds k) && slotsOk s ds (k + 1) (j - 1)
   unfolding slotsOk
-  slots-suc h = rw (range-next k j h)
+  slots-suc h = rw (interval-next k j h)
 
   pub slotsOk-next : (e : ℕ) → e ≡ slotAt ds k → 0 < j → true ≡ slotOk s e → slotsOk s ds k j ≡ slotsOk s ds (k + 1) (j - 1)
   slotsOk-next e q h t = slots-suc h ∙ rw (← q, ← t)
@@ -121,8 +121,8 @@ module _ (s ds : List ℕ) (k j : ℕ) where
     named-suc : 0 < j → nameIn s ds name k j ≡ (isFile (typeOf s (slotAt ds k)) && same name (nameOf s (slotAt ds k))) || nameIn s ds name (k + 1) (j - 1)
     unfolding nameIn
     named-suc h =
-        rw (range-next k j h) (keep-has (λ x. nameOf s (slotAt ds x)) (isFile (typeOf s (slotAt ds k))) k
-        (select (λ x. isFile (typeOf s (slotAt ds x))) (range (k + 1) (j - 1))))
+        rw (interval-next k j h) (keep-has (λ x. nameOf s (slotAt ds x)) (isFile (typeOf s (slotAt ds k))) k
+        (select (λ x. isFile (typeOf s (slotAt ds x))) (interval (k + 1) (j - 1))))
 
     pub nameIn-here : (e : ℕ) → e ≡ slotAt ds k → 0 < j → true ≡ isFile (typeOf s e) && same name (nameOf s e) → nameIn s ds name k j ≡ true
     nameIn-here e q h t = named-suc h ∙ rw (← q, ← t)
@@ -145,8 +145,8 @@ module _ (s ds : List ℕ) (k j : ℕ) where
       (j - 1)
   unfolding namesApart nameIn
   apart-suc h =
-      rw (range-next k j h) (keep-apart (λ x. nameOf s (slotAt ds x)) (isFile (typeOf s (slotAt ds k))) k
-      (select (λ x. isFile (typeOf s (slotAt ds x))) (range (k + 1) (j - 1))))
+      rw (interval-next k j h) (keep-apart (λ x. nameOf s (slotAt ds x)) (isFile (typeOf s (slotAt ds k))) k
+      (select (λ x. isFile (typeOf s (slotAt ds x))) (interval (k + 1) (j - 1))))
 
   pub namesApart-next : (e : ℕ) → e ≡ slotAt ds k → 0 < j → true ≡ not (isFile (typeOf s e)) || not (nameIn s ds (nameOf s e) (k + 1) (j - 1))
       → namesApart s ds k j ≡ namesApart s ds (k + 1) (j - 1)
@@ -171,7 +171,7 @@ module _ (s ds : List ℕ) (k j : ℕ) where
     files-suc : 0 < j
         → followFiles s n ds k j m ≡ (let w : Walk = followSlot s n (slotAt ds k) m in cond (w .ok) (followFiles s n ds (k + 1) (j - 1) (w .marks)) w)
     unfolding followFiles
-    files-suc h = rw (range-next k j h) (keep-walks _ (isFile (typeOf s (slotAt ds k))) refl)
+    files-suc h = rw (interval-next k j h) (keep-walks _ (isFile (typeOf s (slotAt ds k))) refl)
 
     pub followFiles-next : (m′ : List ℕ) (e : ℕ) → e ≡ slotAt ds k → 0 < j → walked true m′ ≡ followSlot s n e m
         → followFiles s n ds k j m ≡ followFiles s n ds (k + 1) (j - 1) m′
@@ -211,11 +211,11 @@ module _ (test : ℕ → Bool) (ds : List ℕ) (k j : ℕ) where
 
   pub slotFrom-here : (e : ℕ) → e ≡ slotAt ds k → 0 < j → true ≡ test e → slotFrom test ds k j ≡ k
   unfolding slotFrom
-  slotFrom-here e q h t = rw (range-next k j h, ← q, ← t)
+  slotFrom-here e q h t = rw (interval-next k j h, ← q, ← t)
 
   pub slotFrom-next : (e : ℕ) → e ≡ slotAt ds k → 0 < j → false ≡ test e → slotFrom test ds k j ≡ slotFrom test ds (k + 1) (j - 1)
   unfolding slotFrom
-  slotFrom-next e q h t = rw (range-next k j h, ← q, ← t)
+  slotFrom-next e q h t = rw (interval-next k j h, ← q, ← t)
 
 pub fileSlot-from : (s ds name : List ℕ) (d : ℕ) → length ds ≡ d → fileSlot s ds name ≡ slotFrom (fileNamed s name) ds 1 (4 * d - 2)
 unfolding fileSlot slotFrom

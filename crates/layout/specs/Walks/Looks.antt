@@ -27,6 +27,6 @@ pub record NoFile (slot block first size blocks : ℕ) : Type 0 where
 
 -- what opening a file gives: the number of its refusal, and if that is 0, the file
 pub record Opens (s name : List ℕ) (refusal number slot block first size blocks : ℕ) : Type 0 where
-  pub weighed : number ≡ refusal
+  pub number-is : number ≡ refusal
   pub file : number ≡ 0 → Located s name slot block first size blocks
   pub none : (number ≡ 0 → ⊥) → NoFile slot block first size blocks

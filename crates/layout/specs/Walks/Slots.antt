@@ -5,7 +5,7 @@ use mathlib.Core.List.{List, map}
 use mathlib.Core.Path.{_≡_}
 use lib.Dec.{eqb}
 use lib.ListN.{getD}
-use Rattle.layout.specs.Lists.{range, every, has, distinct, same, select, lowest}
+use Rattle.layout.specs.Lists.{interval, every, has, distinct, same, select, lowest}
 use Rattle.layout.specs.Directory.{slotAt, typeOf, isFree, isFile, nameOf}
 use Rattle.layout.specs.Check.{slotOk}
 
@@ -24,13 +24,13 @@ slotBlock v b k = cond (eqb (k % 4) 0) (v b) b
 
 -- of the slots k to k + j − 1 of a directory: each is free or a good file; a file has the name; no two files have the same; the files' chains
 unfoldable pub slotsOk : List ℕ → List ℕ → ℕ → ℕ → Bool
-slotsOk s ds k j = every (λ x. slotOk s (slotAt ds x)) (range k j)
+slotsOk s ds k j = every (λ x. slotOk s (slotAt ds x)) (interval k j)
 
 unfoldable pub nameIn : List ℕ → List ℕ → List ℕ → ℕ → ℕ → Bool
-nameIn s ds name k j = has same name (map (λ x. nameOf s (slotAt ds x)) (select (λ x. isFile (typeOf s (slotAt ds x))) (range k j)))
+nameIn s ds name k j = has same name (map (λ x. nameOf s (slotAt ds x)) (select (λ x. isFile (typeOf s (slotAt ds x))) (interval k j)))
 
 unfoldable pub namesApart : List ℕ → List ℕ → ℕ → ℕ → Bool
-namesApart s ds k j = distinct same (map (λ x. nameOf s (slotAt ds x)) (select (λ x. isFile (typeOf s (slotAt ds x))) (range k j)))
+namesApart s ds k j = distinct same (map (λ x. nameOf s (slotAt ds x)) (select (λ x. isFile (typeOf s (slotAt ds x))) (interval k j)))
 
 -- the tests that a search makes of an entry: a file of the name; a free slot
 abbrev pub fileNamed : List ℕ → List ℕ → ℕ → Bool
@@ -41,7 +41,7 @@ slotFree s e = isFree (typeOf s e)
 
 -- the lowest of the slots k to k + j − 1 whose entry passes a test, or 0
 unfoldable pub slotFrom : (ℕ → Bool) → List ℕ → ℕ → ℕ → ℕ
-slotFrom test ds k j = lowest (λ x. test (slotAt ds x)) (range k j)
+slotFrom test ds k j = lowest (λ x. test (slotAt ds x)) (interval k j)
 
 -- k is the slot x that a search gives, 0 if there is none; if it is not 0, b is its block
 pub record Stands (ds : List ℕ) (n x k b : ℕ) : Type 0 where

@@ -5,7 +5,7 @@ use mathlib.Core.List.{List}
 use mathlib.Core.Path.{_≡_}
 use lib.Dec.{eqb}
 use Rattle.layout.specs.Limits.{maxBlocks}
-use Rattle.layout.specs.Lists.{range, select, joined}
+use Rattle.layout.specs.Lists.{interval, select, joined}
 use Rattle.layout.specs.Refusals.{require}
 use Rattle.layout.specs.Bytes.{be32, zeros}
 use Rattle.layout.specs.Geometry.{tableBlocks, rootBlock}
@@ -22,7 +22,7 @@ unfoldable pub followSlot : List ℕ → ℕ → ℕ → List ℕ → Walk
 followSlot s n e m = cond (isFile (typeOf s e)) (follow (next s) n (blocksOf s e) (firstBlock s e) m) (walked true m)
 
 unfoldable pub followFiles : List ℕ → ℕ → List ℕ → ℕ → ℕ → List ℕ → Walk
-followFiles s n ds k j m = followAll (next s) n (joined (λ x. fileChains s (slotAt ds x)) (select (λ x. isFile (typeOf s (slotAt ds x))) (range k j))) m
+followFiles s n ds k j m = followAll (next s) n (joined (λ x. fileChains s (slotAt ds x)) (select (λ x. isFile (typeOf s (slotAt ds x))) (interval k j))) m
 
 -- a directory's self entry and chain
 unfoldable pub followDirectory : List ℕ → ℕ → ℕ → ℕ → List ℕ → Walk

@@ -9,7 +9,7 @@ use borrow.Author.Tests.{eqb-true, eq-eqb, leb-true}
 use lib.ListN.{length, getD, replicate, length-append, length-replicate, getD-replicate, List·getD-append}
 use lib.Seq.{ext-getD, getD-append-add}
 use lib.Dec.{eqb, leb}
-use Rattle.layout.specs.Lists.{within, range, joined}
+use Rattle.layout.specs.Lists.{within, interval, joined}
 use Rattle.layout.specs.Bytes.{be32, bytes4, zeros, splice}
 use Rattle.layout.specs.Geometry.{signature, blockCount, tableBlocks, rootBlock}
 use Rattle.layout.specs.Table.{next, chain, occupied}
@@ -28,7 +28,7 @@ use Rattle.layout.proofs.Laws.Counts.{occupied-front}
 use Rattle.layout.specs.Walks.Shapes.{Shape}
 use Rattle.layout.proofs.Walks.Stages.{stage1-shape}
 use Rattle.layout.proofs.Laws.Sound.{firstAt, heldAt, dirSize, Facts, Sound, check-zero}
-use Rattle.layout.proofs.Laws.Lists.{length-range, getD-range}
+use Rattle.layout.proofs.Laws.Lists.{length-interval, getD-interval}
 
 abbrev ones : ℕ → List ℕ
 ones k = replicate k 1
@@ -43,24 +43,24 @@ module _ (n d : ℕ) (d₁ : 1 ≤ d) where
 
   pub entries-length : length (firstEntries n d) ≡ r + d
   unfolding firstEntries
-  entries-length = simp (length-append, length-replicate, length-range) (omega arith)
+  entries-length = simp (length-append, length-replicate, length-interval) (omega arith)
 
   pub entry-low : (b : ℕ) → b < r → getD (firstEntries n d) b 0 ≡ 1
   unfolding firstEntries
   entry-low b h = List·getD-append (ones r) _ 0 b (omega (arith, length-ones r)) ∙ getD-replicate r b 1 0 h
 
-  from-root : (i : ℕ) → getD (firstEntries n d) (r + i) 0 ≡ getD (range (r + 1) (d - 1) ++ (1 ∷ [])) i 0
+  from-root : (i : ℕ) → getD (firstEntries n d) (r + i) 0 ≡ getD (interval (r + 1) (d - 1) ++ (1 ∷ [])) i 0
   unfolding firstEntries
-  from-root i = let e : r + i ≡ length (ones r) + i = omega (arith, length-ones r) in rw e (getD-append-add (ones r) (range (r + 1) (d - 1) ++ (1 ∷ [])) i 0)
+  from-root i = let e : r + i ≡ length (ones r) + i = omega (arith, length-ones r) in rw e (getD-append-add (ones r) (interval (r + 1) (d - 1) ++ (1 ∷ [])) i 0)
 
   pub entry-mid : (i : ℕ) → i < d - 1 → getD (firstEntries n d) (r + i) 0 ≡ r + i + 1
   entry-mid i h =
-      from-root i ∙ List·getD-append (range (r + 1) (d - 1)) (1 ∷ []) 0 i (omega (arith, length-range (r + 1) (d - 1))) ∙ getD-range (r + 1) (d - 1) i h ∙ omega arith
+      from-root i ∙ List·getD-append (interval (r + 1) (d - 1)) (1 ∷ []) 0 i (omega (arith, length-interval (r + 1) (d - 1))) ∙ getD-interval (r + 1) (d - 1) i h ∙ omega arith
 
   pub entry-end : getD (firstEntries n d) (r + (d - 1)) 0 ≡ 1
   entry-end =
-      from-root (d - 1) ∙ (let e : d - 1 ≡ length (range (r + 1) (d - 1)) + 0 = omega (arith, length-range (r + 1) (d - 1)) in
-      ap (λ (i : ℕ). getD (range (r + 1) (d - 1) ++ (1 ∷ [])) i 0) e ∙ getD-append-add (range (r + 1) (d - 1)) (1 ∷ []) 0 0)
+      from-root (d - 1) ∙ (let e : d - 1 ≡ length (interval (r + 1) (d - 1)) + 0 = omega (arith, length-interval (r + 1) (d - 1)) in
+      ap (λ (i : ℕ). getD (interval (r + 1) (d - 1) ++ (1 ∷ [])) i 0) e ∙ getD-append-add (interval (r + 1) (d - 1)) (1 ∷ []) 0 0)
 
 module _ (n d : ℕ) (uuid name : List ℕ) (time : ℕ) (n₁ : 3 ≤ n) (n₂ : n ≤ 4096) (d₁ : 1 ≤ d) (d₂ : d ≤ 64) (room : rootBlock n + d ≤ n)
     (uuid-16 : length uuid ≡ 16) (name-128 : length name ≡ 128)
@@ -90,18 +90,18 @@ module _ (n d : ℕ) (uuid name : List ℕ) (time : ℕ) (n₁ : 3 ≤ n) (n₂ 
     begun = splice tabled (512 * rootBlock n) self
 
     abbrev ds : List ℕ
-    ds = range (rootBlock n) d
+    ds = interval (rootBlock n) d
 
     abbrev done : List ℕ
     done = splice begun (slotAt ds (4 * d - 1)) (0xFF ∷ [])
 
     slot-of : (k : ℕ) → k < 4 * d → slotAt ds k ≡ 512 * (rootBlock n + k / 4) + 128 * (k % 4)
     unfolding slotAt
-    slot-of k h = rw (getD-range (rootBlock n) d (k / 4) (omega arith))
+    slot-of k h = rw (getD-interval (rootBlock n) d (k / 4) (omega arith))
 
     format-is : formatImage n d uuid name time ≡ done
     unfolding formatImage directoryMade
-    format-is = let z : rootBlock n + 0 ≡ rootBlock n = omega arith in rw (getD-range (rootBlock n) d 0 (omega arith), length-range (rootBlock n) d, z)
+    format-is = let z : rootBlock n + 0 ≡ rootBlock n = omega arith in rw (getD-interval (rootBlock n) d 0 (omega arith), length-interval (rootBlock n) d, z)
 
     -- lengths
     header-length : length header ≡ 32
@@ -350,8 +350,8 @@ module _ (n d : ℕ) (uuid name : List ℕ) (time : ℕ) (n₁ : 3 ≤ n) (n₂ 
     unfolding root
     done-root =
         rw (done-size, done-count)
-        (ext-getD 0 (chain (next done) (rootBlock n) d) ds (length-chain (next done) (rootBlock n) d ∙ sym (length-range (rootBlock n) d))
-        λ i h. let g : i < d = omega (arith, length-chain (next done) (rootBlock n) d) in getD-chain (next done) (rootBlock n) d i g ∙ along i g ∙ sym (getD-range (rootBlock n) d i g))
+        (ext-getD 0 (chain (next done) (rootBlock n) d) ds (length-chain (next done) (rootBlock n) d ∙ sym (length-interval (rootBlock n) d))
+        λ i h. let g : i < d = omega (arith, length-chain (next done) (rootBlock n) d) in getD-chain (next done) (rootBlock n) d i g ∙ along i g ∙ sym (getD-interval (rootBlock n) d i g))
 
     formatted-sound : Sound (formatImage n d uuid name time)
     formatted-sound = rw format-is (rw (done-root, done-size, done-count) facts)

@@ -327,14 +327,14 @@ module _ (s : List ℕ) (S : Sound s) where
         let first : (x : ℕ) → In x (entry / 512 ∷ []) → In x ns = in-single (entry / 512) ns (inl refl) in
         let larger = grown s n (lastOr 0 old) new in
         let filled = put larger (old ++ new) offset bytes in
-        let told = splice filled (entry + 4) p in
+        let renewed = splice filled (entry + 4) p in
         let a : Agree s larger ns = agree-more (grown-agree n (S .least) new s (lastOr 0 old) (S .whole) before new-below)
         (λ x i. inr (⊎-elim (λ j. in-left x holds entries (new-written x j)) (λ j. in-right x holds entries j) (in-append x new entries i))) in
         let b : Agree larger filled ns = agree-more (put-agree n (S .least) (old ++ new) larger offset bytes (a .size ∙ S .whole) inside) (λ x i. inr (in-left x holds entries i)) in
         let c : Agree s filled ns = agree-then a b (λ x i. i) (λ x i. i) in
-        let d : Agree s told ns = agree-then c (slot-agree slot h filled (entry + 4) p (c .size ∙ S .whole) (omega arith) (omega arith)) (λ x i. i) first in
+        let d : Agree s renewed ns = agree-then c (slot-agree slot h filled (entry + 4) p (c .size ∙ S .whole) (omega arith) (omega arith)) (λ x i. i) first in
         framed-by slot h (write name offset bytes time) (holds ++ entries) refl
-        (agree-then d (slot-agree slot h told (entry + 24) (bytes8 time) (d .size ∙ S .whole) (omega arith) (omega arith)) (λ x i. i) first)
+        (agree-then d (slot-agree slot h renewed (entry + 24) (bytes8 time) (d .size ∙ S .whole) (omega arith) (omega arith)) (λ x i. i) first)
         (λ x i. ⊎-elim (λ j. inside x (written-in (old ++ new) offset (length bytes) x j))
         (λ j. omega (arith, entries-low n (changedEntries (lastOr 0 old) new) (changed-below n (lastOr 0 old) new before new-below) x j, S .least)) (in-append x holds entries i))
 

@@ -1,4 +1,4 @@
--- Write: blocks are taken, the data is put, the entry is told anew. The image after it is sound; the file's content, blocks and entry are those
+-- Write: blocks are taken, the data is put, the entry is set anew. The image after it is sound; the file's content, blocks and entry are those
 -- that the write asks for, and the other files stay.
 use Prim.Native.Nat.{ℕ, zero, suc, _+_, _-_, _*_, _≤_, _<_, _/_, max}
 use mathlib.Core.Path.{_≡_, refl, sym, ap, _∙_, subst}
@@ -161,7 +161,7 @@ module _ (s : List ℕ) (S : Sound s) (k : ℕ) (k₁ : 1 ≤ k) (k₂ : k < 4 *
     pub larger-blocks : chain (next larger) first c ≡ old ++ new
     larger-blocks = chain-start (next larger) c first (grow .0) first-is ∙ grow .2
 
-    -- the entry, told anew
+    -- the entry, set anew
     fits : e + 128 ≤ length full
     fits = omega (arith, filled .len, slot-high s S k (omega arith))
 
@@ -201,8 +201,8 @@ module _ (s : List ℕ) (S : Sound s) (k : ℕ) (k₁ : 1 ≤ k) (k₂ : k < 4 *
     attribute-done i h g = same-be32 s done (e + i) 4 (e + i) (slot-same (e + i) 4 (omega arith) (omega arith) (inr (omega arith))) (omega arith) (omega arith)
 
     -- the image is sound
-    empty-told : iff (eqb first 0) (eqb size 0) ≡ true
-    empty-told = go c refl
+    empty-exact : iff (eqb first 0) (eqb size 0) ≡ true
+    empty-exact = go c refl
       where
         go : (x : ℕ) → c ≡ x → iff (eqb first 0) (eqb size 0) ≡ true
         go zero q = rw (eq-eqb first 0 (first-none q), eq-eqb size 0 (omega (arith, size-is)))
@@ -215,7 +215,7 @@ module _ (s : List ℕ) (S : Sound s) (k : ℕ) (k₁ : 1 ≤ k) (k₂ : k < 4 *
         let a = and-split (nameOk s e) _ w in
         let b = and-split (attributesOk s e) _ (a .1) in
         rw (type-done, file, name-done, field-done, attribute-done 32 (omega arith) (omega arith), attribute-done 36 (omega arith) (omega arith), first-done, size-done, blocks-done)
-        (ap (λ (x : Bool). isFree (typeOf s e) || x) (and-join (a .0) (and-join (b .0) (and-join (eq-eqb c (blocksFor size) size-is) empty-told))) ∙ or-true (isFree (typeOf s e)))
+        (ap (λ (x : Bool). isFree (typeOf s e) || x) (and-join (a .0) (and-join (b .0) (and-join (eq-eqb c (blocksFor size) size-is) empty-exact))) ∙ or-true (isFree (typeOf s e)))
 
     write-is : writeAt s e offset bytes time ≡ done
     unfolding writeAt

@@ -15,10 +15,10 @@ same-length-2 : tie.Need-same-length-2
 same-length-2 c = search needs
 
 returns : tie.Need-returns
-returns c = change-unready _ _ _ _ (c .before .inspect .ensures .weighed) (c .if1 .taken)
+returns c = change-unready _ _ _ _ (c .before .inspect .ensures .number-is) (c .if1 .taken)
 
 refusal-requires : tie.Need-refusal-requires
-refusal-requires c κs = ready _ _ (sym (c .before .before .inspect .ensures .weighed) ∙ c .before .if1 .left) .sound
+refusal-requires c κs = ready _ _ (sym (c .before .before .inspect .ensures .number-is) ∙ c .before .if1 .left) .sound
 
 same-length-3 : tie.Need-same-length-3
 same-length-3 c = search needs
@@ -30,7 +30,7 @@ returns-2 : tie.Need-returns-2
 returns-2 c =
     let if1 = c .before .before .before .if1 in
     let inspect = c .before .before .before .before .inspect in
-    change-refused _ _ _ (ready _ _ (sym (inspect .ensures .weighed) ∙ if1 .left)) _ (c .before .refusal .ensures) (c .if2 .taken)
+    change-refused _ _ _ (ready _ _ (sym (inspect .ensures .number-is) ∙ if1 .left)) _ (c .before .refusal .ensures) (c .if2 .taken)
 
 record-change-requires : tie.Need-record-change-requires
 record-change-requires c κs =
@@ -38,7 +38,7 @@ record-change-requires c κs =
     let refusal = c .before .before .before .refusal in
     let if1 = c .before .before .before .before .before .if1 in
     let inspect = c .before .before .before .before .before .before .inspect in
-    (ready _ _ (sym (inspect .ensures .weighed) ∙ if1 .left), sym (refusal .ensures) ∙ if2 .left)
+    (ready _ _ (sym (inspect .ensures .number-is) ∙ if1 .left), sym (refusal .ensures) ∙ if2 .left)
 
 same-length-5 : tie.Need-same-length-5
 same-length-5 c = search needs
@@ -53,7 +53,7 @@ returns-3 c =
     let refusal = c .before .before .before .before .before .before .before .refusal in
     let if1 = c .before .before .before .before .before .before .before .before .before .if1 in
     let inspect = c .before .before .before .before .before .before .before .before .before .before .inspect in
-    change-full _ _ _ (ready _ _ (sym (inspect .ensures .weighed) ∙ if1 .left)) (sym (refusal .ensures) ∙ if2 .left) _ _ (record-change .ensures) (c .if3 .taken)
+    change-full _ _ _ (ready _ _ (sym (inspect .ensures .number-is) ∙ if1 .left)) (sym (refusal .ensures) ∙ if2 .left) _ _ (record-change .ensures) (c .if3 .taken)
 
 make-requires : tie.Need-make-requires
 make-requires c κs =
@@ -61,7 +61,7 @@ make-requires c κs =
     let refusal = c .before .before .before .before .before .before .before .before .refusal in
     let if1 = c .before .before .before .before .before .before .before .before .before .before .if1 in
     let inspect = c .before .before .before .before .before .before .before .before .before .before .before .inspect in
-    (ready _ _ (sym (inspect .ensures .weighed) ∙ if1 .left) .sound, sym (refusal .ensures) ∙ if2 .left)
+    (ready _ _ (sym (inspect .ensures .number-is) ∙ if1 .left) .sound, sym (refusal .ensures) ∙ if2 .left)
 
 same-length-7 : tie.Need-same-length-7
 same-length-7 c = search needs
@@ -78,7 +78,7 @@ returns-4 c =
     let refusal = c .before .before .before .before .before .before .before .before .before .before .before .refusal in
     let if1 = c .before .before .before .before .before .before .before .before .before .before .before .before .before .if1 in
     let inspect = c .before .before .before .before .before .before .before .before .before .before .before .before .before .before .inspect in
-    change-done _ _ _ (ready _ _ (sym (inspect .ensures .weighed) ∙ if1 .left)) (sym (refusal .ensures) ∙ if2 .left) _ _ (record-change .ensures) (if3 .left) _ (make .ensures .0) _ (make .ensures .1)
+    change-done _ _ _ (ready _ _ (sym (inspect .ensures .number-is) ∙ if1 .left)) (sym (refusal .ensures) ∙ if2 .left) _ _ (record-change .ensures) (if3 .left) _ (make .ensures .0) _ (make .ensures .1)
 
 pub change-spec : {M : Type 1} → statement M
 change-spec =

@@ -16,7 +16,7 @@ same-length-2 : tie.Need-same-length-2
 same-length-2 c = search needs
 
 returns : tie.Need-returns
-returns c = undo-unready _ _ _ (c .before .inspect .ensures .weighed) (c .if1 .taken)
+returns c = undo-unready _ _ _ (c .before .inspect .ensures .number-is) (c .if1 .taken)
 
 same-length-3 : tie.Need-same-length-3
 same-length-3 c = search needs
@@ -26,12 +26,12 @@ same-length-4 c = search needs
 
 returns-2 : tie.Need-returns-2
 returns-2 c =
-    undo-none _ _ (ready _ _ (sym (c .before .before .inspect .ensures .weighed) ∙ c .before .if1 .left))
+    undo-none _ _ (ready _ _ (sym (c .before .before .inspect .ensures .number-is) ∙ c .before .if1 .left))
     (sym (c .before .before .inspect .ensures .found (c .before .if1 .left)) ∙ c .if2 .taken)
 
 take-back-requires : tie.Need-take-back-requires
 take-back-requires c κs =
-    last-ready (ready _ _ (sym (c .before .before .before .before .inspect .ensures .weighed) ∙ c .before .before .before .if1 .left))
+    last-ready (ready _ _ (sym (c .before .before .before .before .inspect .ensures .number-is) ∙ c .before .before .before .if1 .left))
     (c .before .before .before .before .inspect .ensures .found (c .before .before .before .if1 .left)) (c .before .before .if2 .left)
 
 same-length-5 : tie.Need-same-length-5
@@ -48,7 +48,7 @@ returns-3 c =
     let inspect = c .before .before .before .before .before .before .before .before .before .inspect in
     let t = take-back .ensures in
     undo-done _ _ _
-    (last-ready (ready _ _ (sym (inspect .ensures .weighed) ∙ if1 .left))
+    (last-ready (ready _ _ (sym (inspect .ensures .number-is) ∙ if1 .left))
     (inspect .ensures .found (if1 .left)) (if2 .left))
     _ (t .0) _ _ (t .1 .0) (t .1 .1)
 

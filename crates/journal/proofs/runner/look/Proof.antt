@@ -5,7 +5,7 @@ use borrow.Author.Needs.{needs}
 use Rattle.journal.proofs.runner.look.Statement.{statement}
 use Rattle.journal.proofs.runner.look.Tie as tie
 use Rattle.journal.proofs.Walks.Scripts.{size-low, size-read, size-look-in-place, is-check, is-lookup, is-read, is-look-in-place}
-use Rattle.journal.proofs.Walks.Making.{look-told}
+use Rattle.journal.proofs.Walks.Making.{look-answered}
 
 shared-slice-read-if1 : tie.Need-shared-slice-read-if1
 shared-slice-read-if1 c = search needs
@@ -20,7 +20,7 @@ same-length : tie.Need-same-length
 same-length c = search needs
 
 returns : tie.Need-returns
-returns c = λ j. look-told _ j _ _ _ (is-check _ _ (c .before .before .before .before .if1 .taken)) (c .before .before .check .ensures)
+returns c = λ j. look-answered _ j _ _ _ (is-check _ _ (c .before .before .before .before .if1 .taken)) (c .before .before .check .ensures)
 
 shared-slice-read-if2 : tie.Need-shared-slice-read-if2
 shared-slice-read-if2 c = search needs
@@ -35,7 +35,7 @@ same-length-2 : tie.Need-same-length-2
 same-length-2 c = search needs
 
 returns-2 : tie.Need-returns-2
-returns-2 c = λ j. look-told _ j _ _ _ (is-lookup _ _ (c .before .before .before .before .if2 .taken)) (c .before .before .lookup .ensures)
+returns-2 c = λ j. look-answered _ j _ _ _ (is-lookup _ _ (c .before .before .before .before .if2 .taken)) (c .before .before .lookup .ensures)
 
 shared-slice-read-if3 : tie.Need-shared-slice-read-if3
 shared-slice-read-if3 c = search needs
@@ -49,7 +49,7 @@ same-length-3 : tie.Need-same-length-3
 same-length-3 c = search needs
 
 returns-3 : tie.Need-returns-3
-returns-3 c = λ j. look-told _ j _ _ _ (is-read _ _ (c .before .before .before .before .if3 .taken)) (c .before .before .read .ensures)
+returns-3 c = λ j. look-answered _ j _ _ _ (is-read _ _ (c .before .before .before .before .if3 .taken)) (c .before .before .read .ensures)
 
 look-in-place-requires : tie.Need-look-in-place-requires
 look-in-place-requires c κs =
@@ -66,7 +66,7 @@ returns-4 c =
     let look-in-place = c .before .before .look-in-place in
     let a = c .before .before .before .before .before .before .before .before .before .before .before .before .before .args in
     let op : opAt (a .script .now) (a .at) ≡ 4 = omega arith in
-    λ j. look-told _ j _ _ _ (is-look-in-place _ _ op) (look-in-place .ensures)
+    λ j. look-answered _ j _ _ _ (is-look-in-place _ _ op) (look-in-place .ensures)
 
 pub look-spec : {M : Type 1} → statement M
 look-spec =

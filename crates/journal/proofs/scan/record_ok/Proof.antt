@@ -41,15 +41,15 @@ add-if4 c = search needs
 returns-4 : tie.Need-returns-4
 returns-4 c = sym (record-bad _ _ _ (λ f. omega (arith, f .inside, c .before .before .before .get32 .ensures)))
 
-numbers-ok-requires : tie.Need-numbers-ok-requires
-numbers-ok-requires c κs = search needs
+blocks-rise-requires : tie.Need-blocks-rise-requires
+blocks-rise-requires c κs = search needs
 
 returns-5 : tie.Need-returns-5
 unfolding copies
 returns-5 c =
     let a = c .before .before .before .before .before .before .before .args in
     let g = c .before .before .before .before .get32 .ensures in
-    c .numbers-ok .ensures ∙ sym (record-rest (a .journal .now) (a .n) (a .at) (omega arith) (omega arith) (omega arith) ∙ rw (← g))
+    c .blocks-rise .ensures ∙ sym (record-rest (a .journal .now) (a .n) (a .at) (omega arith) (omega arith) (omega arith) ∙ rw (← g))
 
 pub record-ok-spec : {M : Type 1} → statement M
 record-ok-spec =
@@ -66,5 +66,5 @@ record-ok-spec =
     returns-3
     add-if4
     returns-4
-    numbers-ok-requires
+    blocks-rise-requires
     returns-5)

@@ -23,24 +23,24 @@ returns-2 c =
     let e = c .before .before .name-length .ensures in
     sym (fieldOk-long _ (omega arith))
 
-sub-zeros : tie.Need-sub-zeros
-sub-zeros c = search needs
+sub-all-zero : tie.Need-sub-all-zero
+sub-all-zero c = search needs
 
-part-zeros-start : tie.Need-part-zeros-start
-part-zeros-start c = search needs
+part-all-zero-start : tie.Need-part-all-zero-start
+part-all-zero-start c = search needs
 
-part-zeros-end : tie.Need-part-zeros-end
-part-zeros-end c = search needs
+part-all-zero-end : tie.Need-part-all-zero-end
+part-all-zero-end c = search needs
 
-zeros-requires : tie.Need-zeros-requires
-zeros-requires c κs = search needs
+all-zero-requires : tie.Need-all-zero-requires
+all-zero-requires c κs = search needs
 
 returns-3 : tie.Need-returns-3
 returns-3 c =
     let f = c .before .before .before .before .before .before .args .field .now in
     let k : ℕ = c .before .before .before .before .name-length .result in
     let e : k ≡ length (unpadded f) = c .before .before .before .before .name-length .ensures in
-    c .zeros .ensures ∙ rw part-rest (ap (λ (j : ℕ). allZero (drop j f)) e ∙ sym (fieldOk-rest f (omega arith) (omega arith) (omega arith)))
+    c .all-zero .ensures ∙ rw part-rest (ap (λ (j : ℕ). allZero (drop j f)) e ∙ sym (fieldOk-rest f (omega arith) (omega arith) (omega arith)))
 
 pub name-ok-spec : {M : Type 1} → statement M
 name-ok-spec =
@@ -49,8 +49,8 @@ name-ok-spec =
     name-length-requires
     returns
     returns-2
-    sub-zeros
-    part-zeros-start
-    part-zeros-end
-    zeros-requires
+    sub-all-zero
+    part-all-zero-start
+    part-all-zero-end
+    all-zero-requires
     returns-3)

@@ -27,8 +27,8 @@ returns c =
     alone-other (a .image .now) (chain (next (a .image .now)) (a .first) (a .d)) (entryAt (a .b) (a .k)) (a .k + 1) (a .left - 1) _
     (c .before .before .type-at .ensures) (sym t ∙ c .before .is-file .ensures)
 
-taken-requires : tie.Need-taken-requires
-taken-requires c κs =
+name-in-requires : tie.Need-name-in-requires
+name-in-requires c κs =
     let t : c .before .is-file .result ≡ true = not-false _ (c .if1 .left) in
     let p = c .before .before .before .before .before .pre in
     let a = c .before .before .before .before .before .args in
@@ -42,8 +42,8 @@ returns-2 c =
     let p = c .before .before .before .before .before .before .pre in
     let ds = chain (next (a .image .now)) (a .first) (a .d) in
     alone-file (a .image .now) ds (entryAt (a .b) (a .k)) (a .k + 1) (a .left - 1) _ (c .before .before .before .type-at .ensures)
-    (sym t ∙ c .before .before .is-file .ensures) _ (slotAt ds (a .k)) (4 * a .d - 2 - a .k) (c .taken .ensures) (place-entry _ _ _ _ _ (p .1)) (omega arith)
+    (sym t ∙ c .before .before .is-file .ensures) _ (slotAt ds (a .k)) (4 * a .d - 2 - a .k) (c .name-in .ensures) (place-entry _ _ _ _ _ (p .1)) (omega arith)
 
 pub alone-spec : {M : Type 1} → statement M
 alone-spec =
-    tie.close (tie.spec type-at-requires is-file-requires returns taken-requires returns-2)
+    tie.close (tie.spec type-at-requires is-file-requires returns name-in-requires returns-2)

@@ -13,12 +13,12 @@ open-file-requires : tie.Need-open-file-requires
 open-file-requires c κs = search needs
 
 returns-2 : tie.Need-returns-2
-returns-2 c = name-refused _ _ _ _ (omega arith) _ (c .before .open-file .ensures .weighed) (c .if2 .taken)
+returns-2 c = name-refused _ _ _ _ (omega arith) _ (c .before .open-file .ensures .number-is) (c .if2 .taken)
 
 returns-3 : tie.Need-returns-3
 returns-3 c =
     let o = c .before .before .open-file .ensures in
-    offset-far _ _ _ _ (omega arith) (sym (o .weighed) ∙ c .before .if2 .left) (o .file (c .before .if2 .left)) (c .if3 .taken)
+    offset-far _ _ _ _ (omega arith) (sym (o .number-is) ∙ c .before .if2 .left) (o .file (c .before .if2 .left)) (c .if3 .taken)
 
 header-number-requires : tie.Need-header-number-requires
 header-number-requires c κs =
@@ -29,7 +29,7 @@ needed-requires : tie.Need-needed-requires
 needed-requires c κs =
     let o = c .before .before .before .open-file .ensures in
     let f = o .file (c .before .before .if2 .left) in
-    let z = sym (o .weighed) ∙ c .before .before .if2 .left in
+    let z = sym (o .number-is) ∙ c .before .before .if2 .left in
     let p = blocks-for f z (c .before .before .before .before .before .before .before .pre) in
     let q = blocks-most f z (c .before .before .before .before .before .before .before .pre) in
     (omega arith, omega arith, omega arith, omega arith)
@@ -42,7 +42,7 @@ returns-4 c =
     let p = c .before .before .before .before .before .before .before .before .before .pre in
     let o = open-file .ensures in
     let f = o .file (if2 .left) in
-    room-none _ _ _ _ (omega arith) (sym (o .weighed) ∙ if2 .left) f (p) (omega arith) _ _ (header-number .ensures) (c .before .needed .ensures) (c .if4 .taken)
+    room-none _ _ _ _ (omega arith) (sym (o .number-is) ∙ if2 .left) f (p) (omega arith) _ _ (header-number .ensures) (c .before .needed .ensures) (c .if4 .taken)
 
 returns-5 : tie.Need-returns-5
 returns-5 c =
@@ -52,7 +52,7 @@ returns-5 c =
     let p = c .before .before .before .before .before .before .before .before .before .pre in
     let o = open-file .ensures in
     let f = o .file (if2 .left) in
-    room-there _ _ _ _ (omega arith) (sym (o .weighed) ∙ if2 .left) f (p) (omega arith) _ _ (header-number .ensures) (c .before .needed .ensures) (c .if4 .left)
+    room-there _ _ _ _ (omega arith) (sym (o .number-is) ∙ if2 .left) f (p) (omega arith) _ _ (header-number .ensures) (c .before .needed .ensures) (c .if4 .left)
 
 pub write-refusal-spec : {M : Type 1} → statement M
 write-refusal-spec =

@@ -4,13 +4,13 @@ use Prim.Native.Nat.{_≤_, _-_}
 use native.Mathlib.Nat.{sub-zero}
 use native.Mathlib.Omega.{arith}
 use borrow.Author.Needs.{needs}
-use Rattle.journal.specs.Walks.Scanning.{numbersOk}
-use Rattle.journal.proofs.scan.numbers_ok.Statement.{statement}
-use Rattle.journal.proofs.scan.numbers_ok.Tie as tie
+use Rattle.journal.specs.Walks.Scanning.{blocksRise}
+use Rattle.journal.proofs.scan.blocks_rise.Statement.{statement}
+use Rattle.journal.proofs.scan.blocks_rise.Tie as tie
 use Rattle.journal.proofs.Walks.Scanning.{numbers-low, numbers-high, numbers-step, numbers-end}
 
 abbrev Inv-loop : tie.InvT-loop
-Inv-loop journal n at k low₀ i₀ low i = (i ≤ k) × (low ≤ 4096) × (numbersOk journal n at 0 0 k ≡ numbersOk journal n at low i (k - i))
+Inv-loop journal n at k low₀ i₀ low i = (i ≤ k) × (low ≤ 4096) × (blocksRise journal n at 0 0 k ≡ blocksRise journal n at low i (k - i))
 
 abbrev μ-loop : tie.MeasureT-loop
 μ-loop journal n at k low₀ i₀ low i = k - i
@@ -60,8 +60,8 @@ loop-again c =
 returns-3 : tie.Need-returns-3 Inv-loop μ-loop
 returns-3 c = sym (c .before .loop .inv .2 ∙ numbers-end _ _ _ _ _ _ (omega arith))
 
-pub numbers-ok-spec : {M : Type 1} → statement M
-numbers-ok-spec =
+pub blocks-rise-spec : {M : Type 1} → statement M
+blocks-rise-spec =
     tie.close
     (tie.spec
     Inv-loop

@@ -7,8 +7,8 @@ use Rattle.layout.specs.Directory.{slotAt, nameOf}
 use Rattle.layout.specs.Walks.Slots.{nameIn}
 use Rattle.layout.proofs.Walks.Fingerprints.{good-slot, nameIn-nearest}
 use Rattle.layout.proofs.Walks.Slots.{nameIn-end, nameIn-here, nameIn-next}
-use Rattle.layout.proofs.names.taken.Statement.{statement}
-use Rattle.layout.proofs.names.taken.Tie as tie
+use Rattle.layout.proofs.names.name_in.Statement.{statement}
+use Rattle.layout.proofs.names.name_in.Tie as tie
 
 abbrev Inv-loop : tie.InvT-loop
 Inv-loop image n first d prints k end p i₀ i =
@@ -96,8 +96,8 @@ returns-2 c =
     let l = c .before .loop in
     sym (l .inv .4 ∙ nameIn-end _ _ _ _ _ (omega arith))
 
-pub taken-spec : {M : Type 1} → statement M
-taken-spec =
+pub name-in-spec : {M : Type 1} → statement M
+name-in-spec =
     tie.close
     (tie.spec
     Inv-loop
