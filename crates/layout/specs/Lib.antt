@@ -8,5 +8,6 @@ pub mod Directory
 pub mod Check
 pub mod Looks
 pub mod Listing
+pub mod Claims
 pub mod Walks
 pub mod Answers

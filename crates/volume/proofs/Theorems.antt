@@ -1,10 +1,10 @@
 -- The theorems of the volume, over its definitions. `check s ≡ 0` says that the image s is sound, and `refusal s c ≡ 0` that the change c is
 -- accepted on it; `after s c` is then the image after it, and `named s c` its named blocks. The proofs are in Laws.
-use Prim.Native.Nat.{ℕ, _-_, _*_, _/_, _<_, min}
+use Prim.Native.Nat.{ℕ, _-_, _*_, _/_, _≤_, _<_, min}
 use mathlib.Core.Path.{_≡_}
 use mathlib.Core.Bool.{true, false}
 use mathlib.Core.List.{List, [], _++_}
-use mathlib.Core.Logic.{_≢_}
+use mathlib.Core.Logic.{_≢_, _⊎_}
 use lib.ListN.{length, getD}
 use lib.Dec.{eqb}
 use Rattle.layout.specs.Lists.{has}
@@ -14,22 +14,23 @@ use Rattle.layout.specs.Table.{next, freeBlocks}
 use Rattle.layout.specs.Directory.{sizeOf, blocksOf, fileSlot, root, fileBlocks, content}
 use Rattle.layout.specs.Check.{check}
 use Rattle.layout.specs.Looks.{entryOf, lookup, lookupRefusal, read, lookInPlace}
+use Rattle.layout.specs.Claims.{LowestFree, Untouched}
 use Rattle.volume.specs.Entries.{entryBytes}
 use Rattle.volume.specs.Format.{formatRefusal, formatted}
 use Rattle.volume.specs.Write.{needed, newBlocks}
+use Rattle.volume.specs.Claims.{subject, NoRoom, Written}
 use Rattle.volume.specs.Change.{Change, create, write, delete, refusal, after, named, slotGiven}
 use Rattle.volume.proofs.Laws.Frame.{frame}
 use Rattle.volume.proofs.Laws.Format.{sound-format}
 use Rattle.volume.proofs.Laws.Sound.{kept}
 use Rattle.volume.proofs.Laws.Accepted.{write-given}
-use Rattle.volume.proofs.Laws.Content.{subject, others-untouched, write-entry as entry-written, write-content as content-written, read-back as written-back, create-found as found-created, create-content as content-created, create-bytes as bytes-created, delete-refused as refused-deleted}
-use Rattle.volume.proofs.Laws.Write.{Written}
-use Rattle.volume.proofs.Laws.Space.{NoRoom, refused-14, lacking-14, new-lowest, new-length}
+use Rattle.volume.proofs.Laws.Content.{others-untouched, write-entry as entry-written, write-content as content-written, read-back as written-back, create-found as found-created, create-content as content-created, create-bytes as bytes-created, delete-refused as refused-deleted}
+use Rattle.volume.proofs.Laws.Space.{refused-14, lacking-14, new-lowest, new-length}
 use Rattle.layout.proofs.Laws.Sound.{sound}
 use Rattle.layout.proofs.Laws.Lists.{has-eqb-in, false-has}
-use Rattle.layout.proofs.Laws.Owners.{LowestFree, free-count as count-free, file-owner, root-owner}
-use Rattle.layout.proofs.Laws.Others.{Untouched, lookup-stays, read-stays, look-stays}
-use Rattle.layout.proofs.Laws.Looks.{look-content as content-looked}
+use Rattle.layout.proofs.Laws.Owners.{free-count as count-free, file-owner, root-owner}
+use Rattle.layout.proofs.Laws.Others.{lookup-stays, read-stays, look-stays}
+use Rattle.layout.proofs.Laws.Looks.{look-content as content-looked, look-empty as empty-refused, look-empty-only as refused-empty}
 
 -- Format's image is sound. (That a UUID has sixteen bytes is its type's.)
 pub format-sound : (s : List ℕ) (d : ℕ) (uuid name : List ℕ) (time : ℕ) → length uuid ≡ 16 → formatRefusal s d name ≡ 0 → check (formatted s d uuid name time) ≡ 0
@@ -41,6 +42,13 @@ pub no-room : (s name : List ℕ) (offset : ℕ) (bytes : List ℕ) (time : ℕ)
     → (refusal s (write name offset bytes time) ≡ 14 → NoRoom s name offset (length bytes)) × (NoRoom s name offset (length bytes) → refusal s (write name offset bytes time) ≡ 14)
 unfolding refusal
 no-room s name offset bytes time = (refused-14 s name offset (length bytes), lacking-14 s name offset (length bytes))
+
+-- Look in place "hands back an empty part exactly if it refuses or i is not below the file's blocks", on any image.
+pub look-empty : (s name : List ℕ) (i : ℕ) → (lookupRefusal s name ≢ 0) ⊎ (blocksOf s (entryOf s name) ≤ i) → lookInPlace s name i ≡ []
+look-empty = empty-refused
+
+pub look-empty-only : (s name : List ℕ) (i : ℕ) → lookInPlace s name i ≡ [] → (lookupRefusal s name ≢ 0) ⊎ (blocksOf s (entryOf s name) ≤ i)
+look-empty-only = refused-empty
 
 -- A sound image s.
 module _ (s : List ℕ) (ok : check s ≡ 0) where

@@ -1,4 +1,4 @@
--- The laws of one call of a run: an accepted change keeps the property Made of states, and undo takes it back, byte for byte; at the start
+-- The laws of one call of a run: an accepted change keeps what every run keeps (RunInvariant), and undo takes it back, byte for byte; at the start
 -- undo gives 16. From the soundness law and the frame law of the changes.
 use Prim.Native.Nat.{ℕ, _+_, _-_, _≤_}
 use mathlib.Core.Path.{_≡_, refl, _∙_}
@@ -13,6 +13,7 @@ use Rattle.layout.specs.Check.{check}
 use Rattle.volume.specs.Change.{Change, refusal, after, named}
 use Rattle.journal.specs.Journal.{used, started, recordsFrom, records, wellFormed, ascending, added, lastRecord, undoneImage}
 use Rattle.journal.specs.Run.{State, undone, recordOf, changeRefusal, afterChange, undoRefusal, afterUndo, undoAnswer}
+use Rattle.journal.specs.Replay.{RunInvariant}
 use Rattle.layout.specs.Limits.{minJournal, maxJournal}
 use Rattle.volume.proofs.Laws.Frame.{Framed, frame}
 use Rattle.volume.proofs.Laws.Sound.{KeptSound}
@@ -22,16 +23,7 @@ use Rattle.layout.proofs.Laws.Sound.{Sound, sound}
 use Rattle.journal.proofs.Laws.Ascending.{ascending-below, ascending-rising, ascending-all}
 use Rattle.journal.proofs.Laws.Restore.{puts-back, agree-ascending}
 use Rattle.journal.proofs.Laws.Shape.{used-filled, version-filled, started-filled, length-started}
-use Rattle.journal.proofs.Laws.Append.{well, well-ok, Shaped, Appended, appended}
-
--- THE PROPERTY OF PAIRS that a run keeps, of n blocks and a journal of a size: the image is sound, the journal is well formed and has zeros past
--- the used part, and the lengths are those of the start.
-pub record RunInvariant (n size : ℕ) (p : State) : Type 0 where
-  pub sound : check (p .image) ≡ 0
-  pub blocks : blockCount (p .image) ≡ n
-  pub well-formed : wellFormed (p .journal) (blockCount (p .image)) ≡ true
-  pub long : length (p .journal) ≡ size
-  pub shaped : Shaped (p .journal)
+use Rattle.journal.proofs.Laws.Append.{well, well-ok, Appended, appended}
 
 -- what an accepted change has asked
 pub record Accepted (p : State) (c : Change) : Type 0 where

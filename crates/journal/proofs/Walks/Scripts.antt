@@ -6,7 +6,7 @@ use mathlib.Core.List.{List, [], _∷_, map}
 use native.Mathlib.Omega.{arith}
 use borrow.Author.Tests.{le-leb, lt-leb, leb-true, leb-false, ne-eqb}
 use lib.Dec.{leb, eqb}
-use lib.ListN.{length, getD}
+use lib.ListN.{length}
 use Rattle.layout.specs.Lists.{every}
 use Rattle.layout.specs.Bytes.{be32}
 use Rattle.journal.specs.Run.{Call, change, undo, look, checkImage, findFile, readFile, lookAt}

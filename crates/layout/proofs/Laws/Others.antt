@@ -16,6 +16,7 @@ use Rattle.layout.specs.Table.{next}
 use Rattle.layout.specs.Directory.{slotAt, typeOf, sizeOf, blocksOf, isFile, nameOf, fileSlot, root, fileBlocks, content, goodName}
 use Rattle.layout.specs.Looks.{lookInPlace, extentOf, entryOf, nameRefusal, lookupRefusal, readRefusal, read, lookup}
 use Rattle.layout.specs.Check.{check}
+use Rattle.layout.specs.Claims.{Untouched}
 use Rattle.layout.proofs.Laws.Tests.{and-split, is-false, lt-or-gt, lt-or-ge, and-join, true-not-false}
 use Rattle.layout.proofs.Laws.Names.{same-eq, same-refl}
 use Rattle.layout.proofs.Laws.Frames.{Same, same-then, same-part, same-inner, before-next}
@@ -151,14 +152,6 @@ module _ (s : List ℕ) (S : Sound s) (k : ℕ) (k₁ : 1 ≤ k) (k₂ : k < 4 *
           (λ j h ne x g. before-next u s′ (blockCount s) before (nth (next s) x (firstAt s (root s) j)) (omega (arith, held-below s S j h x g)) ∙ values j h ne x g)
           (λ j h g ne x y. slot-elsewhere s S k (omega arith) u s′ lu len outside (nth (next s) x (firstAt s (root s) j)) (held-below s S j g x y)
           (root-apart s S j g x y (λ z. omega arith) (k / 4) (omega arith)) ∙ stuff j h g ne x y)
-
--- a file of another name: found where it was, its entry's bytes, its blocks and its content as they were
-pub record Untouched (s s′ other : List ℕ) : Type 0 where
-  pub slot : fileSlot s′ (root s′) other ≡ fileSlot s (root s) other
-  pub entry : entryOf s′ other ≡ entryOf s other
-  pub bytes : fileSlot s (root s) other ≢ 0 → part s′ (entryOf s other) 128 ≡ part s (entryOf s other) 128
-  pub blocks : fileSlot s (root s) other ≢ 0 → fileBlocks s′ (entryOf s other) ≡ fileBlocks s (entryOf s other)
-  pub contents : fileSlot s (root s) other ≢ 0 → content s′ (entryOf s other) ≡ content s (entryOf s other)
 
 -- the test at the changed slot does not see the other name, before or after
 module _ (s s′ : List ℕ) (k : ℕ) (k₁ : 1 ≤ k) (k₂ : k < 4 * dirSize s - 1) (O : Others s s′ k) (other : List ℕ)

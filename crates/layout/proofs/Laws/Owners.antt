@@ -7,7 +7,7 @@ use mathlib.Core.Logic.{_⊎_, inl, inr, ⊎-elim, _≢_}
 use native.Mathlib.Omega.{arith}
 use native.Mathlib.Decide.{ℕ-discrete}
 use borrow.Author.Tests.{eqb-true, eq-eqb}
-use lib.ListN.{length, getD, length-take, take, drop, take-append-drop}
+use lib.ListN.{length, length-take, take, drop, take-append-drop}
 use lib.Dec.{eqb}
 use lib.Seq.{getD-take}
 use Rattle.layout.specs.Looks.{entryOf}
@@ -16,8 +16,9 @@ use Rattle.layout.specs.Geometry.{blockCount, tableBlocks}
 use Rattle.layout.specs.Table.{next, chain, freeBlocks, occupied}
 use Rattle.layout.specs.Bytes.{block, be32}
 use Rattle.layout.specs.Lists.{interval, select, distinct}
+use Rattle.layout.specs.Claims.{LowestFree}
 use Rattle.layout.proofs.Laws.Tests.{lt-or-gt, lt-or-ge}
-use Rattle.layout.proofs.Laws.Lists.{In, distinct-left, in-take, select-in, select-ascends, select-lowest, select-distinct, select-split}
+use Rattle.layout.proofs.Laws.Lists.{In, has-eqb-in, in-has-eqb, distinct-left, in-take, select-in, select-ascends, select-lowest, select-distinct, select-split}
 use Rattle.layout.proofs.Laws.Chains.{nth, chain-used, in-chain}
 use Rattle.layout.proofs.Laws.Sound.{firstAt, heldAt, file-held, rootOf, dirSize, Sound, firstAt-zero, heldAt-zero}
 use Rattle.layout.proofs.Laws.Files.{slotAt-root, named-slot, named-name}
@@ -177,20 +178,15 @@ free-fresh s S j =
     high x w (inl h) = h
     high x w (inr h) = absurd (omega (arith, S .table .low x h, eqb-true (next s x) 0 (w .2)))
 
--- the lowest free blocks, in ascending order
-pub record LowestFree (s bs : List ℕ) : Type 0 where
-  pub free : (b : ℕ) → In b bs → (b < blockCount s) × (next s b ≡ 0)
-  pub rising : (i j : ℕ) → i < j → j < length bs → getD bs i 0 < getD bs j 0
-  pub lowest : (b c : ℕ) → In c bs → b < c → next s b ≡ 0 → In b bs
-
+-- the first j free blocks are the lowest ones, in ascending order
 pub free-lowest : (s : List ℕ) (j : ℕ) → LowestFree s (take j (freeBlocks (next s) (blockCount s)))
 unfolding freeBlocks
 free-lowest s j =
     record {
-      free = λ b i. let w = select-in (λ x. eqb (next s x) 0) 0 (blockCount s) b (in-take b j all i) in (omega arith, eqb-true (next s b) 0 (w .2));
+      free = λ b i. let w = select-in (λ x. eqb (next s x) 0) 0 (blockCount s) b (in-take b j all (has-eqb-in b (take j all) i)) in (omega arith, eqb-true (next s b) 0 (w .2));
       rising = λ i k h g. let l = length-take j all in
           rw (getD-take j all i 0 (omega arith), getD-take j all k 0 (omega arith)) (select-ascends (λ x. eqb (next s x) 0) (blockCount s) 0 i k h (omega arith));
-      lowest = λ b c i lt z. select-lowest (λ x. eqb (next s x) 0) (blockCount s) 0 j b c i lt (omega arith) (eq-eqb (next s b) 0 z);
+      lowest = λ b c i lt z. in-has-eqb b (take j all) (select-lowest (λ x. eqb (next s x) 0) (blockCount s) 0 j b c (has-eqb-in c (take j all) i) lt (omega arith) (eq-eqb (next s b) 0 z));
     }
   where
     all : List ℕ

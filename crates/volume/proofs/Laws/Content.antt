@@ -14,22 +14,18 @@ use Rattle.layout.specs.Check.{check}
 use Rattle.volume.specs.Entries.{entryBytes}
 use Rattle.volume.specs.Create.{createSlot}
 use Rattle.volume.specs.Change.{create, write, delete, refusal, after, slotGiven, Change}
+use Rattle.layout.specs.Claims.{Untouched}
+use Rattle.volume.specs.Claims.{subject, Written}
 use Rattle.volume.proofs.Laws.Create.{created-bytes, created-name, created-content, created-others, created-found}
 use Rattle.volume.proofs.Laws.Accepted.{CreateGiven, create-given, WriteGiven, write-given}
 use Rattle.volume.proofs.Laws.Sound.{kept}
 use Rattle.volume.proofs.Laws.Delete.{deleted-others, deleted-type}
-use Rattle.volume.proofs.Laws.Write.{Written, written-others, written-file}
+use Rattle.volume.proofs.Laws.Write.{written-others, written-file}
 use Rattle.layout.proofs.Laws.Bytes.{splice-whole, part-splice}
 use Rattle.layout.proofs.Laws.Sound.{dirSize, Sound, sound}
 use Rattle.layout.proofs.Laws.Files.{named-slot, named-name, free-slot, file-of, length-content}
 use Rattle.layout.proofs.Laws.Looks.{file-given, good-given}
-use Rattle.layout.proofs.Laws.Others.{Others, found-same, found-gone, only-name, Untouched, untouched, not-named, not-file}
-
--- the name that a change is about
-abbrev pub subject : Change → List ℕ
-subject (create name type user group permissions flags time) = name
-subject (write name offset bytes time) = name
-subject (delete name) = name
+use Rattle.layout.proofs.Laws.Others.{Others, found-same, found-gone, only-name, untouched, not-named, not-file}
 
 module _ (s : List ℕ) (ok : check s ≡ 0) where
   S : Sound s

@@ -1,7 +1,7 @@
 -- Space: the blocks that a write takes, and the refusal for want of room.
 use Prim.Native.Nat.{ℕ, _≤_, _<_, _+_, _-_, _*_}
 use mathlib.Core.List.{_++_, List}
-use mathlib.Core.Logic.{⊎-elim, _≢_}
+use mathlib.Core.Logic.{⊎-elim}
 use mathlib.Core.Path.{ap, _≡_, refl, _∙_}
 use mathlib.Core.Bool.{Bool, true, false, not, _&&_}
 use native.Mathlib.Omega.{arith}
@@ -15,11 +15,13 @@ use Rattle.layout.specs.Table.{next, freeBlocks}
 use Rattle.layout.specs.Refusals.{require}
 use Rattle.layout.specs.Limits.{maxData}
 use Rattle.layout.specs.Looks.{entryOf}
+use Rattle.layout.specs.Claims.{LowestFree}
+use Rattle.volume.specs.Claims.{NoRoom}
 use Rattle.volume.specs.Write.{newSize, needed, newBlocks, writeAtRefusal, writeRefusal}
 use Rattle.layout.proofs.Laws.Sound.{dirSize, Sound}
 use Rattle.layout.proofs.Laws.Lists.{in-append, In, last-in}
 use Rattle.layout.proofs.Laws.Tests.{and-split, is-false}
-use Rattle.layout.proofs.Laws.Owners.{file-above, file-below, Fresh, free-fresh, LowestFree, free-lowest}
+use Rattle.layout.proofs.Laws.Owners.{file-above, file-below, Fresh, free-fresh, free-lowest}
 use Rattle.layout.proofs.Laws.Files.{length-fileBlocks, file-in}
 
 -- the blocks that a write takes
@@ -64,14 +66,7 @@ module _ (s : List ℕ) (S : Sound s) (k : ℕ) (k₂ : k < 4 * dirSize s - 1) (
   unfolding newSize needed
   all-size k₁ room = omega (arith, new-length s (slotAt (root s) k) offset count room, file-in s S k k₁ k₂ file .blocks)
 
--- why a write is refused with 14: no lower number applies, and fewer blocks are free than needed
-pub record NoRoom (s name : List ℕ) (offset count : ℕ) : Type 0 where
-  pub good : goodName name ≡ true
-  pub few : count ≤ maxData
-  pub there : fileSlot s (root s) name ≢ 0
-  pub within-size : offset ≤ sizeOf s (entryOf s name)
-  pub lacking : length (freeBlocks (next s) (blockCount s)) < needed s (entryOf s name) offset count
-
+-- when a write is refused with 14
 module _ (s name : List ℕ) (offset count : ℕ) where
   abbrev free : ℕ
   free = length (freeBlocks (next s) (blockCount s))

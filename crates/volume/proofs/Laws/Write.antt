@@ -1,6 +1,6 @@
 -- Write: blocks are taken, the data is put, the entry is set anew. The image after it is sound; the file's content, blocks and entry are those
 -- that the write asks for, and the other files stay.
-use Prim.Native.Nat.{ℕ, zero, suc, _+_, _-_, _*_, _≤_, _<_, _/_, max}
+use Prim.Native.Nat.{ℕ, zero, suc, _+_, _-_, _*_, _≤_, _<_, _/_}
 use mathlib.Core.Path.{_≡_, refl, sym, ap, _∙_, subst}
 use mathlib.Core.Bool.{Bool, true, _||_, or-true}
 use mathlib.Core.List.{List, _∷_, _++_, []}
@@ -12,12 +12,13 @@ use lib.ListN.{length, getD, take, drop, length-take, List·getD-eq-default}
 use lib.Dec.{eqb}
 use lib.Seq.{take-append-le}
 use Rattle.layout.specs.Lists.{iff, lastOr, distinct, joined}
-use Rattle.layout.specs.Bytes.{be32, bytes8, part, splice, zeros, block}
+use Rattle.layout.specs.Bytes.{be32, part, splice, zeros, block}
 use Rattle.layout.specs.Geometry.{blockCount, tableBlocks, blocksFor}
 use Rattle.layout.specs.Table.{next, chain, freeBlocks, tableBlockOf}
 use Rattle.layout.specs.Directory.{slotAt, typeOf, firstBlock, sizeOf, blocksOf, isFree, isFile, nameOf, nameOk, fileSlot, root, fileBlocks, content}
 use Rattle.layout.specs.Check.{attributesOk, fileOk, slotOk, check}
 use Rattle.layout.specs.Looks.{entryOf}
+use Rattle.volume.specs.Claims.{Written}
 use Rattle.volume.specs.Entries.{grown, entriesNamed}
 use Rattle.volume.specs.Write.{newSize, needed, newBlocks, put, setFile, writeAt, writeRefusal, changedEntries}
 use Rattle.volume.proofs.Laws.Growth.{grown-steps}
@@ -38,21 +39,6 @@ use Rattle.layout.proofs.Laws.Files.{slot-high, slot-low, named-slot, file-in, 
 use Rattle.layout.proofs.Laws.Owners.{held-above, held-below, held-used, file-holds, file-above, file-below, file-used, slot-elsewhere, Fresh, file-apart}
 use Rattle.layout.proofs.Laws.Steps.{over-same, Midway, midway-start, dir-apart, midway-end, bytes-step}
 use Rattle.layout.proofs.Laws.Others.{Others, other-name, slot-changed}
-
--- what an accepted write makes of the entry at e, and of its file
-pub record Written (s s′ : List ℕ) (e offset : ℕ) (bytes : List ℕ) (time : ℕ) : Type 0 where
-  pub contents : content s′ e ≡ splice (content s e) offset bytes
-  pub size : sizeOf s′ e ≡ max (sizeOf s e) (offset + length bytes)
-  pub blocks : fileBlocks s′ e ≡ fileBlocks s e ++ newBlocks s e offset (length bytes)
-  -- the bytes of its blocks, also those past the size: what is new is zero but for the data
-  pub whole : joined (block s′) (fileBlocks s′ e) ≡ splice (joined (block s) (fileBlocks s e) ++ zeros (512 * length (newBlocks s e offset (length bytes)))) offset bytes
-  -- type, user, group and permissions; time created; time modified; attributes, system flags, reserved and name
-  pub kind : part s′ e 4 ≡ part s e 4
-  pub created : part s′ (e + 16) 8 ≡ part s (e + 16) 8
-  pub modified : part s′ (e + 24) 8 ≡ bytes8 time
-  pub rest : part s′ (e + 32) 96 ≡ part s (e + 32) 96
-  pub type : typeOf s′ e ≡ typeOf s e
-  pub name : nameOf s′ e ≡ nameOf s e
 
 module _ (s : List ℕ) (S : Sound s) (k : ℕ) (k₁ : 1 ≤ k) (k₂ : k < 4 * dirSize s - 1) where
   abbrev n : ℕ
