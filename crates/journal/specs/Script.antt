@@ -44,7 +44,10 @@ abbrev pub Fits : List ℕ → ℕ → Type 0
 Fits s at = at + itemSize s at ≤ length s
 
 -- Ops: 1 check, 2 look up, 3 read (the data is its buffer as it is before the call), 4 look in place (the offset is its index), 5 create, 6 write,
--- 7 delete, 8 undo.
+-- 7 delete, 8 undo, which is the last.
+abbrev pub lastOp : ℕ
+lastOp = 8
+
 unfoldable pub changeAt : List ℕ → ℕ → Change
 changeAt s at =
     let name = nameAt s at in
@@ -64,7 +67,7 @@ callAt s at =
 
 -- an item that is not cut off, with a known op
 unfoldable pub itemOk : List ℕ → ℕ → Bool
-itemOk s at = leb (at + itemSize s at) (length s) && within 1 8 (opAt s at)
+itemOk s at = leb (at + itemSize s at) (length s) && within 1 lastOp (opAt s at)
 
 -- the offsets of the items from `at` on, each where the one before it ends; the calls of a script
 unfoldable pub itemsFrom : List ℕ → ℕ → List ℕ

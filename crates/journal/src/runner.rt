@@ -9,7 +9,7 @@ ghost use Rattle.layout.specs.Bytes.{splice};
 ghost use Rattle.journal.specs.Run.{undo, answer, run, answers, state};
 ghost use Rattle.journal.specs.Answers.{changedAnswer, undoneAnswer};
 ghost use Rattle.volume.specs.Asked.{asked};
-ghost use Rattle.journal.specs.Script.{numbers, Fits, nameAt, dataAt, opAt, changeAt, callAt, encoded, itemOk, itemsFrom, callsOf, answersSize, leaves, outcome, replayOutcome, JustStarted};
+ghost use Rattle.journal.specs.Script.{numbers, lastOp, Fits, nameAt, dataAt, opAt, changeAt, callAt, encoded, itemOk, itemsFrom, callsOf, answersSize, leaves, outcome, replayOutcome, JustStarted};
 ghost use Rattle.journal.specs.Walks.Scripts.{Item, CallDone};
 use super::answers::Numbers;
 use super::script::data_of;
@@ -130,7 +130,7 @@ fn change(script: &[u8], at: usize, image: &mut [u8], journal: &mut [u8], part: 
 
 // Make the call of the item at `at`.
 fn make(script: &[u8], at: usize, image: &mut [u8], journal: &mut [u8], part: &mut [u8])
-    requires { ⌜ (Item (now script) at (now part)) × (1 ≤ opAt (now script) at) × (opAt (now script) at ≤ 8) ⌝ }
+    requires { ⌜ (Item (now script) at (now part)) × (1 ≤ opAt (now script) at) × (opAt (now script) at ≤ lastOp) ⌝ }
     ensures { λ _. ⌜ CallDone (state (now (image .entry)) (now (journal .entry))) (callAt (now (script .entry)) at) (now (image .exit)) (now (journal .exit)) (now (part .exit)) ⌝ }
 {
     if script[at] <= 4 {
