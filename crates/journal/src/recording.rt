@@ -11,7 +11,7 @@ ghost use Rattle.journal.specs.Walks.Saves.{Marks, markedFrom};
 ghost use Rattle.journal.specs.Walks.Changes.{Ready, Recorded, recordMarked};
 
 // The length of the record of the marked blocks below n.
-pub fn record_size(marks: &[u8], n: usize) -> usize
+fn record_size(marks: &[u8], n: usize) -> usize
     requires { ⌜ (length (now marks) ≡ maxBlocks) × (n ≤ maxBlocks) ⌝ }
     ensures { λ r. ⌜ r ≡ 4 + 516 * length (markedFrom (now (marks .entry)) 0 n) ⌝ }
 {
@@ -55,7 +55,7 @@ fn save_blocks(image: &[u8], journal: &mut [u8], marks: &[u8], n: usize, at: usi
 }
 
 // Adds the record of the marked blocks below n, of `size` bytes, which the journal has room for.
-pub fn add_record(image: &[u8], journal: &mut [u8], marks: &[u8], n: usize, size: usize)
+fn add_record(image: &[u8], journal: &mut [u8], marks: &[u8], n: usize, size: usize)
     requires { ⌜ (Marks (now image) (now marks) n) × (size ≡ 4 + 516 * length (markedFrom (now marks) 0 n)) ⌝ }
     requires { ⌜ (5 ≤ used (now journal)) × (used (now journal) + size ≤ length (now journal)) × (length (now journal) ≤ maxJournal) ⌝ }
     ensures { λ _. ⌜ now (journal .exit) ≡ added (now (journal .entry)) (recordBytes (now (image .entry)) (markedFrom (now (marks .entry)) 0 n)) ⌝ }
