@@ -1,13 +1,11 @@
 // The C entry points: numbers and byte buffers only. Each call says, field by field, what the call below it says; include/bulgefs.h documents them
 // for C. Nothing is asked of the caller but buffers that do not overlap.
 ghost use mathlib.Core.Path.{_≡_};
-ghost use lib.ListN.{length};
-ghost use Rattle.layout.specs.Refusals.{accept};
 ghost use Rattle.layout.specs.Check.{check};
 ghost use Rattle.layout.specs.Looks.{LookupAnswer, ReadAnswer, Extent, lookup, read, extentOf};
 ghost use Rattle.volume.specs.Change.{Change as ChangeAsked, create, write, delete, slotGiven};
 ghost use Rattle.volume.specs.Format.{formatRefusal, formatted};
-ghost use Rattle.journal.specs.Journal.{started, startRefusal};
+ghost use Rattle.journal.specs.Journal.{startRefusal, afterStart};
 ghost use Rattle.journal.specs.Answers.{changedAnswer};
 ghost use Rattle.journal.specs.Run.{State, state, changed, undone, changeAnswer, afterChange, undoAnswer, afterUndo};
 
@@ -124,7 +122,8 @@ pub extern "C" fn bulgefs_format(
 
 #[no_mangle]
 pub extern "C" fn bulgefs_journal_start(journal: &mut [u8]) -> u32
-    ensures { λ r. ⌜ (r ≡ startRefusal (now (journal .entry))) × (now (journal .exit) ≡ accept (startRefusal (now (journal .entry))) (started (length (now (journal .entry)))) (now (journal .entry))) ⌝ }
+    ensures number { λ r. ⌜ r ≡ startRefusal (now (journal .entry)) ⌝ }
+    ensures bytes { λ _. ⌜ now (journal .exit) ≡ afterStart (now (journal .entry)) ⌝ }
 {
     journal::start::start(journal)
 }

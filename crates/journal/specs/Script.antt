@@ -8,7 +8,6 @@ use mathlib.Core.Bool.{Bool, _&&_, cond}
 use lib.ListN.{length, getD}
 use lib.Dec.{eqb, leb}
 use Rattle.layout.specs.Lists.{within, every, joined}
-use Rattle.layout.specs.Refusals.{require, accept}
 use Rattle.layout.specs.Bytes.{be32, bytes4, zeros, part, splice}
 use Rattle.layout.specs.Check.{check}
 use Rattle.volume.specs.Change.{Change, create, write, delete}
@@ -44,7 +43,10 @@ abbrev pub Fits : List ℕ → ℕ → Type 0
 Fits s at = at + itemSize s at ≤ length s
 
 -- Ops: 1 check, 2 look up, 3 read (the data is its buffer as it is before the call), 4 look in place (the offset is its index), 5 create, 6 write,
--- 7 delete, 8 undo.
+-- 7 delete, 8 undo, which is the last.
+abbrev pub lastOp : ℕ
+lastOp = 8
+
 unfoldable pub changeAt : List ℕ → ℕ → Change
 changeAt s at =
     let name = nameAt s at in
@@ -64,7 +66,7 @@ callAt s at =
 
 -- an item that is not cut off, with a known op
 unfoldable pub itemOk : List ℕ → ℕ → Bool
-itemOk s at = leb (at + itemSize s at) (length s) && within 1 8 (opAt s at)
+itemOk s at = leb (at + itemSize s at) (length s) && within 1 lastOp (opAt s at)
 
 -- the offsets of the items from `at` on, each where the one before it ends; the calls of a script
 unfoldable pub itemsFrom : List ℕ → ℕ → List ℕ
@@ -86,7 +88,7 @@ encoded (undone number size) = numbers number 0 size 0
 encoded (checked number) = numbers number 0 0 0
 encoded (found a) = numbers (a .number) (a .slot) (a .size) (a .blocks)
 encoded (filled a) = numbers (a .number) (a .count) 0 0 ++ (a .buffer)
-encoded (shown bytes) = numbers (length bytes) 0 0 0 ++ (bytes ++ zeros (512 - length bytes))
+encoded (shown x bytes) = numbers (x .start) (x .size) 0 0 ++ (bytes ++ zeros (512 - length bytes))
 
 -- the length of the answer to a call, on every image and journal; of all answers to a script
 unfoldable pub answerSize : Call → ℕ
@@ -101,23 +103,26 @@ unfoldable pub answersSize : List Call → ℕ
 answersSize [] = 0
 answersSize (c ∷ cs) = answerSize c + answersSize cs
 
--- 1: the script is not of this form; 2: the room for the answers is too short
-unfoldable pub scriptRefusal : List ℕ → ℕ → ℕ
-scriptRefusal s room = require (every (itemOk s) (itemsFrom s 0)) 1 (require (leb (answersSize (callsOf s)) room) 2 0)
+-- A script is run, or it is not of this form, or the room for the answers is too short.
+pub data Status : Type 0 where
+  done : Status
+  malformed : Status
+  noRoom : Status
 
--- What running a script leaves: its number, image and journal, and the bytes of `out`. "A refused script changes nothing at all."
+-- What running a script leaves: its status, image and journal, and the bytes of `out`. A script that is not run changes nothing at all.
 pub record Outcome : Type 0 where
-  pub number : ℕ
+  pub status : Status
   pub state : State
   pub out : List ℕ
 
-abbrev pub leaves : ℕ → List ℕ → List ℕ → List ℕ → Outcome
-leaves number image journal out = record { number = number; state = state image journal; out = out }
+abbrev pub leaves : Status → List ℕ → List ℕ → List ℕ → Outcome
+leaves status image journal out = record { status = status; state = state image journal; out = out }
 
 unfoldable pub given : State → List ℕ → List ℕ → State → List Answer → Outcome
 given p script out last answered =
-    let done : Outcome = record { number = 0; state = last; out = splice out 0 (joined encoded answered) } in
-    accept (scriptRefusal script (length out)) done (record { number = scriptRefusal script (length out); state = p; out = out })
+    let made : Outcome = record { status = done; state = last; out = splice out 0 (joined encoded answered) } in
+    let fitting = cond (leb (answersSize (callsOf script)) (length out)) made (record { status = noRoom; state = p; out = out }) in
+    cond (every (itemOk script) (itemsFrom script 0)) fitting (record { status = malformed; state = p; out = out })
 
 -- by the rules, call by call; and by the replay of the changes that stand, from a sound image and a journal just started
 unfoldable pub outcome : State → List ℕ → List ℕ → Outcome

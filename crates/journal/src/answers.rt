@@ -125,17 +125,17 @@ pub fn read(script: &[u8], at: usize, image: &[u8], part: &mut [u8])
     put_numbers(part, filled_numbers(f));
 }
 
-// The answer of look in place: the length of the bytes, the bytes and zeros after them.
-fn put_shown(bytes: &[u8], part: &mut [u8])
+// The answer of look in place: where the bytes begin in the image, their length, the bytes and zeros after them.
+fn put_shown(bytes: &[u8], start: u32, part: &mut [u8])
     requires { ⌜ (length (now bytes) ≤ 512) × (length (now part) ≡ 528) ⌝ }
-    ensures { λ _. ⌜ now (part .exit) ≡ encoded (shown (now (bytes .entry))) ⌝ }
+    ensures { λ _. ⌜ now (part .exit) ≡ encoded (shown (record { start = start; size = length (now (bytes .entry)) }) (now (bytes .entry))) ⌝ }
 {
     let size = bytes.len();
     put_numbers(
         part,
         Numbers {
-            first: size as u32,
-            second: 0,
+            first: start,
+            second: size as u32,
             third: 0,
             fourth: 0,
         },
@@ -154,6 +154,8 @@ pub fn look_in_place(script: &[u8], at: usize, image: &[u8], part: &mut [u8])
 {
     let index = get64(script, at + 9) as usize;
     let name = super::script::name_of(script, at);
-    let bytes = layout::reading::look_in_place(image, name, index);
-    put_shown(bytes, part);
+    let x = layout::reading::extent_in_place(image, name, index);
+    let a = x.start;
+    let e = a + x.size;
+    put_shown(&image[a..e], a as u32, part);
 }

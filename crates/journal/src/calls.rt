@@ -4,7 +4,7 @@ ghost use Rattle.volume.specs.Change.{create, write, delete};
 ghost use Rattle.volume.specs.Asked.{asked};
 ghost use Rattle.journal.specs.Run.{afterUndo, undoAnswer, afterChange, changeAnswer, state};
 ghost use Rattle.journal.specs.Walks.Changes.{Inspects};
-ghost use Rattle.journal.specs.Answers.{changedAnswer, undoneAnswer};
+ghost use Rattle.journal.specs.Answers.{changedAnswer, undoneAnswer, ChangeNumbered, UndoNumbered};
 use volume::change::Change;
 
 // What undo gives: the length of the record taken back, or the number of the refusal.
@@ -25,7 +25,7 @@ struct Inspected {
     last: usize,
 }
 
-// Weighs what every call weighs first.
+// The refusals that come first in every call.
 fn inspect(image: &[u8], journal: &[u8]) -> Inspected
     ensures { λ r. ⌜ Inspects (state (now (image .entry)) (now (journal .entry))) (r .number) (r .last) ⌝ }
 {
@@ -53,6 +53,7 @@ fn inspect(image: &[u8], journal: &[u8]) -> Inspected
 pub fn undo(image: &mut [u8], journal: &mut [u8]) -> Undone
     ensures answer { λ r. ⌜ undoneAnswer r ≡ undoAnswer (state (now (image .entry)) (now (journal .entry))) ⌝ }
     ensures state { λ _. ⌜ state (now (image .exit)) (now (journal .exit)) ≡ afterUndo (state (now (image .entry)) (now (journal .entry))) ⌝ }
+    ensures numbered { λ r. ⌜ UndoNumbered r ⌝ }
 {
     let found = inspect(image, journal);
     let unready = found.number;
@@ -67,7 +68,7 @@ pub fn undo(image: &mut [u8], journal: &mut [u8]) -> Undone
     Undone::Done(size)
 }
 
-// Any change: weighed, recorded, made.
+// Any change: its refusals first, then its record, then the change itself.
 pub fn change(
     image: &mut [u8],
     journal: &mut [u8],
@@ -77,6 +78,7 @@ pub fn change(
 ) -> Changed
     ensures answer { λ r. ⌜ changedAnswer r ≡ changeAnswer (state (now (image .entry)) (now (journal .entry))) (asked what (now (name .entry)) (now (bytes .entry))) ⌝ }
     ensures state { λ _. ⌜ state (now (image .exit)) (now (journal .exit)) ≡ afterChange (state (now (image .entry)) (now (journal .entry))) (asked what (now (name .entry)) (now (bytes .entry))) ⌝ }
+    ensures numbered { λ r. ⌜ ChangeNumbered r ⌝ }
 {
     let unready = inspect(image, journal).number;
     if unready != 0 {
@@ -111,6 +113,7 @@ pub fn create(
 ) -> Changed
     ensures answer { λ r. ⌜ changedAnswer r ≡ changeAnswer (state (now (image .entry)) (now (journal .entry))) (create (now (name .entry)) kind user group permissions flags time) ⌝ }
     ensures state { λ _. ⌜ state (now (image .exit)) (now (journal .exit)) ≡ afterChange (state (now (image .entry)) (now (journal .entry))) (create (now (name .entry)) kind user group permissions flags time) ⌝ }
+    ensures numbered { λ r. ⌜ ChangeNumbered r ⌝ }
 {
     let what = Change::Create {
         kind: kind,
@@ -134,6 +137,7 @@ pub fn write(
 ) -> Changed
     ensures answer { λ r. ⌜ changedAnswer r ≡ changeAnswer (state (now (image .entry)) (now (journal .entry))) (write (now (name .entry)) offset (now (bytes .entry)) time) ⌝ }
     ensures state { λ _. ⌜ state (now (image .exit)) (now (journal .exit)) ≡ afterChange (state (now (image .entry)) (now (journal .entry))) (write (now (name .entry)) offset (now (bytes .entry)) time) ⌝ }
+    ensures numbered { λ r. ⌜ ChangeNumbered r ⌝ }
 {
     let what = Change::Write {
         offset: offset,
@@ -146,6 +150,7 @@ pub fn write(
 pub fn delete(image: &mut [u8], journal: &mut [u8], name: &[u8]) -> Changed
     ensures answer { λ r. ⌜ changedAnswer r ≡ changeAnswer (state (now (image .entry)) (now (journal .entry))) (delete (now (name .entry))) ⌝ }
     ensures state { λ _. ⌜ state (now (image .exit)) (now (journal .exit)) ≡ afterChange (state (now (image .entry)) (now (journal .entry))) (delete (now (name .entry))) ⌝ }
+    ensures numbered { λ r. ⌜ ChangeNumbered r ⌝ }
 {
     change(image, journal, Change::Delete, name, b"")
 }

@@ -1,10 +1,10 @@
-// The journal: what undo needs of each change.
-pub mod answers;
+// The journal: what undo needs of each change. The calls are in the public modules.
+mod answers;
 pub mod calls;
-pub mod naming;
-pub mod recording;
-pub mod restoring;
+mod naming;
+mod recording;
+mod restoring;
 pub mod runner;
-pub mod scan;
-pub mod script;
+mod scan;
+mod script;
 pub mod start;

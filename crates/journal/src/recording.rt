@@ -1,18 +1,17 @@
 // Adding the record of marked blocks to a journal.
 ghost use mathlib.Core.Path.{_≡_};
-ghost use mathlib.Core.List.{List, _++_};
-ghost use Prim.Native.Nat.{ℕ, _+_, _*_, _≤_, _<_};
+ghost use mathlib.Core.List.{_++_};
+ghost use Prim.Native.Nat.{_+_, _*_, _≤_, _<_};
 ghost use lib.ListN.{length};
 ghost use Rattle.layout.specs.Limits.{maxBlocks, maxJournal};
 ghost use Rattle.layout.specs.Lists.{joined};
-ghost use Rattle.layout.specs.Bytes.{bytes4, block, splice, zeros};
+ghost use Rattle.layout.specs.Bytes.{bytes4, block, splice};
 ghost use Rattle.journal.specs.Journal.{used, recordBytes, added};
 ghost use Rattle.journal.specs.Walks.Saves.{Marks, markedFrom};
-ghost use Rattle.journal.specs.Walks.Changes.{Ready, Recorded, recordNamed};
-ghost use Rattle.volume.specs.Walks.Marks.{marked};
+ghost use Rattle.journal.specs.Walks.Changes.{Ready, Recorded, recordMarked};
 
 // The length of the record of the marked blocks below n.
-pub fn record_size(marks: &[u8], n: usize) -> usize
+fn record_size(marks: &[u8], n: usize) -> usize
     requires { ⌜ (length (now marks) ≡ maxBlocks) × (n ≤ maxBlocks) ⌝ }
     ensures { λ r. ⌜ r ≡ 4 + 516 * length (markedFrom (now (marks .entry)) 0 n) ⌝ }
 {
@@ -56,7 +55,7 @@ fn save_blocks(image: &[u8], journal: &mut [u8], marks: &[u8], n: usize, at: usi
 }
 
 // Adds the record of the marked blocks below n, of `size` bytes, which the journal has room for.
-pub fn add_record(image: &[u8], journal: &mut [u8], marks: &[u8], n: usize, size: usize)
+fn add_record(image: &[u8], journal: &mut [u8], marks: &[u8], n: usize, size: usize)
     requires { ⌜ (Marks (now image) (now marks) n) × (size ≡ 4 + 516 * length (markedFrom (now marks) 0 n)) ⌝ }
     requires { ⌜ (5 ≤ used (now journal)) × (used (now journal) + size ≤ length (now journal)) × (length (now journal) ≤ maxJournal) ⌝ }
     ensures { λ _. ⌜ now (journal .exit) ≡ added (now (journal .entry)) (recordBytes (now (image .entry)) (markedFrom (now (marks .entry)) 0 n)) ⌝ }
@@ -68,10 +67,10 @@ pub fn add_record(image: &[u8], journal: &mut [u8], marks: &[u8], n: usize, size
     volume::number::put32(journal, 1, end as u32);
 }
 
-// Adds the record of the marked blocks, which a change names; gives its length, or 0 if the journal has no room for it.
+// Adds the record of the marked blocks; gives its length, or 0 if the journal has no room for it.
 pub fn record_marked(image: &[u8], journal: &mut [u8], marks: &[u8]) -> u32
     requires { ⌜ (Ready (now image) (now journal)) × (length (now marks) ≡ maxBlocks) ⌝ }
-    ensures { λ r. ⌜ ((named : List ℕ) → now (marks .entry) ≡ marked (zeros maxBlocks) named → Recorded (now (journal .entry)) (recordNamed (now (image .entry)) named) r (now (journal .exit))) ⌝ }
+    ensures { λ r. ⌜ Recorded (now (journal .entry)) (recordMarked (now (image .entry)) (now (marks .entry))) r (now (journal .exit)) ⌝ }
 {
     let n = image.len() / 512;
     let size = record_size(marks, n);

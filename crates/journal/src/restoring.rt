@@ -9,7 +9,7 @@ ghost use Rattle.journal.specs.Journal.{restored, undoneImage, undoneJou
 ghost use Rattle.journal.specs.Walks.Undoing.{Saved, Last};
 
 // Puts back the bytes of the k blocks of the record at `at`, all below n.
-pub fn restore(image: &mut [u8], journal: &[u8], n: usize, at: usize, k: usize)
+fn restore(image: &mut [u8], journal: &[u8], n: usize, at: usize, k: usize)
     requires { ⌜ Saved (now image) (now journal) n at k ⌝ }
     ensures { λ _. ⌜ now (image .exit) ≡ restored (now (image .entry)) (now (journal .entry)) at (interval 0 k) ⌝ }
 {
@@ -24,7 +24,7 @@ pub fn restore(image: &mut [u8], journal: &[u8], n: usize, at: usize, k: usize)
 }
 
 // Zeroes the last record, which has `size` bytes, and lowers the used length to where it began.
-pub fn drop_record(journal: &mut [u8], at: usize, size: usize)
+fn drop_record(journal: &mut [u8], at: usize, size: usize)
     requires { ⌜ (5 ≤ length (now journal)) × (at + size ≤ length (now journal)) × (length (now journal) ≤ maxJournal) ⌝ }
     ensures { λ _. ⌜ now (journal .exit) ≡ splice (splice (now (journal .entry)) at (zeros size)) 1 (bytes4 at) ⌝ }
 {

@@ -7,9 +7,9 @@ ghost use mathlib.Core.Bool.{true};
 ghost use Rattle.layout.specs.Lists.{every, joined};
 ghost use Rattle.layout.specs.Bytes.{splice};
 ghost use Rattle.journal.specs.Run.{undo, answer, run, answers, state};
-ghost use Rattle.journal.specs.Answers.{changedAnswer, undoneAnswer};
+ghost use Rattle.journal.specs.Answers.{changedAnswer, undoneAnswer, ranStatus};
 ghost use Rattle.volume.specs.Asked.{asked};
-ghost use Rattle.journal.specs.Script.{numbers, Fits, nameAt, dataAt, opAt, changeAt, callAt, encoded, itemOk, itemsFrom, callsOf, answersSize, leaves, outcome, replayOutcome, JustStarted};
+ghost use Rattle.journal.specs.Script.{numbers, lastOp, Fits, nameAt, dataAt, opAt, changeAt, callAt, encoded, itemOk, itemsFrom, callsOf, answersSize, leaves, outcome, replayOutcome, JustStarted};
 ghost use Rattle.journal.specs.Walks.Scripts.{Item, CallDone};
 use super::answers::Numbers;
 use super::script::data_of;
@@ -130,7 +130,7 @@ fn change(script: &[u8], at: usize, image: &mut [u8], journal: &mut [u8], part: 
 
 // Make the call of the item at `at`.
 fn make(script: &[u8], at: usize, image: &mut [u8], journal: &mut [u8], part: &mut [u8])
-    requires { ⌜ (Item (now script) at (now part)) × (1 ≤ opAt (now script) at) × (opAt (now script) at ≤ 8) ⌝ }
+    requires { ⌜ (Item (now script) at (now part)) × (1 ≤ opAt (now script) at) × (opAt (now script) at ≤ lastOp) ⌝ }
     ensures { λ _. ⌜ CallDone (state (now (image .entry)) (now (journal .entry))) (callAt (now (script .entry)) at) (now (image .exit)) (now (journal .exit)) (now (part .exit)) ⌝ }
 {
     if script[at] <= 4 {
@@ -156,18 +156,24 @@ fn execute(script: &[u8], image: &mut [u8], journal: &mut [u8], out: &mut [u8])
     }
 }
 
-// Runs a script: makes its calls in order and writes their answers to `out`. 1 if the script is not of the right form, 2 if `out` is too short;
-// a refused script changes nothing.
-pub fn run(script: &[u8], image: &mut [u8], journal: &mut [u8], out: &mut [u8]) -> u32
-    ensures outcome { λ r. ⌜ leaves r (now (image .exit)) (now (journal .exit)) (now (out .exit)) ≡ outcome (state (now (image .entry)) (now (journal .entry))) (now (script .entry)) (now (out .entry)) ⌝ }
-    ensures replay { λ r. ⌜ (JustStarted (now (image .entry)) (now (journal .entry)) → leaves r (now (image .exit)) (now (journal .exit)) (now (out .exit)) ≡ replayOutcome (state (now (image .entry)) (now (journal .entry))) (now (script .entry)) (now (out .entry))) ⌝ }
+// What running a script gives: all calls were made, or the script is not of the right form, or `out` is too short for the answers.
+pub enum Ran {
+    Done,
+    Malformed,
+    NoRoom,
+}
+
+// Runs a script: makes its calls in order and writes their answers to `out`. A script that is not run changes nothing.
+pub fn run(script: &[u8], image: &mut [u8], journal: &mut [u8], out: &mut [u8]) -> Ran
+    ensures outcome { λ r. ⌜ leaves (ranStatus r) (now (image .exit)) (now (journal .exit)) (now (out .exit)) ≡ outcome (state (now (image .entry)) (now (journal .entry))) (now (script .entry)) (now (out .entry)) ⌝ }
+    ensures replay { λ r. ⌜ (JustStarted (now (image .entry)) (now (journal .entry)) → leaves (ranStatus r) (now (image .exit)) (now (journal .exit)) (now (out .exit)) ≡ replayOutcome (state (now (image .entry)) (now (journal .entry))) (now (script .entry)) (now (out .entry))) ⌝ }
 {
     if !super::script::well_formed(script) {
-        return 1;
+        return Ran::Malformed;
     }
     if !super::script::answers_fit(script, out.len()) {
-        return 2;
+        return Ran::NoRoom;
     }
     execute(script, image, journal, out);
-    0
+    Ran::Done
 }

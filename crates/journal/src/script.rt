@@ -49,7 +49,7 @@ pub fn data_of(script: &[u8], at: usize) -> &[u8]
 }
 
 // Whether an item with a known op stands at `at`, and is not cut off.
-pub fn item_ok(script: &[u8], at: usize) -> bool
+fn item_ok(script: &[u8], at: usize) -> bool
     requires { ⌜ at < length (now script) ⌝ }
     ensures { λ r. ⌜ r ≡ itemOk (now (script .entry)) at ⌝ }
 {

@@ -1,14 +1,13 @@
 // Starting a journal.
 ghost use mathlib.Core.Path.{_≡_};
-ghost use lib.ListN.{length};
-ghost use Rattle.layout.specs.Refusals.{accept};
-ghost use Rattle.journal.specs.Journal.{started, startRefusal};
+ghost use Rattle.journal.specs.Journal.{startRefusal, afterStart};
 use layout::limits::MAX_JOURNAL;
 use layout::limits::MIN_JOURNAL;
 
 // Zeroes a journal and writes its version and used length; 8 if its length is out of range.
 pub fn start(journal: &mut [u8]) -> u32
-    ensures { λ r. ⌜ (r ≡ startRefusal (now (journal .entry))) × (now (journal .exit) ≡ accept (startRefusal (now (journal .entry))) (started (length (now (journal .entry)))) (now (journal .entry))) ⌝ }
+    ensures number { λ r. ⌜ r ≡ startRefusal (now (journal .entry)) ⌝ }
+    ensures bytes { λ _. ⌜ now (journal .exit) ≡ afterStart (now (journal .entry)) ⌝ }
 {
     if journal.len() < MIN_JOURNAL {
         return 8;

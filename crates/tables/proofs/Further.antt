@@ -9,7 +9,6 @@ use Rattle.layout.specs.Lists.{interval, every, same}
 use Rattle.layout.specs.Bytes.{be32, bytes4, splice}
 use Rattle.layout.specs.Table.{next, setNext}
 use Rattle.layout.specs.Check.{check}
-use Rattle.layout.specs.Looks.{extentOf}
 use Rattle.layout.specs.Listing.{listing}
 use Rattle.volume.specs.Format.{formatRefusal, formatted}
 use Rattle.volume.specs.Change.{create, write, delete, named, refusal, after}
@@ -99,18 +98,14 @@ looks =
       looked (readFile fileA 513 (7 ∷ [])) ++ looked (readFile fileA 514 (7 ∷ [])) ++ looked (readFile fileA 3 []) ++ looked (readFile (66 ∷ []) 0 (7 ∷ [])),
       0 ∷ 0 ∷ 7 ∷ 12 ∷ 0 ∷ 7 ∷ 0 ∷ 0 ∷ 10 ∷ 0 ∷ 7 ∷ [],
     )
-    -- look in place: a whole block, the rest of the last, none, no file; where they stand
-    ∷ (looked (lookAt fileA 0), pattern 512)
-    ∷ (looked (lookAt fileA 1) ++ looked (lookAt fileA 2) ++ looked (lookAt (66 ∷ []) 0), 10 ∷ [])
-    ∷ (
-      extentOf s fileA 0 .start ∷ extentOf s fileA 0 .size ∷ extentOf s fileA 1 .start ∷ extentOf s fileA 1 .size ∷ extentOf s fileA 2 .start ∷ extentOf s fileA 2 .size ∷ [],
-      2048 ∷ 512 ∷ 2560 ∷ 1 ∷ 0 ∷ 0 ∷ [],
-    )
+    -- look in place: a whole block, the rest of the last, none, no file
+    ∷ (looked (lookAt fileA 0), 2048 ∷ 512 ∷ pattern 512)
+    ∷ (looked (lookAt fileA 1) ++ looked (lookAt fileA 2) ++ looked (lookAt (66 ∷ []) 0), 2560 ∷ 1 ∷ 10 ∷ 0 ∷ 0 ∷ 0 ∷ 0 ∷ [])
     -- on a damaged image: its stage; and its listing, "refused 2"
     ∷ (
       let bad : State = record { image = splice s 0 (0 ∷ []); journal = [] } in
           numbers (answer bad (look checkImage)) ++ numbers (answer bad (look (findFile []))) ++ numbers (answer bad (look (readFile fileA 0 (7 ∷ [])))) ++ numbers (answer bad (look (lookAt fileA 0))),
-      2 ∷ 2 ∷ 0 ∷ 0 ∷ 0 ∷ 2 ∷ 0 ∷ 7 ∷ [],
+      2 ∷ 2 ∷ 0 ∷ 0 ∷ 0 ∷ 2 ∷ 0 ∷ 7 ∷ 0 ∷ 0 ∷ [],
     )
     ∷ (listing (splice s 0 (0 ∷ [])), 114 ∷ 101 ∷ 102 ∷ 117 ∷ 115 ∷ 101 ∷ 100 ∷ 32 ∷ 50 ∷ 10 ∷ [])
     -- a name byte outside 0x21 to 0x7E is listed as `?`: "1 513 2 ?"

@@ -38,7 +38,7 @@ numbers (undone number size) = number ∷ size ∷ []
 numbers (checked number) = number ∷ []
 numbers (found a) = a .number ∷ a .slot ∷ a .size ∷ a .blocks ∷ []
 numbers (filled a) = a .number ∷ a .count ∷ a .buffer
-numbers (shown bytes) = bytes
+numbers (shown x bytes) = x .start ∷ x .size ∷ bytes
 
 -- opens them all, as rules does the definitions
 unfoldable pub samples : Unit {0}

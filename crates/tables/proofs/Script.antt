@@ -6,7 +6,7 @@ use lib.ListN.{replicate, take}
 use Rattle.layout.specs.Lists.{every, same}
 use Rattle.journal.specs.Journal.{started}
 use Rattle.journal.specs.Run.{State}
-use Rattle.journal.specs.Script.{be64, nameAt, dataAt, changeAt, callAt, itemOk, itemsFrom, callsFrom, encoded, answerSize, answersSize, scriptRefusal, given, outcome}
+use Rattle.journal.specs.Script.{be64, nameAt, dataAt, changeAt, callAt, itemOk, itemsFrom, callsFrom, encoded, answerSize, answersSize, Status, done, malformed, noRoom, given, outcome}
 use Rattle.tables.proofs.Rules.{rules}
 use Rattle.tables.proofs.Samples.{formattedAs, samples}
 
@@ -32,15 +32,21 @@ expected =
 start : State
 start = record { image = formattedAs 16 2; journal = started 2593 }
 
+-- a status as a number, to compare
+code : Status → ℕ
+code done = 0
+code malformed = 1
+code noRoom = 2
+
 pub table : List (List ℕ × List ℕ)
 table =
     let o = outcome start script (replicate 70 9) in
-    (o .number ∷ [], 0 ∷ [])
+    (code (o .status) ∷ [], 0 ∷ [])
     ∷ (o .out, expected ++ (9 ∷ 9 ∷ []))
     -- the last item cut off; no room for the last byte
-    ∷ (outcome start (take 141 script) (replicate 70 9) .number ∷ outcome start script (replicate 67 9) .number ∷ [], 1 ∷ 2 ∷ [])
+    ∷ (code (outcome start (take 141 script) (replicate 70 9) .status) ∷ code (outcome start script (replicate 67 9) .status) ∷ [], 1 ∷ 2 ∷ [])
     ∷ []
 
 pub example-holds : T (every (λ row. same (row .0) (row .1)) table)
-unfolding table header script expected start samples be64 nameAt dataAt changeAt callAt itemOk itemsFrom callsFrom encoded answerSize answersSize scriptRefusal given outcome rules Rattle.journal.specs.Script.numbers
+unfolding table header script expected start samples be64 nameAt dataAt changeAt callAt itemOk itemsFrom callsFrom encoded answerSize answersSize code given outcome rules Rattle.journal.specs.Script.numbers
 example-holds = tt

@@ -18,7 +18,7 @@ same-length-2 c = search needs
 returns : tie.Need-returns
 returns c =
     let create = c .before .before .before .before .before .create in
-    (c .with-slot .ensures ∙ create .ensures .0, create .ensures .1)
+    (c .with-slot .ensures ∙ create .ensures .0, create .ensures .1 .0)
 
 pub bulgefs-create-spec : {M : Type 1} → statement M
 bulgefs-create-spec =

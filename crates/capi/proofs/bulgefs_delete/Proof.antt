@@ -20,7 +20,7 @@ returns : tie.Need-returns
 unfolding slotGiven
 returns c =
     let delete = c .before .before .before .before .before .delete in
-    (c .slotless .ensures _ _ refl (delete .ensures .0), delete .ensures .1)
+    (c .slotless .ensures _ _ refl (delete .ensures .0), delete .ensures .1 .0)
 
 pub bulgefs-delete-spec : {M : Type 1} → statement M
 bulgefs-delete-spec =

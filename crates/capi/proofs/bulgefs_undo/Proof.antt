@@ -21,7 +21,7 @@ same-length-2 c = search needs
 returns : tie.Need-returns
 returns c =
     let undo = c .before .before .before .before .before .before .before .undo in
-    (undo-case _ (c .before .size .given .1) (undo .ensures .0), undo .ensures .1)
+    (undo-case _ (c .before .size .given .1) (undo .ensures .0), undo .ensures .1 .0)
 
 same-length-3 : tie.Need-same-length-3
 same-length-3 c = search needs
@@ -32,7 +32,7 @@ same-length-4 c = search needs
 returns-2 : tie.Need-returns-2
 returns-2 c =
     let undo = c .before .before .before .before .before .before .before .undo in
-    (undo-case _ (c .before .number .given .1) (undo .ensures .0), undo .ensures .1)
+    (undo-case _ (c .before .number .given .1) (undo .ensures .0), undo .ensures .1 .0)
 
 pub bulgefs-undo-spec : {M : Type 1} → statement M
 bulgefs-undo-spec =

@@ -20,7 +20,7 @@ returns : tie.Need-returns
 unfolding slotGiven
 returns c =
     let write = c .before .before .before .before .before .write in
-    (c .slotless .ensures _ _ refl (write .ensures .0), write .ensures .1)
+    (c .slotless .ensures _ _ refl (write .ensures .0), write .ensures .1 .0)
 
 pub bulgefs-write-spec : {M : Type 1} → statement M
 bulgefs-write-spec =

@@ -1,9 +1,9 @@
 -- The journaled calls, step by step over any change: the refusals in their order, the record, and the change.
 use Prim.Native.Nat.{ℕ, zero, suc, _+_, _*_, _≤_, _<_}
-use mathlib.Core.Path.{_≡_, refl, sym, _∙_}
+use mathlib.Core.Path.{_≡_, refl, sym, subst, _∙_}
 use mathlib.Core.Bool.{Bool, true, false}
 use mathlib.Core.List.{List}
-use native.Mathlib.Nat.{suc-ne-zero}
+use native.Mathlib.Nat.{suc-ne-zero, sub-zero}
 use native.Mathlib.Omega.{arith}
 use borrow.Author.Tests.{le-leb, lt-leb}
 use lib.Dec.{leb}
@@ -16,28 +16,31 @@ use Rattle.volume.specs.Change.{Change, refusal, after, named, slotGiven}
 use Rattle.journal.specs.Journal.{used, wellFormed, ascending, recordBytes, added, lastRecord}
 use Rattle.journal.specs.Run.{State, Answer, changed, recordOf, changeRefusal, afterChange, changeAnswer, state}
 use Rattle.journal.specs.Walks.Saves.{Marks, markedFrom}
-use Rattle.journal.specs.Walks.Changes.{readyRefusal, Ready, Inspects, roomRefusal, recordNamed, Recorded}
+use Rattle.journal.specs.Walks.Changes.{readyRefusal, Ready, Inspects, roomRefusal, recordMarked, Recorded}
 use Rattle.volume.specs.Walks.Marks.{marked}
 use Rattle.layout.proofs.Laws.Tests.{firstOf-zero, require-zero, firstOf-refused, accept-refused}
 use Rattle.layout.proofs.Laws.Sound.{sound}
 use Rattle.journal.proofs.Laws.Ascending.{ascending-below}
 use Rattle.journal.proofs.Laws.Records.{length-record}
-use Rattle.journal.proofs.Walks.Marked.{marked-ascending}
+use Rattle.journal.proofs.Walks.Marked.{marked-ascending, marked-below}
 use Rattle.journal.proofs.Walks.Undoing.{unready}
 
--- what weighing 1 to 8 gives
+-- what inspecting gives, by the refusals 1 to 8
 module _ (s j : List ℕ) where
-  pub inspects-unsound : {last : ℕ} (r : ℕ) → r ≡ check s → (r ≡ 0 → ⊥) → Inspects (state s j) r last
+  pub inspects-unsound : (r : ℕ) → r ≡ check s → (r ≡ 0 → ⊥) → Inspects (state s j) r 0
   unfolding readyRefusal
-  inspects-unsound r e h = record { number-is = rw (← e) (sym (firstOf-refused r _ h)); found = λ z. absurd (h z) }
+  inspects-unsound r e h = record { number-is = rw (← e) (sym (firstOf-refused r _ h)); found = sym (accept-refused r _ 0 h) }
 
-  pub inspects-malformed : {last : ℕ} → check s ≡ 0 → false ≡ wellFormed j (blockCount s) → Inspects (state s j) 8 last
+  pub inspects-malformed : check s ≡ 0 → false ≡ wellFormed j (blockCount s) → Inspects (state s j) 8 0
   unfolding readyRefusal
-  inspects-malformed c w = record { number-is = rw (c, ← w); found = λ z. omega arith }
+  inspects-malformed c w = record { number-is = rw (c, ← w); found = refl }
 
   pub inspects-ready : {last : ℕ} → check s ≡ 0 → true ≡ wellFormed j (blockCount s) → last ≡ lastRecord j → Inspects (state s j) 0 last
   unfolding readyRefusal
-  inspects-ready c w l = record { number-is = rw (c, ← w); found = λ z. l }
+  inspects-ready c w l = record { number-is = rw (c, ← w); found = l }
+
+pub inspected-last : (p : State) {number last : ℕ} → Inspects p number last → number ≡ 0 → last ≡ lastRecord (p .journal)
+inspected-last p i e = i .found ∙ rw e
 
 pub ready : (s j : List ℕ) → readyRefusal (state s j) ≡ 0 → Ready s j
 unfolding readyRefusal
@@ -104,27 +107,34 @@ module _ (c : Change) (s j : List ℕ) where
           go zero e = rw (number-is ok ∙ e, a, b, room 0 e .0, room 0 e .1) (refl, refl)
           go (suc k) e = absurd (h (room (suc k) e .0))
 
--- the marks of named blocks, recorded
+-- the marked blocks, recorded
 pub marks-ready : (s j m : List ℕ) → Ready s j → length m ≡ 4096 → Marks s m (blockCount s)
 marks-ready s j m w k = let z = sound s (w .sound) in record { whole = z .whole; blocks = z .most; marks = k }
 
-module _ (s j m ns : List ℕ) (w : Ready s j) (marks-are : m ≡ marked (zeros 4096) ns) where
-  marked-named : markedFrom m 0 (blockCount s) ≡ ascending (blockCount s) ns
-  marked-named = let z = sound s (w .sound) in rw marks-are (marked-ascending (blockCount s) ns (z .most))
-
-  long : (size : ℕ) → size ≡ 4 + 516 * length (markedFrom m 0 (blockCount s)) → length (recordNamed s ns) ≡ size
+module _ (s j m : List ℕ) (w : Ready s j) where
+  long : (size : ℕ) → size ≡ 4 + 516 * length (markedFrom m 0 (blockCount s)) → length (recordMarked s m) ≡ size
   long size e =
       let z = sound s (w .sound) in
-      length-record (blockCount s) s (z .whole) (z .most) (ascending (blockCount s) ns) (ascending-below (blockCount s) ns) ∙ sym (e ∙ rw marked-named)
+      let low = rw sub-zero at (marked-below m 0 (blockCount s) (omega arith)) in
+      length-record (blockCount s) s (z .whole) (z .most) (markedFrom m 0 (blockCount s)) low ∙ sym e
 
   pub not-recorded : (size : ℕ) → size ≡ 4 + 516 * length (markedFrom m 0 (blockCount s)) → length j < used j + size
-      → Recorded j (recordNamed s ns) 0 j
+      → Recorded j (recordMarked s m) 0 j
   unfolding roomRefusal
   not-recorded size e h = let f = lt-leb (used j + size) (length j) h in record { length-given = rw (long size e, f); journal-after = rw (long size e, f) }
 
   pub now-recorded : (size : ℕ) → size ≡ 4 + 516 * length (markedFrom m 0 (blockCount s)) → used j + size ≤ length j
-      → (new : List ℕ) → new ≡ added j (recordBytes s (markedFrom m 0 (blockCount s))) → Recorded j (recordNamed s ns) size new
+      → (new : List ℕ) → new ≡ added j (recordMarked s m) → Recorded j (recordMarked s m) size new
   unfolding roomRefusal
   now-recorded size e h new is =
       let f = le-leb (used j + size) (length j) h in
-      record { length-given = rw (long size e, f); journal-after = rw (long size e, f) (is ∙ rw marked-named) }
+      record { length-given = rw (long size e, f); journal-after = rw (long size e, f) is }
+
+-- recording the blocks that were marked as named is recording the change
+pub recorded-named : (s j m none : List ℕ) (c : Change) → Ready s j → none ≡ zeros 4096 → m ≡ marked none (named s c)
+    → (size : ℕ) (new : List ℕ) → Recorded j (recordMarked s m) size new → Recorded j (recordOf (state s j) c) size new
+unfolding recordOf
+recorded-named s j m none c w z e size new r =
+    let marks : m ≡ marked (zeros 4096) (named s c) = e ∙ rw z in
+    let blocks : markedFrom m 0 (blockCount s) ≡ ascending (blockCount s) (named s c) = rw marks (marked-ascending (blockCount s) (named s c) (sound s (w .sound) .most)) in
+    subst (λ (bs : List ℕ). Recorded j (recordBytes s bs) size new) blocks r

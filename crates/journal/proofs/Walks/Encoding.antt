@@ -1,5 +1,5 @@
 -- Answers as bytes: their lengths, and what the code writes piece by piece.
-use Prim.Native.Nat.{ℕ, _+_, _-_, _≤_}
+use Prim.Native.Nat.{ℕ, _+_, _-_, _≤_, _<_}
 use mathlib.Core.Path.{_≡_, refl, sym, ap, _∙_}
 use mathlib.Core.List.{List, [], _++_}
 use native.Mathlib.Omega.{arith}
@@ -8,13 +8,13 @@ use lib.ListN.{length, replicate, length-append, length-replicate}
 use Rattle.layout.specs.Bytes.{bytes4, zeros, part, splice}
 use Rattle.layout.specs.declared.reading.Filled.{Filled}
 use Rattle.layout.specs.declared.reading.Filled.the-variants.{Bytes, Refused}
-use Rattle.layout.specs.Looks.{ReadAnswer, read, lookInPlace}
+use Rattle.layout.specs.Looks.{ReadAnswer, Extent, read, extentOf, lookInPlace}
 use Rattle.journal.specs.Run.{Call, Answer, State, change, undo, look, checkImage, findFile, readFile, lookAt, filled, shown, lookAnswer, answer, changeAnswer, changeRefusal, undoAnswer, undoRefusal}
 use Rattle.journal.specs.Script.{numbers, encoded, answerSize}
 use Rattle.layout.specs.Answers.{readAnswer}
 use Rattle.layout.proofs.Laws.Bytes.{length-zeros, putMid-splice, splice-append, splice-whole, splice-three, splice-back}
 use Rattle.layout.proofs.Laws.Tests.{accept-either}
-use Rattle.layout.proofs.Laws.Looks.{read-count, read-length, look-short}
+use Rattle.layout.proofs.Laws.Looks.{read-count, read-length, extent-small, length-look, look-short}
 
 pub length-numbers : (a b c d : ℕ) → length (numbers a b c d) ≡ 16
 unfolding numbers bytes4
@@ -46,7 +46,8 @@ answer-length p (look (readFile name offset buffer)) =
 answer-length p (look (lookAt name i)) =
     let b : List ℕ = lookInPlace (p .image) name i in
     let h : length b ≤ 512 = look-short (p .image) name i in
-    length-append (numbers (length b) 0 0 0) (b ++ zeros (512 - length b)) ∙ rw (length-numbers, length-append, length-zeros) (omega arith)
+    let x : Extent = extentOf (p .image) name i in
+    length-append (numbers (x .start) (x .size) 0 0) (b ++ zeros (512 - length b)) ∙ rw (length-numbers, length-append, length-zeros) (omega arith)
 
 -- the answers of read and look in place, as the code writes them
 pub read-encoded : (s buffer : List ℕ) (a : ReadAnswer) → length s ≡ 16 + length buffer → a .buffer ≡ buffer
@@ -54,13 +55,14 @@ pub read-encoded : (s buffer : List ℕ) (a : ReadAnswer) → length s ≡ 16 + 
 unfolding encoded
 read-encoded s buffer a h e = splice-back s (numbers (a .number) (a .count) 0 0) buffer 16 h (length-numbers (a .number) (a .count) 0 0) ∙ rw e
 
-pub shown-encoded : (s bytes : List ℕ) → length s ≡ 528 → length bytes ≤ 512
-    → splice (splice (splice s 0 (numbers (length bytes) 0 0 0)) 16 bytes) (16 + length bytes) (zeros (512 - length bytes)) ≡ encoded (shown bytes)
+pub shown-encoded : (s bytes : List ℕ) (start : ℕ) → length s ≡ 528 → length bytes ≤ 512
+    → splice (splice (splice s 0 (numbers start (length bytes) 0 0)) 16 bytes) (16 + length bytes) (zeros (512 - length bytes))
+    ≡ encoded (shown (record { start = start; size = length bytes }) bytes)
 unfolding encoded
-shown-encoded s bytes h k =
-    let l = length-numbers (length bytes) 0 0 0 in
+shown-encoded s bytes start h k =
+    let l = length-numbers start (length bytes) 0 0 in
     let z = length-zeros (512 - length bytes) in
-    splice-three s (numbers (length bytes) 0 0 0) bytes (zeros (512 - length bytes)) 16 (16 + length bytes) (omega arith) (omega arith) (omega arith)
+    splice-three s (numbers start (length bytes) 0 0) bytes (zeros (512 - length bytes)) 16 (16 + length bytes) (omega arith) (omega arith) (omega arith)
 
 -- number and count of a read do not depend on the buffer
 module _ (f : Filled) (b : List ℕ) where
@@ -88,16 +90,17 @@ unfolding zeros
 zeros-are k = refl
 
 -- the parts that calls left: of look in place, and of read
-pub shown-written : (s t bytes x y : List ℕ) → length s ≡ 528 → length bytes ≤ 512 → t ≡ splice s 0 (numbers (length bytes) 0 0 0) → x ≡ bytes
+pub shown-written : (s t bytes x y : List ℕ) (start : ℕ) → length s ≡ 528 → length bytes ≤ 512 → t ≡ splice s 0 (numbers start (length bytes) 0 0) → x ≡ bytes
     → y ≡ replicate (length (part (putMid 16 (16 + length bytes - 16) t x) (16 + length bytes) (528 - (16 + length bytes)))) 0
     → length y ≡ 528 - (16 + length bytes)
-    → putMid (16 + length bytes) (528 - (16 + length bytes)) (putMid 16 (16 + length bytes - 16) t x) y ≡ encoded (shown bytes)
-shown-written s t bytes x y h g d e f l =
+    → putMid (16 + length bytes) (528 - (16 + length bytes)) (putMid 16 (16 + length bytes - 16) t x) y
+    ≡ encoded (shown (record { start = start; size = length bytes }) bytes)
+shown-written s t bytes x y start h g d e f l =
     let z : y ≡ zeros (length y) = whole y (length (part (putMid 16 (16 + length bytes - 16) t x) (16 + length bytes) (528 - (16 + length bytes)))) f in
     let m : length y ≡ 512 - length bytes = omega arith in
     putMid-splice (putMid 16 (16 + length bytes - 16) t x) (16 + length bytes) (528 - (16 + length bytes)) y l
     ∙ ap (λ (r : List ℕ). splice r (16 + length bytes) y) (putMid-splice t 16 (16 + length bytes - 16) x (ap length e ∙ omega arith))
-    ∙ rw (z, m, d, e) (shown-encoded s bytes h g)
+    ∙ rw (z, m, d, e) (shown-encoded s bytes start h g)
   where
     whole : (y : List ℕ) (k : ℕ) → y ≡ replicate k 0 → y ≡ zeros (length y)
     whole y k f = f ∙ zeros-are k ∙ ap zeros (sym (ap length f ∙ length-replicate {A = ℕ} k 0))
@@ -108,3 +111,20 @@ pub read-written : (s b t name before image : List ℕ) (offset size : ℕ) (f :
     → t ≡ splice (putMid 16 (16 + size - 16) s b) 0 (numbers n₁ n₂ n₃ n₄) → t ≡ encoded (filled (read image name offset before))
 read-written s b t name before image offset size f n₁ n₂ n₃ n₄ e l h k n d =
     d ∙ rw (n .0, n .1, n .2, n .3) (rw (putMid-splice s 16 (16 + size - 16) b k) (read-answered s b name before image offset f e (h ∙ omega arith)))
+
+-- look in place by its numbers: the part that begins there
+module _ (s name : List ℕ) (i start size : ℕ) (starts : start ≡ extentOf s name i .start) (sizes : size ≡ extentOf s name i .size) where
+  shown-part : part s start (start + size - start) ≡ lookInPlace s name i
+  unfolding lookInPlace
+  shown-part = let e : start + size - start ≡ size = omega arith in rw (e, starts, sizes)
+
+  pub shown-short : length (part s start (start + size - start)) ≤ 512
+  shown-short = rw shown-part (look-short s name i)
+
+  pub shown-small : start < 0x100000000
+  shown-small = omega (arith, starts, extent-small s name i)
+
+  pub shown-answer : shown (record { start = start; size = length (part s start (start + size - start)) }) (part s start (start + size - start))
+      ≡ lookAnswer s (lookAt name i)
+  unfolding lookAnswer
+  shown-answer = rw (shown-part, length-look s name i, starts)

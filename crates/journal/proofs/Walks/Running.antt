@@ -10,7 +10,7 @@ use lib.ListN.{length, length-append}
 use Rattle.layout.specs.Lists.{every, joined}
 use Rattle.layout.specs.Bytes.{splice}
 use Rattle.journal.specs.Run.{Call, State, step, answer, run, answers, state}
-use Rattle.journal.specs.Script.{itemSize, callAt, itemOk, itemsFrom, callsFrom, callsOf, encoded, answerSize, answersSize, scriptRefusal, Outcome, leaves, given, outcome}
+use Rattle.journal.specs.Script.{itemSize, callAt, itemOk, itemsFrom, callsFrom, callsOf, encoded, answerSize, answersSize, done, malformed, noRoom, Outcome, leaves, given, outcome}
 use Rattle.journal.specs.Walks.Scripts.{CallDone}
 use Rattle.layout.proofs.Laws.Bytes.{putMid-splice, length-splice, splice-nil, splice-append}
 use Rattle.journal.proofs.Walks.Scripts.{Next, next, calls-none, calls-step, sizes-step}
@@ -81,21 +81,21 @@ module _ (start : State) (s out₀ image journal out : List ℕ) (at q : ℕ) (i
 
 -- the outcome, by the two tests
 module _ (s image journal out : List ℕ) where
-  pub bad-script : every (itemOk s) (itemsFrom s 0) ≡ false → leaves 1 image journal out ≡ outcome (state image journal) s out
-  unfolding outcome given scriptRefusal
+  pub bad-script : every (itemOk s) (itemsFrom s 0) ≡ false → leaves malformed image journal out ≡ outcome (state image journal) s out
+  unfolding outcome given
   bad-script e = rw e
 
   pub no-room : every (itemOk s) (itemsFrom s 0) ≡ true → leb (answersSize (callsOf s)) (length out) ≡ false
-      → leaves 2 image journal out ≡ outcome (state image journal) s out
-  unfolding outcome given scriptRefusal
+      → leaves noRoom image journal out ≡ outcome (state image journal) s out
+  unfolding outcome given
   no-room e f = rw (e, f)
 
   pub all-run : every (itemOk s) (itemsFrom s 0) ≡ true → leb (answersSize (callsOf s)) (length out) ≡ true → (image′ journal′ out′ : List ℕ)
       → state image′ journal′ ≡ run (state image journal) (callsOf s)
       → out′ ≡ splice out 0 (joined encoded (answers (state image journal) (callsOf s)))
-      → leaves 0 image′ journal′ out′ ≡ outcome (state image journal) s out
-  unfolding outcome given scriptRefusal
-  all-run e f image′ journal′ out′ g h = rw (e, f) (ap (λ (p : State). done p out′) g ∙ ap (λ (o : List ℕ). done (run (state image journal) (callsOf s)) o) h)
+      → leaves done image′ journal′ out′ ≡ outcome (state image journal) s out
+  unfolding outcome given
+  all-run e f image′ journal′ out′ g h = rw (e, f) (ap (λ (p : State). made p out′) g ∙ ap (λ (o : List ℕ). made (run (state image journal) (callsOf s)) o) h)
     where
-      done : State → List ℕ → Outcome
-      done p o = record { number = 0; state = p; out = o }
+      made : State → List ℕ → Outcome
+      made p o = record { status = done; state = p; out = o }

@@ -84,7 +84,10 @@ module _ (j : List ℕ) (n last at : ℕ) (s : Scanning j n last at) where
   pub scan-end : used j ≤ at → Scans j (every (recordOk j n) (records j)) true last
   scan-end h =
       let e = records-none (be32 j) (used j) at (s .fuel) h in
-      record { well = sym (s .right ∙ rw e); found = λ _. sym (s .found ∙ rw e) }
+      record { well = sym (s .right ∙ rw e); found = sym (s .found ∙ rw e) }
+
+pub scanned-last : (j : List ℕ) {right ok : Bool} {last : ℕ} → Scans j right ok last → ok ≡ true → last ≡ lastRecord j
+scanned-last j s e = s .found ∙ rw e
 
 -- the head and the records together
 and-apart : (a b c d : Bool) → a && (b && (c && d)) ≡ (a && (b && c)) && d

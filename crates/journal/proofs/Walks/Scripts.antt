@@ -10,7 +10,7 @@ use lib.ListN.{length}
 use Rattle.layout.specs.Lists.{every}
 use Rattle.layout.specs.Bytes.{be32}
 use Rattle.journal.specs.Run.{Call, change, undo, look, checkImage, findFile, readFile, lookAt}
-use Rattle.journal.specs.Script.{be64, opAt, nameAt, dataAt, dataLength, itemSize, changeAt, callAt, itemOk, itemsFrom, callsFrom, answerSize, answersSize}
+use Rattle.journal.specs.Script.{lastOp, be64, opAt, nameAt, dataAt, dataLength, itemSize, changeAt, callAt, itemOk, itemsFrom, callsFrom, answerSize, answersSize}
 use Rattle.layout.proofs.Laws.Tests.{and-split}
 use Rattle.layout.proofs.Laws.Bytes.{length-part}
 use Rattle.journal.proofs.Laws.RecordWalk.{records-none, records-more, records-enough}
@@ -35,7 +35,7 @@ module _ (s : List ℕ) (at : ℕ) where
   calls-step h = ap (λ (l : List ℕ). map (callAt s) l) (items-step h)
 
   -- an item of the form
-  pub item-fits : itemOk s at ≡ true → (at + itemSize s at ≤ length s) × (1 ≤ opAt s at) × (opAt s at ≤ 8)
+  pub item-fits : itemOk s at ≡ true → (at + itemSize s at ≤ length s) × (1 ≤ opAt s at) × (opAt s at ≤ lastOp)
   unfolding itemOk
   item-fits t =
       let a = and-split (leb (at + itemSize s at) (length s)) _ t in
@@ -50,7 +50,7 @@ module _ (s : List ℕ) (at : ℕ) where
   unfolding itemOk
   item-low h k = rw (le-leb _ _ h, lt-leb _ _ k)
 
-  pub item-last : at + itemSize s at ≤ length s → 1 ≤ opAt s at → itemOk s at ≡ leb (opAt s at) 8
+  pub item-last : at + itemSize s at ≤ length s → 1 ≤ opAt s at → itemOk s at ≡ leb (opAt s at) lastOp
   unfolding itemOk
   item-last h k = rw (le-leb _ _ h, le-leb _ _ k)
 
@@ -67,7 +67,7 @@ module _ (s : List ℕ) (at : ℕ) where
   pub record Next : Type 0 where
     pub fits : at + itemSize s at ≤ length s
     pub low : 1 ≤ opAt s at
-    pub high : opAt s at ≤ 8
+    pub high : opAt s at ≤ lastOp
     pub rest : every (itemOk s) (itemsFrom s (at + itemSize s at)) ≡ true
 
   pub next : at < length s → every (itemOk s) (itemsFrom s at) ≡ true → Next

@@ -21,7 +21,7 @@ use Rattle.layout.proofs.Laws.Sound.{sound}
 use Rattle.journal.proofs.Laws.Append.{Fine, fine, WellFormed, well}
 use Rattle.layout.proofs.Laws.Lists.{In, every-in, last-in}
 
--- 1 to 8 come before what else is weighed
+-- 1 to 8 come before every other refusal
 pub unready : (a rest : ℕ) (t : Bool) (r : ℕ) → r ≡ firstOf a (require t 8 0) → (r ≡ 0 → ⊥) → firstOf a (require t 8 rest) ≡ r
 unready zero rest true r e h = absurd (h e)
 unready zero rest false r e h = sym e

@@ -1,4 +1,4 @@
--- What every call that is lent a journal weighs first, and what recording a change gives.
+-- The refusals that come first in every call that is lent a journal, and what recording a change gives.
 use Prim.Native.Nat.{ℕ, _+_}
 use mathlib.Core.Path.{_≡_}
 use mathlib.Core.List.{List}
@@ -9,9 +9,11 @@ use Rattle.layout.specs.Refusals.{require, firstOf, accept}
 use Rattle.layout.specs.Geometry.{blockCount}
 use Rattle.layout.specs.Check.{check}
 use Rattle.journal.specs.Run.{State}
-use Rattle.journal.specs.Journal.{used, wellFormed, ascending, recordBytes, added, lastRecord}
+use Rattle.journal.specs.Journal.{used, wellFormed, recordBytes, added, lastRecord}
+use Rattle.journal.specs.Walks.Saves.{markedFrom}
 
--- the refusals 1 to 8; what holds where they are passed; and what inspecting gives: their number, and if it is 0, where the last record begins
+-- the refusals 1 to 8; what holds where they are passed; and what inspecting gives: their number, and
+-- if it is 0, where the last record begins, otherwise 0
 unfoldable pub readyRefusal : State → ℕ
 readyRefusal p = firstOf (check (p .image)) (require (wellFormed (p .journal) (blockCount (p .image))) 8 0)
 
@@ -21,11 +23,11 @@ pub record Ready (s j : List ℕ) : Type 0 where
 
 pub record Inspects (p : State) (number last : ℕ) : Type 0 where
   pub number-is : number ≡ readyRefusal p
-  pub found : number ≡ 0 → last ≡ lastRecord (p .journal)
+  pub found : last ≡ accept number (lastRecord (p .journal)) 0
 
--- the record of named blocks
-abbrev pub recordNamed : List ℕ → List ℕ → List ℕ
-recordNamed s named = recordBytes s (ascending (blockCount s) named)
+-- the record of the blocks that are marked
+abbrev pub recordMarked : List ℕ → List ℕ → List ℕ
+recordMarked s marks = recordBytes s (markedFrom marks 0 (blockCount s))
 
 -- What recording gives: the length of the record and the journal with it; or 0 and the journal as it was, if there is no room (15).
 unfoldable pub roomRefusal : List ℕ → List ℕ → ℕ

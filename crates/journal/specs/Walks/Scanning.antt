@@ -2,7 +2,7 @@
 use Prim.Native.Nat.{ℕ, _≤_}
 use mathlib.Core.Path.{_≡_}
 use mathlib.Core.List.{List, map}
-use mathlib.Core.Bool.{Bool, true, _&&_}
+use mathlib.Core.Bool.{Bool, _&&_, cond}
 use lib.ListN.{length, getD}
 use lib.Dec.{eqb, ltb}
 use Rattle.layout.specs.Lists.{within, interval, every}
@@ -27,7 +27,7 @@ blocksRise j n at lo i k =
     let bs = map (blockAt j at) (interval i k) in
     rising lo bs && every (λ b. ltb b n) bs
 
--- what a scan gives: whether all is right, and then the offset of the last record
+-- what a scan gives: whether all is right, and then the offset of the last record, otherwise 0
 pub record Scans (j : List ℕ) (right ok : Bool) (last : ℕ) : Type 0 where
   pub well : ok ≡ right
-  pub found : ok ≡ true → last ≡ lastRecord j
+  pub found : last ≡ cond ok (lastRecord j) 0

@@ -15,6 +15,12 @@ const JOURNAL: usize = 16_384;
 const ANSWERS: usize = 16_384;
 const SCRIPT: usize = 65_536;
 
+/// What the program writes first: all calls were made, the script is not of
+/// the form, or its answers have no room. No rule has the last two numbers.
+const DONE: u8 = 0;
+const MALFORMED: u8 = b'M';
+const NO_ROOM: u8 = b'R';
+
 /// The header of an item, and the offsets of two of its fields.
 const HEADER: usize = 33;
 const NAME_LENGTH: usize = 25;
@@ -34,24 +40,24 @@ pub fn run(rng: &mut Rng, round: u64, t: &mut Tester) {
         example(t);
     }
     let mut script = any_script(rng, &MIXES[round as usize % MIXES.len()]);
-    let number = match round % 8 {
+    let status = match round % 8 {
         0 => {
             spoil(rng, &mut script);
-            1
+            MALFORMED
         }
-        1 => 2 * fill(rng, &mut script, 0),
-        2 => 2 * fill(rng, &mut script, 1),
+        1 => fill(rng, &mut script, 0),
+        2 => fill(rng, &mut script, 1),
         3 => {
             fill(rng, &mut script, 300);
             spoil(rng, &mut script);
-            1
+            MALFORMED
         }
-        _ => 0,
+        _ => DONE,
     };
-    t.report.about(format!("script of {} bytes, number {number}", script.bytes.len()));
-    let expected = match number {
-        0 => outcome(0, script.replay.replayed(), &script.answers),
-        number => outcome(number, &fresh(), &[]),
+    t.report.about(format!("script of {} bytes, status {status}", script.bytes.len()));
+    let expected = match status {
+        DONE => outcome(DONE, script.replay.replayed(), &script.answers),
+        refused => outcome(refused, &fresh(), &[]),
     };
     compare(t, &script.bytes, &expected);
 }
@@ -83,7 +89,7 @@ fn example(t: &mut Tester) {
     let create = Create { name, kind, user: 1, group: 2, permissions: 7, flags: 0, time };
     let after = reference::apply(&fresh(), &Change::Create(create)).unwrap().state;
     t.report.about("the example of docs/SCRIPT.md");
-    compare(t, &script, &outcome(0, &after, &answers));
+    compare(t, &script, &outcome(DONE, &after, &answers));
 }
 
 /// The bytes that lines of hexadecimal digits stand for.
@@ -129,12 +135,16 @@ fn any_script(rng: &mut Rng, mix: &Mix) -> Script {
 }
 
 /// Adds a read whose answer leaves no room, or is so many bytes too long: gives
-/// 0 if all answers fit, else 1.
+/// the status.
 fn fill(rng: &mut Rng, script: &mut Script, more: usize) -> u8 {
     let buffer = rng.bytes(ANSWERS - 16 - script.answers.len() + more);
     let name = any_name(rng, &script.replay.replayed().image);
     script.push(rng, &Call::Read { name, offset: 0, buffer });
-    u8::from(more > 0)
+    if more > 0 {
+        NO_ROOM
+    } else {
+        DONE
+    }
 }
 
 /// Makes a script that is not of the form.
@@ -158,9 +168,9 @@ fn spoil(rng: &mut Rng, script: &mut Script) {
     }
 }
 
-/// What the program writes: the number, then image, journal and answers.
-fn outcome(number: u8, state: &State, answers: &[u8]) -> Vec<u8> {
-    let mut bytes = vec![number];
+/// What the program writes: the status, then image, journal and answers.
+fn outcome(status: u8, state: &State, answers: &[u8]) -> Vec<u8> {
+    let mut bytes = vec![status];
     bytes.extend(&state.image);
     bytes.extend(&state.journal);
     bytes.extend(answers);
@@ -217,10 +227,10 @@ fn encoded(answer: &Answer) -> Vec<u8> {
         Answer::Found(Ok(f)) => ([0, f.slot, f.size, f.blocks], vec![]),
         Answer::Found(Err(number)) => ([*number, 0, 0, 0], vec![]),
         Answer::Read { number, count, buffer } => ([*number, *count, 0, 0], buffer.clone()),
-        Answer::Part { bytes, .. } => {
+        Answer::Part { range, bytes } => {
             let mut part = bytes.clone();
             part.resize(512, 0);
-            ([bytes.len() as u32, 0, 0, 0], part)
+            ([range.start as u32, range.len() as u32, 0, 0], part)
         }
     };
     let mut all: Vec<u8> = numbers.iter().flat_map(|n| n.to_be_bytes()).collect();

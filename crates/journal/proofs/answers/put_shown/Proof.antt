@@ -4,8 +4,8 @@ use Rattle.journal.proofs.answers.put_shown.Statement.{statement}
 use Rattle.journal.proofs.answers.put_shown.Tie as tie
 use Rattle.journal.proofs.Walks.Encoding.{shown-written}
 
-cast-t10 : tie.Need-cast-t10
-cast-t10 c = search needs
+cast-t11 : tie.Need-cast-t11
+cast-t11 c = search needs
 
 put-numbers-requires : tie.Need-put-numbers-requires
 put-numbers-requires c κs = search needs
@@ -47,13 +47,13 @@ returns c =
     let put-numbers = c .before .before .before .before .before .before .before .before .before .before .put-numbers in
     let a = c .before .before .before .before .before .before .before .before .before .before .before .before .before .before .args in
     let p = c .before .before .before .before .before .before .before .before .before .before .before .before .before .before .pre in
-    shown-written (a .part .now) _ (a .bytes .now) _ _ (p .1) (p .0) (put-numbers .ensures) (copy .ensures) (clear .ensures) (omega arith)
+    shown-written (a .part .now) _ (a .bytes .now) _ _ (a .start) (p .1) (p .0) (put-numbers .ensures) (copy .ensures) (clear .ensures) (omega arith)
 
 pub put-shown-spec : {M : Type 1} → statement M
 put-shown-spec =
     tie.close
     (tie.spec
-    cast-t10
+    cast-t11
     put-numbers-requires
     add-e
     sub-copy

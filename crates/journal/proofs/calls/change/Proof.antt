@@ -1,6 +1,7 @@
 -- Each exit is one law of Changes.
 use mathlib.Core.Path.{sym, _∙_}
 use Rattle.journal.proofs.Walks.Changes.{ready, change-unready, change-refused, change-full, change-done}
+use native.Mathlib.Omega.{arith}
 use borrow.Author.Needs.{needs}
 use Rattle.journal.proofs.calls.change.Statement.{statement}
 use Rattle.journal.proofs.calls.change.Tie as tie
@@ -15,7 +16,9 @@ same-length-2 : tie.Need-same-length-2
 same-length-2 c = search needs
 
 returns : tie.Need-returns
-returns c = change-unready _ _ _ _ (c .before .inspect .ensures .number-is) (c .if1 .taken)
+returns c =
+    let d = change-unready _ _ _ _ (c .before .inspect .ensures .number-is) (c .if1 .taken) in
+    (d .0, (d .1, c .if1 .taken))
 
 refusal-requires : tie.Need-refusal-requires
 refusal-requires c κs = ready _ _ (sym (c .before .before .inspect .ensures .number-is) ∙ c .before .if1 .left) .sound
@@ -30,7 +33,8 @@ returns-2 : tie.Need-returns-2
 returns-2 c =
     let if1 = c .before .before .before .if1 in
     let inspect = c .before .before .before .before .inspect in
-    change-refused _ _ _ (ready _ _ (sym (inspect .ensures .number-is) ∙ if1 .left)) _ (c .before .refusal .ensures) (c .if2 .taken)
+    let d = change-refused _ _ _ (ready _ _ (sym (inspect .ensures .number-is) ∙ if1 .left)) _ (c .before .refusal .ensures) (c .if2 .taken) in
+    (d .0, (d .1, c .if2 .taken))
 
 record-change-requires : tie.Need-record-change-requires
 record-change-requires c κs =
@@ -53,7 +57,8 @@ returns-3 c =
     let refusal = c .before .before .before .before .before .before .before .refusal in
     let if1 = c .before .before .before .before .before .before .before .before .before .if1 in
     let inspect = c .before .before .before .before .before .before .before .before .before .before .inspect in
-    change-full _ _ _ (ready _ _ (sym (inspect .ensures .number-is) ∙ if1 .left)) (sym (refusal .ensures) ∙ if2 .left) _ _ (record-change .ensures) (c .if3 .taken)
+    let d = change-full _ _ _ (ready _ _ (sym (inspect .ensures .number-is) ∙ if1 .left)) (sym (refusal .ensures) ∙ if2 .left) _ _ (record-change .ensures) (c .if3 .taken) in
+    (d .0, (d .1, λ e. omega arith))
 
 make-requires : tie.Need-make-requires
 make-requires c κs =
@@ -78,7 +83,8 @@ returns-4 c =
     let refusal = c .before .before .before .before .before .before .before .before .before .before .before .refusal in
     let if1 = c .before .before .before .before .before .before .before .before .before .before .before .before .before .if1 in
     let inspect = c .before .before .before .before .before .before .before .before .before .before .before .before .before .before .inspect in
-    change-done _ _ _ (ready _ _ (sym (inspect .ensures .number-is) ∙ if1 .left)) (sym (refusal .ensures) ∙ if2 .left) _ _ (record-change .ensures) (if3 .left) _ (make .ensures .0) _ (make .ensures .1)
+    let d = change-done _ _ _ (ready _ _ (sym (inspect .ensures .number-is) ∙ if1 .left)) (sym (refusal .ensures) ∙ if2 .left) _ _ (record-change .ensures) (if3 .left) _ (make .ensures .0) _ (make .ensures .1) in
+    (d .0, (d .1, tt))
 
 pub change-spec : {M : Type 1} → statement M
 change-spec =

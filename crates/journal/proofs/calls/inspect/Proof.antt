@@ -5,6 +5,7 @@ use borrow.Author.Needs.{needs}
 use Rattle.journal.proofs.calls.inspect.Statement.{statement}
 use Rattle.journal.proofs.calls.inspect.Tie as tie
 use Rattle.layout.proofs.Laws.Sound.{sound}
+use Rattle.journal.proofs.Walks.Scanning.{scanned-last}
 use Rattle.journal.proofs.Walks.Changes.{inspects-unsound, inspects-malformed, inspects-ready}
 
 check-requires : tie.Need-check-requires
@@ -27,7 +28,7 @@ returns-3 c =
     let if1 = c .before .before .if1 in
     let check = c .before .before .before .check in
     let t : scan .result .ok ≡ true = not-false _ (c .if2 .left) in
-    inspects-ready _ _ (sym (check .ensures) ∙ if1 .left) (sym t ∙ scan .ensures .well) (scan .ensures .found t)
+    inspects-ready _ _ (sym (check .ensures) ∙ if1 .left) (sym t ∙ scan .ensures .well) (scanned-last _ (scan .ensures) t)
 
 pub inspect-spec : {M : Type 1} → statement M
 inspect-spec = tie.close (tie.spec check-requires returns scan-requires returns-2 returns-3)

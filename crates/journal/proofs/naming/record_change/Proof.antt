@@ -1,5 +1,4 @@
-use mathlib.Core.Path.{_∙_}
-use Rattle.journal.specs.Run.{recordOf}
+use Rattle.journal.proofs.Walks.Changes.{recorded-named}
 use borrow.Author.Needs.{needs}
 use Rattle.journal.proofs.naming.record_change.Statement.{statement}
 use Rattle.journal.proofs.naming.record_change.Tie as tie
@@ -23,12 +22,12 @@ same-length : tie.Need-same-length
 same-length c = search needs
 
 returns : tie.Need-returns
-unfolding recordOf
 returns c =
     let record-marked = c .before .before .record-marked in
     let mark-named = c .before .before .before .before .before .before .mark-named in
     let no-marks = c .before .before .before .before .before .before .before .before .no-marks in
-    record-marked .ensures _ (mark-named .ensures ∙ rw (no-marks .ensures))
+    let p = c .before .before .before .before .before .before .before .before .before .before .before .before .before .pre in
+    recorded-named _ _ _ _ _ (p .0) (no-marks .ensures) (mark-named .ensures) _ _ (record-marked .ensures)
 
 pub record-change-spec : {M : Type 1} → statement M
 record-change-spec =

@@ -33,7 +33,7 @@ unfolding used
 returns c =
     let record-size = c .before .before .before .record-size in
     let p = c .before .before .before .before .before .before .before .pre in
-    λ named e. not-recorded _ _ _ named (p .0) e _ (record-size .ensures) (omega (arith, c .before .get32 .ensures, c .if1 .taken))
+    not-recorded _ _ _ (p .0) _ (record-size .ensures) (omega (arith, c .before .get32 .ensures, c .if1 .taken))
 
 add-record-requires : tie.Need-add-record-requires
 unfolding used
@@ -61,7 +61,7 @@ returns-2 c =
     let get32 = c .before .before .before .before .before .get32 in
     let record-size = c .before .before .before .before .before .before .before .record-size in
     let p = c .before .before .before .before .before .before .before .before .before .before .before .pre in
-    λ named e. now-recorded _ _ _ named (p .0) e _ (record-size .ensures) (omega (arith, get32 .ensures, if1 .left)) _ (add-record .ensures)
+    now-recorded _ _ _ (p .0) _ (record-size .ensures) (omega (arith, get32 .ensures, if1 .left)) _ (add-record .ensures)
 
 pub record-marked-spec : {M : Type 1} → statement M
 record-marked-spec =

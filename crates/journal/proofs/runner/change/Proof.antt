@@ -68,7 +68,7 @@ returns-2 c =
     let if1 = c .before .before .before .before .before .before .before .before .before .before .before .before .before .before .before .if1 in
     let p = c .before .before .before .before .before .before .before .before .before .before .before .before .before .before .before .before .before .before .before .before .before .pre in
     let call = item-change _ _ (change-of .result) _ _ (name-of .ensures) (data-of .ensures) (change-of .ensures) (p .1) (if1 .left) in
-    change-made _ _ _ _ _ _ _ _ _ _ (changed-numbers .ensures) (put-numbers .ensures) _ _ call (p .0 .room) (change .ensures .0) (change .ensures .1)
+    change-made _ _ _ _ _ _ _ _ _ _ (changed-numbers .ensures) (put-numbers .ensures) _ _ call (p .0 .room) (change .ensures .0) (change .ensures .1 .0)
 
 pub change-spec : {M : Type 1} → statement M
 change-spec =

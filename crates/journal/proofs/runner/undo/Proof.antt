@@ -27,7 +27,7 @@ returns c =
     let undone-numbers = c .before .before .before .undone-numbers in
     let undo = c .before .before .before .before .before .before .before .before .before .undo in
     let p = c .before .before .before .before .before .before .before .before .before .before .before .before .before .before .before .pre in
-    undo-made _ _ _ _ _ _ _ _ _ _ (undone-numbers .ensures) (put-numbers .ensures) (p) (undo .ensures .0) (undo .ensures .1)
+    undo-made _ _ _ _ _ _ _ _ _ _ (undone-numbers .ensures) (put-numbers .ensures) (p) (undo .ensures .0) (undo .ensures .1 .0)
 
 pub undo-spec : {M : Type 1} → statement M
 undo-spec =

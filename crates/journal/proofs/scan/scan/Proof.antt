@@ -1,5 +1,5 @@
-use mathlib.Core.Path.{_≡_, sym, _∙_}
-use mathlib.Core.Bool.{true, false, false≢true}
+use mathlib.Core.Path.{_≡_, refl, sym, _∙_}
+use mathlib.Core.Bool.{true, false}
 use native.Mathlib.Omega.{arith}
 use borrow.Author.Tests.{not-true, not-false}
 use Rattle.journal.specs.Journal.{used}
@@ -14,7 +14,7 @@ head-ok-requires c κs = search needs
 returns : tie.Need-returns
 returns c =
     let t : c .before .head-ok .result ≡ false = not-true _ (c .if1 .taken) in
-    record { well = sym (head-well _ _ ∙ rw (sym (c .before .head-ok .ensures) ∙ t)); found = λ e. absurd (false≢true e) }
+    record { well = sym (head-well _ _ ∙ rw (sym (c .before .head-ok .ensures) ∙ t)); found = refl }
 
 get32-requires : tie.Need-get32-requires
 get32-requires c κs =

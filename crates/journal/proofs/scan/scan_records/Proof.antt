@@ -1,6 +1,6 @@
 -- What the records from here on give is what all give; a right record has at least 520 bytes, so the scan moves on.
-use mathlib.Core.Path.{_≡_, sym, _∙_}
-use mathlib.Core.Bool.{true, false, false≢true}
+use mathlib.Core.Path.{_≡_, refl, sym, _∙_}
+use mathlib.Core.Bool.{true, false}
 use Prim.Native.Nat.{_-_}
 use native.Mathlib.Omega.{arith}
 use borrow.Author.Needs.{needs}
@@ -25,7 +25,7 @@ returns : tie.Need-returns Inv-loop μ-loop
 returns c =
     let l = c .before .before .before .loop in
     let t : c .before .record-ok .result ≡ false = not-true _ (c .if1 .taken) in
-    record { well = sym (scan-bad _ _ _ _ (l .inv) (omega arith) (sym (c .before .record-ok .ensures) ∙ t)); found = λ e. absurd (false≢true e) }
+    record { well = sym (scan-bad _ _ _ _ (l .inv) (omega arith) (sym (c .before .record-ok .ensures) ∙ t)); found = refl }
 
 get32-requires : tie.Need-get32-requires Inv-loop μ-loop
 get32-requires c κs =
