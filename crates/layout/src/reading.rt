@@ -76,7 +76,8 @@ pub fn extent_in_place(image: &[u8], name: &[u8], index: usize) -> Extent
 
 // Look in place: the image's own bytes of the file's block `index`, up to the file's end; empty if there are none.
 pub fn look_in_place<'a>(image: &'a [u8], name: &[u8], index: usize) -> &'a [u8]
-    ensures { λ r. ⌜ now r ≡ lookInPlace (now (image .entry)) (now (name .entry)) index ⌝ }
+    ensures bytes { λ r. ⌜ now r ≡ lookInPlace (now (image .entry)) (now (name .entry)) index ⌝ }
+    ensures place { λ r. ⌜ r .ptr ≡ (image .entry .ptr .0, extentOf (now (image .entry)) (now (name .entry)) index .start + image .entry .ptr .1) ⌝ }
 {
     let x = extent_in_place(image, name, index);
     let a = x.start;

@@ -18,7 +18,7 @@ look-in-place-requires : tie.Need-look-in-place-requires
 look-in-place-requires c κs = search needs
 
 put-shown-requires : tie.Need-put-shown-requires
-put-shown-requires c κs = (rw (c .before .look-in-place .ensures) (look-short _ _ _), c .before .before .before .before .before .before .before .pre .1)
+put-shown-requires c κs = (rw (c .before .look-in-place .ensures .0) (look-short _ _ _), c .before .before .before .before .before .before .before .pre .1)
 
 same-length : tie.Need-same-length
 same-length c = search needs
@@ -30,7 +30,7 @@ returns c =
     let look-in-place = c .before .before .before .before .look-in-place in
     let name-of = c .before .before .before .before .before .name-of in
     let get64 = c .before .before .before .before .before .before .get64 in
-    put-shown .ensures ∙ rw (look-in-place .ensures, name-of .ensures, get64 .ensures)
+    put-shown .ensures ∙ rw (look-in-place .ensures .0, name-of .ensures, get64 .ensures)
 
 pub look-in-place-spec : {M : Type 1} → statement M
 look-in-place-spec =
