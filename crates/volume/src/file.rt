@@ -14,7 +14,8 @@ ghost use Rattle.layout.specs.Walks.Slots.{entryAt};
 // The file of a name that is there.
 pub fn locate(image: &[u8], name: &[u8]) -> layout::root::File
     requires { ⌜ (check (now image) ≡ 0) × (nameRefusal (now image) (now name) ≡ 0) ⌝ }
-    ensures { λ r. ⌜ Located (now (image .entry)) (now (name .entry)) (r .slot) (r .block) (r .first) (r .size) (r .blocks) ⌝ }
+    ensures file { λ r. ⌜ Located (now (image .entry)) (now (name .entry)) (r .slot) (r .block) (r .first) (r .size) (r .blocks) ⌝ }
+    ensures number { λ r. ⌜ r .number ≡ 0 ⌝ }
 {
     layout::root::open_file(image, name)
 }
