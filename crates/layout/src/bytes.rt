@@ -26,7 +26,7 @@ pub fn equal(a: &[u8], b: &[u8]) -> bool
 }
 
 // Whether every byte is 0.
-pub fn all_zero(s: &[u8]) -> bool
+fn all_zero(s: &[u8]) -> bool
     ensures { λ r. ⌜ r ≡ allZero (now (s .entry)) ⌝ }
 {
     for i in 0..s.len() {
@@ -38,7 +38,7 @@ pub fn all_zero(s: &[u8]) -> bool
 }
 
 // How many bytes stand before the first zero.
-pub fn name_length(field: &[u8]) -> usize
+fn name_length(field: &[u8]) -> usize
     ensures { λ r. ⌜ r ≡ length (unpadded (now (field .entry))) ⌝ }
 {
     for i in 0..field.len() {

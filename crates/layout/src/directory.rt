@@ -41,7 +41,7 @@ pub fn is_file(ty: u8) -> bool
 }
 
 // Whether the numbers of the file at o are right.
-pub fn numbers_ok(block: &[u8], o: usize) -> bool
+fn numbers_ok(block: &[u8], o: usize) -> bool
     requires { ⌜ o + 128 ≤ length (now block) ⌝ }
     ensures { λ r. ⌜ r ≡ numbersOk (now (block .entry)) o ⌝ }
 {
@@ -63,7 +63,7 @@ pub fn numbers_ok(block: &[u8], o: usize) -> bool
 }
 
 // Whether the slot at o of a directory's block is free or a good file.
-pub fn slot_ok(block: &[u8], o: usize) -> bool
+fn slot_ok(block: &[u8], o: usize) -> bool
     requires { ⌜ o + 128 ≤ length (now block) ⌝ }
     ensures { λ r. ⌜ r ≡ slotOk (now (block .entry)) o ⌝ }
 {
@@ -82,7 +82,7 @@ pub fn slot_ok(block: &[u8], o: usize) -> bool
 }
 
 // Whether the entry at the start of block b is its self entry.
-pub fn self_ok(block: &[u8], b: usize, parent: usize) -> bool
+fn self_ok(block: &[u8], b: usize, parent: usize) -> bool
     requires { ⌜ 128 ≤ length (now block) ⌝ }
     ensures { λ r. ⌜ r ≡ selfOk (now (block .entry)) 0 b parent ⌝ }
 {
@@ -103,7 +103,7 @@ pub fn self_ok(block: &[u8], b: usize, parent: usize) -> bool
 }
 
 // The slots of an image, by the block b that holds slot k: its type, a number of its entry, whether it is right.
-pub fn type_of(block: &[u8], o: usize) -> u8
+fn type_of(block: &[u8], o: usize) -> u8
     requires { ⌜ o < length (now block) ⌝ }
     ensures { λ r. ⌜ r ≡ typeOf (now (block .entry)) o ⌝ }
 {
@@ -120,7 +120,7 @@ pub fn type_at(image: &[u8], b: usize, k: usize) -> u8
     type_of(&image[a..e], o)
 }
 
-pub fn word_at(image: &[u8], b: usize, k: usize, at: usize) -> u32
+fn word_at(image: &[u8], b: usize, k: usize, at: usize) -> u32
     requires { ⌜ (512 * b + 512 ≤ length (now image)) × (at + 4 ≤ 128) ⌝ }
     ensures { λ r. ⌜ r ≡ be32 (now (image .entry)) (entryAt b k + at) ⌝ }
 {
@@ -137,7 +137,7 @@ pub fn number_at(image: &[u8], b: usize, k: usize, at: usize) -> usize
     word_at(image, b, k, at) as usize
 }
 
-pub fn slot_ok_at(image: &[u8], b: usize, k: usize) -> bool
+fn slot_ok_at(image: &[u8], b: usize, k: usize) -> bool
     requires { ⌜ 512 * b + 512 ≤ length (now image) ⌝ }
     ensures { λ r. ⌜ r ≡ slotOk (now (image .entry)) (entryAt b k) ⌝ }
 {
@@ -148,7 +148,7 @@ pub fn slot_ok_at(image: &[u8], b: usize, k: usize) -> bool
 }
 
 // Whether each slot from 1 to 4·d − 2 of a directory is right, and the last is the end.
-pub fn slots_ok(image: &[u8], n: usize, first: usize, d: usize) -> bool
+fn slots_ok(image: &[u8], n: usize, first: usize, d: usize) -> bool
     requires { ⌜ DirectoryAt (now image) n first d ⌝ }
     ensures { λ r. ⌜ r ≡ slotsOk (now (image .entry)) (chain (next (now (image .entry))) first d) 1 (4 * d - 2)
         && eqb (typeOf (now (image .entry)) (slotAt (chain (next (now (image .entry))) first d) (4 * d - 1))) 0xFF ⌝ }
@@ -179,7 +179,7 @@ pub fn entries_ok(image: &[u8], n: usize, first: usize, d: usize) -> bool
 }
 
 // Follows the chain of the file in slot k, which is in block b, if there is one, and marks its blocks.
-pub fn follow_slot(image: &[u8], t: usize, n: usize, b: usize, k: usize, marks: &mut [u8]) -> bool
+fn follow_slot(image: &[u8], t: usize, n: usize, b: usize, k: usize, marks: &mut [u8]) -> bool
     requires { ⌜ (Room (now image) t n (now marks)) × (b < n) ⌝ }
     ensures { λ r. ⌜ walked r (now (marks .exit)) ≡ followSlot (now (image .entry)) n (entryAt b k) (now (marks .entry)) ⌝ }
 {
@@ -240,7 +240,7 @@ pub fn directory_ok(
 }
 
 // Whether the slot at o of a directory's block is a file of a good name.
-pub fn slot_holds(block: &[u8], o: usize, name: &[u8]) -> bool
+fn slot_holds(block: &[u8], o: usize, name: &[u8]) -> bool
     requires { ⌜ (o + 128 ≤ length (now block)) × (goodName (now name) ≡ true) × (length (now name) ≤ maxName) ⌝ }
     ensures { λ r. ⌜ r ≡ isFile (typeOf (now (block .entry)) o) && same (nameOf (now (block .entry)) o) (now (name .entry)) ⌝ }
 {
@@ -252,7 +252,7 @@ pub fn slot_holds(block: &[u8], o: usize, name: &[u8]) -> bool
     super::bytes::holds_name(&block[a..e], name)
 }
 
-pub fn holds_at(image: &[u8], b: usize, k: usize, name: &[u8]) -> bool
+fn holds_at(image: &[u8], b: usize, k: usize, name: &[u8]) -> bool
     requires { ⌜ (512 * b + 512 ≤ length (now image)) × (goodName (now name) ≡ true) × (length (now name) ≤ maxName) ⌝ }
     ensures { λ r. ⌜ r ≡ isFile (typeOf (now (image .entry)) (entryAt b k)) && same (nameOf (now (image .entry)) (entryAt b k)) (now (name .entry)) ⌝ }
 {

@@ -21,7 +21,7 @@ pub fn locate(image: &[u8], name: &[u8]) -> layout::root::File
 }
 
 // Zeroes the `count` bytes at `at`.
-pub fn clear_part(s: &mut [u8], at: usize, count: usize)
+fn clear_part(s: &mut [u8], at: usize, count: usize)
     requires { ⌜ at + count ≤ length (now s) ⌝ }
     ensures { λ _. ⌜ now (s .exit) ≡ splice (now (s .entry)) at (zeros count) ⌝ }
 {
