@@ -3,7 +3,6 @@ ghost use Prim.Native.Nat.{_+_, _≤_, _<_};
 ghost use mathlib.Core.Bool.{true};
 ghost use mathlib.Core.Path.{_≡_};
 ghost use lib.ListN.{length, replicate};
-ghost use Rattle.layout.specs.Limits.{maxName};
 ghost use Rattle.layout.specs.Lists.{same};
 ghost use Rattle.layout.specs.Bytes.{part, splice};
 ghost use Rattle.layout.specs.Directory.{unpadded, goodName};
@@ -84,7 +83,7 @@ pub fn good_name(name: &[u8]) -> bool
 
 // Whether a field of 80 bytes holds a good name. It looks from the end, where names of one kind differ most.
 pub fn holds_name(field: &[u8], name: &[u8]) -> bool
-    requires { ⌜ (length (now field) ≡ 80) × (goodName (now name) ≡ true) × (length (now name) ≤ maxName) ⌝ }
+    requires { ⌜ (length (now field) ≡ 80) × (goodName (now name) ≡ true) ⌝ }
     ensures { λ r. ⌜ r ≡ same (unpadded (now (field .entry))) (now (name .entry)) ⌝ }
 {
     let mut i = name.len();

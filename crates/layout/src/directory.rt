@@ -4,7 +4,6 @@ ghost use mathlib.Core.Bool.{_&&_, true};
 ghost use mathlib.Core.Path.{_≡_};
 ghost use lib.Dec.{eqb};
 ghost use lib.ListN.{length};
-ghost use Rattle.layout.specs.Limits.{maxName};
 ghost use Rattle.layout.specs.Lists.{same};
 ghost use Rattle.layout.specs.Bytes.{be32};
 ghost use Rattle.layout.specs.Table.{next, chain};
@@ -241,7 +240,7 @@ pub fn directory_ok(
 
 // Whether the slot at o of a directory's block is a file of a good name.
 fn slot_holds(block: &[u8], o: usize, name: &[u8]) -> bool
-    requires { ⌜ (o + 128 ≤ length (now block)) × (goodName (now name) ≡ true) × (length (now name) ≤ maxName) ⌝ }
+    requires { ⌜ (o + 128 ≤ length (now block)) × (goodName (now name) ≡ true) ⌝ }
     ensures { λ r. ⌜ r ≡ isFile (typeOf (now (block .entry)) o) && same (nameOf (now (block .entry)) o) (now (name .entry)) ⌝ }
 {
     if !is_file(block[o]) {
@@ -253,7 +252,7 @@ fn slot_holds(block: &[u8], o: usize, name: &[u8]) -> bool
 }
 
 fn holds_at(image: &[u8], b: usize, k: usize, name: &[u8]) -> bool
-    requires { ⌜ (512 * b + 512 ≤ length (now image)) × (goodName (now name) ≡ true) × (length (now name) ≤ maxName) ⌝ }
+    requires { ⌜ (512 * b + 512 ≤ length (now image)) × (goodName (now name) ≡ true) ⌝ }
     ensures { λ r. ⌜ r ≡ isFile (typeOf (now (image .entry)) (entryAt b k)) && same (nameOf (now (image .entry)) (entryAt b k)) (now (name .entry)) ⌝ }
 {
     let o = 128 * (k % 4);
@@ -270,7 +269,7 @@ pub struct Entry {
 
 // The file of a good name in a directory.
 pub fn find(image: &[u8], n: usize, first: usize, d: usize, name: &[u8]) -> Entry
-    requires { ⌜ (DirectoryAt (now image) n first d) × (goodName (now name) ≡ true) × (length (now name) ≤ maxName) ⌝ }
+    requires { ⌜ (DirectoryAt (now image) n first d) × (goodName (now name) ≡ true) ⌝ }
     ensures { λ r. ⌜ Stands (chain (next (now (image .entry))) first d) n (fileSlot (now (image .entry)) (chain (next (now (image .entry))) first d) (now (name .entry))) (r .slot) (r .block) ⌝ }
 {
     let mut b = first;

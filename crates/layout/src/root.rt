@@ -3,7 +3,6 @@ ghost use Prim.Native.Nat.{_≤_};
 ghost use mathlib.Core.Bool.{true};
 ghost use mathlib.Core.Path.{_≡_};
 ghost use lib.ListN.{length};
-ghost use Rattle.layout.specs.Limits.{maxName};
 ghost use Rattle.layout.specs.Geometry.{blockCount};
 ghost use Rattle.layout.specs.Directory.{goodName, fileSlot, freeSlot, root};
 ghost use Rattle.layout.specs.Check.{check};
@@ -15,7 +14,7 @@ use super::directory::number_at;
 
 // The slot of a good name.
 pub fn find_file(image: &[u8], name: &[u8]) -> Entry
-    requires { ⌜ (check (now image) ≡ 0) × (goodName (now name) ≡ true) × (length (now name) ≤ maxName) ⌝ }
+    requires { ⌜ (check (now image) ≡ 0) × (goodName (now name) ≡ true) ⌝ }
     ensures { λ r. ⌜ Stands (root (now (image .entry))) (blockCount (now (image .entry))) (fileSlot (now (image .entry)) (root (now (image .entry))) (now (name .entry))) (r .slot) (r .block) ⌝ }
 {
     let n = image.len() / 512;

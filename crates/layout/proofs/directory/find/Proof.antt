@@ -26,7 +26,7 @@ holds-at-requires : tie.Need-holds-at-requires Inv-loop μ-loop
 holds-at-requires c κs =
     let l = c .before .loop in
     let h = place-below _ _ _ _ _ _ (c .before .before .before .before .pre .0 .blocks) (l .inv .0) in
-    (omega arith, c .before .before .before .before .pre .1, c .before .before .before .before .pre .2)
+    (omega arith, c .before .before .before .before .pre .1)
 
 returns : tie.Need-returns Inv-loop μ-loop
 returns c =

@@ -24,7 +24,7 @@ find-requires : tie.Need-find-requires
 find-requires c κs =
     let a = c .before .before .before .args in
     let p = c .before .before .before .pre in
-    (sound-directory (a .image .now) (p .0) _ (c .number-at .ensures), p .1, p .2)
+    (sound-directory (a .image .now) (p .0) _ (c .number-at .ensures), p .1)
 
 returns : tie.Need-returns
 returns c =
