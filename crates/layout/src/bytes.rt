@@ -1,13 +1,24 @@
 // Byte strings, and the field of a name.
-ghost use Prim.Native.Nat.{_+_, _≤_, _<_};
+ghost use Prim.Native.Nat.{_+_, _*_, _≤_, _<_};
 ghost use mathlib.Core.Bool.{true};
 ghost use mathlib.Core.Path.{_≡_};
 ghost use lib.ListN.{length, replicate};
 ghost use Rattle.layout.specs.Lists.{same};
-ghost use Rattle.layout.specs.Bytes.{part, splice};
+ghost use Rattle.layout.specs.Bytes.{part, block, splice};
 ghost use Rattle.layout.specs.Directory.{unpadded, goodName};
 ghost use Rattle.layout.specs.Walks.Entries.{allZero, fieldOk};
 use super::limits::MAX_NAME;
+
+// The 512 bytes of block b.
+pub fn block<'a>(image: &'a [u8], b: usize) -> &'a [u8]
+    requires { ⌜ 512 * b + 512 ≤ length (now image) ⌝ }
+    ensures bytes { λ r. ⌜ now r ≡ block (now (image .entry)) b ⌝ }
+    ensures size { λ r. ⌜ length (now r) ≡ 512 ⌝ }
+{
+    let a = 512 * b;
+    let e = a + 512;
+    &image[a..e]
+}
 
 // Whether two byte strings are equal.
 pub fn equal(a: &[u8], b: &[u8]) -> bool

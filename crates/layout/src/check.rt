@@ -58,12 +58,11 @@ fn head(image: &[u8]) -> u32
         return 1;
     }
     let n = image.len() / 512;
-    let a = 0;
-    let e = 512;
-    if !signed(&image[a..e]) {
+    let header = super::bytes::block(image, 0);
+    if !signed(header) {
         return 2;
     }
-    if !numbered(&image[a..e], n) {
+    if !numbered(header, n) {
         return 3;
     }
     0
@@ -102,9 +101,7 @@ fn counts_ok(image: &[u8], n: usize) -> bool
     ensures { λ r. ⌜ r ≡ stage7 (now (image .entry)) ⌝ }
 {
     let used = super::table::count_used(image, n);
-    let a = 0;
-    let e = 512;
-    counted(&image[a..e], n, used)
+    counted(super::bytes::block(image, 0), n, used)
 }
 
 // Stages 5 to 7, when the root's blocks are marked.

@@ -5,8 +5,8 @@ ghost use mathlib.Core.Path.{_≡_};
 ghost use lib.Dec.{eqb};
 ghost use lib.ListN.{length};
 ghost use Rattle.layout.specs.Lists.{same};
-ghost use Rattle.layout.specs.Bytes.{be32};
-ghost use Rattle.layout.specs.Table.{next, chain};
+ghost use Rattle.layout.specs.Bytes.{be32, part};
+ghost use Rattle.layout.specs.Table.{next, chain, tableBlockOf};
 ghost use Rattle.layout.specs.Directory.{slotAt, typeOf, isFile, nameOf, goodName, fileSlot, freeSlot};
 ghost use Rattle.layout.specs.Check.{slotOk, entriesOk};
 ghost use Rattle.layout.specs.Walks.Chains.{walked};
@@ -20,7 +20,7 @@ use super::number::get32;
 
 // The block of slot k, if b is that of slot k − 1.
 pub fn following(image: &[u8], b: usize, k: usize) -> usize
-    requires { ⌜ 512 + 4 * b + 4 ≤ length (now image) ⌝ }
+    requires { ⌜ 512 * tableBlockOf b + 512 ≤ length (now image) ⌝ }
     ensures { λ r. ⌜ r ≡ slotBlock (next (now (image .entry))) b k ⌝ }
 {
     if k % 4 == 0 {
@@ -114,9 +114,7 @@ pub fn type_at(image: &[u8], b: usize, k: usize) -> u8
     ensures { λ r. ⌜ r ≡ typeOf (now (image .entry)) (entryAt b k) ⌝ }
 {
     let o = 128 * (k % 4);
-    let a = 512 * b;
-    let e = a + 512;
-    type_of(&image[a..e], o)
+    type_of(super::bytes::block(image, b), o)
 }
 
 fn word_at(image: &[u8], b: usize, k: usize, at: usize) -> u32
@@ -124,9 +122,7 @@ fn word_at(image: &[u8], b: usize, k: usize, at: usize) -> u32
     ensures { λ r. ⌜ r ≡ be32 (now (image .entry)) (entryAt b k + at) ⌝ }
 {
     let o = 128 * (k % 4) + at;
-    let a = 512 * b;
-    let e = a + 512;
-    get32(&image[a..e], o)
+    get32(super::bytes::block(image, b), o)
 }
 
 pub fn number_at(image: &[u8], b: usize, k: usize, at: usize) -> usize
@@ -141,9 +137,26 @@ fn slot_ok_at(image: &[u8], b: usize, k: usize) -> bool
     ensures { λ r. ⌜ r ≡ slotOk (now (image .entry)) (entryAt b k) ⌝ }
 {
     let o = 128 * (k % 4);
-    let a = 512 * b;
-    let e = a + 512;
-    slot_ok(&image[a..e], o)
+    slot_ok(super::bytes::block(image, b), o)
+}
+
+// The name's field of the slot at o of a directory's block.
+fn field_of<'a>(block: &'a [u8], o: usize) -> &'a [u8]
+    requires { ⌜ o + 128 ≤ length (now block) ⌝ }
+    ensures { λ r. ⌜ now r ≡ part (now (block .entry)) (o + 48) 80 ⌝ }
+{
+    let a = o + 48;
+    let e = a + NAME_FIELD;
+    &block[a..e]
+}
+
+// The name's field of slot k, which is in block b.
+pub fn field_at<'a>(image: &'a [u8], b: usize, k: usize) -> &'a [u8]
+    requires { ⌜ 512 * b + 512 ≤ length (now image) ⌝ }
+    ensures { λ r. ⌜ now r ≡ part (now (image .entry)) (entryAt b k + 48) 80 ⌝ }
+{
+    let o = 128 * (k % 4);
+    field_of(super::bytes::block(image, b), o)
 }
 
 // Whether each slot from 1 to 4·d − 2 of a directory is right, and the last is the end.
@@ -229,9 +242,7 @@ pub fn directory_ok(
     requires { ⌜ (Room (now image) t n (now marks)) × (b < n) ⌝ }
     ensures { λ r. ⌜ walked r (now (marks .exit)) ≡ followDirectory (now (image .entry)) n b parent (now (marks .entry)) ⌝ }
 {
-    let a = 512 * b;
-    let e = a + 512;
-    if !self_ok(&image[a..e], b, parent) {
+    if !self_ok(super::bytes::block(image, b), b, parent) {
         return false;
     }
     let d = number_at(image, b, 0, 12);
@@ -256,9 +267,7 @@ fn holds_at(image: &[u8], b: usize, k: usize, name: &[u8]) -> bool
     ensures { λ r. ⌜ r ≡ isFile (typeOf (now (image .entry)) (entryAt b k)) && same (nameOf (now (image .entry)) (entryAt b k)) (now (name .entry)) ⌝ }
 {
     let o = 128 * (k % 4);
-    let a = 512 * b;
-    let e = a + 512;
-    slot_holds(&image[a..e], o, name)
+    slot_holds(super::bytes::block(image, b), o, name)
 }
 
 // Where an entry is: its slot and the block that holds it. Slot 0: there is none.
