@@ -43,7 +43,7 @@ fn numbered(header: &[u8], n: usize) -> bool
     if get32(header, 12) as usize != n {
         return false;
     }
-    let t = (n + 127) / 128;
+    let t = super::geometry::table_blocks(n);
     if get32(header, 16) as usize != t {
         return false;
     }
@@ -109,7 +109,7 @@ fn files(image: &[u8], n: usize, d: usize, marks: &mut [u8]) -> u32
     requires { ⌜ RootMarked (now image) n d (now marks) ⌝ }
     ensures { λ r. ⌜ r ≡ filesStage (now (image .entry)) ⌝ }
 {
-    let t = (n + 127) / 128;
+    let t = super::geometry::table_blocks(n);
     let root = t + 1;
     if !super::directory::entries_ok(image, n, root, d) {
         return 5;
@@ -128,7 +128,7 @@ fn body(image: &[u8], n: usize) -> u32
     requires { ⌜ Shape (now image) n ⌝ }
     ensures { λ r. ⌜ r ≡ bodyStage (now (image .entry)) ⌝ }
 {
-    let t = (n + 127) / 128;
+    let t = super::geometry::table_blocks(n);
     let root = t + 1;
     let mut marks = super::table::no_marks();
     if !super::directory::directory_ok(image, t, n, root, root, &mut marks) {

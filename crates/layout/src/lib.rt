@@ -4,6 +4,7 @@ pub mod bytes;
 pub mod check;
 pub mod content;
 pub mod directory;
+pub mod geometry;
 pub mod limits;
 mod names;
 pub mod number;

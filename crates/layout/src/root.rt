@@ -18,7 +18,7 @@ pub fn find_file(image: &[u8], name: &[u8]) -> Entry
     ensures { λ r. ⌜ Stands (root (now (image .entry))) (blockCount (now (image .entry))) (fileSlot (now (image .entry)) (root (now (image .entry))) (now (name .entry))) (r .slot) (r .block) ⌝ }
 {
     let n = image.len() / 512;
-    let first = (n + 127) / 128 + 1;
+    let first = super::geometry::root_block(n);
     let d = number_at(image, first, 0, 12);
     super::directory::find(image, n, first, d, name)
 }
@@ -29,7 +29,7 @@ pub fn free_slot(image: &[u8]) -> Entry
     ensures { λ r. ⌜ Stands (root (now (image .entry))) (blockCount (now (image .entry))) (freeSlot (now (image .entry)) (root (now (image .entry)))) (r .slot) (r .block) ⌝ }
 {
     let n = image.len() / 512;
-    let first = (n + 127) / 128 + 1;
+    let first = super::geometry::root_block(n);
     let d = number_at(image, first, 0, 12);
     super::directory::find_free(image, n, first, d)
 }

@@ -98,7 +98,7 @@ fn list(image: &[u8], out: &mut [u8]) -> usize
     ensures { λ r. ⌜ TextPut (now (out .entry)) 0 (countLine (now (image .entry)) ++ joined (fileLine (now (image .entry))) (files (now (image .entry)) (root (now (image .entry))))) (now (out .exit)) r ⌝ }
 {
     let n = image.len() / 512;
-    let first = (n + 127) / 128 + 1;
+    let first = layout::geometry::root_block(n);
     let d = number_at(image, first, 0, 12);
     let p = count_line(image, out);
     file_lines(image, n, first, d, out, p)
