@@ -1,14 +1,24 @@
 // Byte strings, and the field of a name.
-ghost use Prim.Native.Nat.{_+_, _≤_, _<_};
+ghost use Prim.Native.Nat.{_+_, _*_, _≤_, _<_};
 ghost use mathlib.Core.Bool.{true};
 ghost use mathlib.Core.Path.{_≡_};
 ghost use lib.ListN.{length, replicate};
-ghost use Rattle.layout.specs.Limits.{maxName};
 ghost use Rattle.layout.specs.Lists.{same};
-ghost use Rattle.layout.specs.Bytes.{part, splice};
+ghost use Rattle.layout.specs.Bytes.{part, block, splice};
 ghost use Rattle.layout.specs.Directory.{unpadded, goodName};
 ghost use Rattle.layout.specs.Walks.Entries.{allZero, fieldOk};
 use super::limits::MAX_NAME;
+
+// The 512 bytes of block b.
+pub fn block<'a>(image: &'a [u8], b: usize) -> &'a [u8]
+    requires { ⌜ 512 * b + 512 ≤ length (now image) ⌝ }
+    ensures bytes { λ r. ⌜ now r ≡ block (now (image .entry)) b ⌝ }
+    ensures size { λ r. ⌜ length (now r) ≡ 512 ⌝ }
+{
+    let a = 512 * b;
+    let e = a + 512;
+    &image[a..e]
+}
 
 // Whether two byte strings are equal.
 pub fn equal(a: &[u8], b: &[u8]) -> bool
@@ -26,7 +36,7 @@ pub fn equal(a: &[u8], b: &[u8]) -> bool
 }
 
 // Whether every byte is 0.
-pub fn all_zero(s: &[u8]) -> bool
+fn all_zero(s: &[u8]) -> bool
     ensures { λ r. ⌜ r ≡ allZero (now (s .entry)) ⌝ }
 {
     for i in 0..s.len() {
@@ -38,7 +48,7 @@ pub fn all_zero(s: &[u8]) -> bool
 }
 
 // How many bytes stand before the first zero.
-pub fn name_length(field: &[u8]) -> usize
+fn name_length(field: &[u8]) -> usize
     ensures { λ r. ⌜ r ≡ length (unpadded (now (field .entry))) ⌝ }
 {
     for i in 0..field.len() {
@@ -84,7 +94,7 @@ pub fn good_name(name: &[u8]) -> bool
 
 // Whether a field of 80 bytes holds a good name. It looks from the end, where names of one kind differ most.
 pub fn holds_name(field: &[u8], name: &[u8]) -> bool
-    requires { ⌜ (length (now field) ≡ 80) × (goodName (now name) ≡ true) × (length (now name) ≤ maxName) ⌝ }
+    requires { ⌜ (length (now field) ≡ 80) × (goodName (now name) ≡ true) ⌝ }
     ensures { λ r. ⌜ r ≡ same (unpadded (now (field .entry))) (now (name .entry)) ⌝ }
 {
     let mut i = name.len();

@@ -43,7 +43,7 @@ fn numbered(header: &[u8], n: usize) -> bool
     if get32(header, 12) as usize != n {
         return false;
     }
-    let t = (n + 127) / 128;
+    let t = super::geometry::table_blocks(n);
     if get32(header, 16) as usize != t {
         return false;
     }
@@ -58,12 +58,11 @@ fn head(image: &[u8]) -> u32
         return 1;
     }
     let n = image.len() / 512;
-    let a = 0;
-    let e = 512;
-    if !signed(&image[a..e]) {
+    let header = super::bytes::block(image, 0);
+    if !signed(header) {
         return 2;
     }
-    if !numbered(&image[a..e], n) {
+    if !numbered(header, n) {
         return 3;
     }
     0
@@ -102,9 +101,7 @@ fn counts_ok(image: &[u8], n: usize) -> bool
     ensures { λ r. ⌜ r ≡ stage7 (now (image .entry)) ⌝ }
 {
     let used = super::table::count_used(image, n);
-    let a = 0;
-    let e = 512;
-    counted(&image[a..e], n, used)
+    counted(super::bytes::block(image, 0), n, used)
 }
 
 // Stages 5 to 7, when the root's blocks are marked.
@@ -112,7 +109,7 @@ fn files(image: &[u8], n: usize, d: usize, marks: &mut [u8]) -> u32
     requires { ⌜ RootMarked (now image) n d (now marks) ⌝ }
     ensures { λ r. ⌜ r ≡ filesStage (now (image .entry)) ⌝ }
 {
-    let t = (n + 127) / 128;
+    let t = super::geometry::table_blocks(n);
     let root = t + 1;
     if !super::directory::entries_ok(image, n, root, d) {
         return 5;
@@ -131,7 +128,7 @@ fn body(image: &[u8], n: usize) -> u32
     requires { ⌜ Shape (now image) n ⌝ }
     ensures { λ r. ⌜ r ≡ bodyStage (now (image .entry)) ⌝ }
 {
-    let t = (n + 127) / 128;
+    let t = super::geometry::table_blocks(n);
     let root = t + 1;
     let mut marks = super::table::no_marks();
     if !super::directory::directory_ok(image, t, n, root, root, &mut marks) {

@@ -4,10 +4,9 @@ ghost use mathlib.Core.Bool.{_&&_, true};
 ghost use mathlib.Core.Path.{_≡_};
 ghost use lib.Dec.{eqb};
 ghost use lib.ListN.{length};
-ghost use Rattle.layout.specs.Limits.{maxName};
 ghost use Rattle.layout.specs.Lists.{same};
-ghost use Rattle.layout.specs.Bytes.{be32};
-ghost use Rattle.layout.specs.Table.{next, chain};
+ghost use Rattle.layout.specs.Bytes.{be32, part};
+ghost use Rattle.layout.specs.Table.{next, chain, tableBlockOf};
 ghost use Rattle.layout.specs.Directory.{slotAt, typeOf, isFile, nameOf, goodName, fileSlot, freeSlot};
 ghost use Rattle.layout.specs.Check.{slotOk, entriesOk};
 ghost use Rattle.layout.specs.Walks.Chains.{walked};
@@ -21,7 +20,7 @@ use super::number::get32;
 
 // The block of slot k, if b is that of slot k − 1.
 pub fn following(image: &[u8], b: usize, k: usize) -> usize
-    requires { ⌜ 512 + 4 * b + 4 ≤ length (now image) ⌝ }
+    requires { ⌜ 512 * tableBlockOf b + 512 ≤ length (now image) ⌝ }
     ensures { λ r. ⌜ r ≡ slotBlock (next (now (image .entry))) b k ⌝ }
 {
     if k % 4 == 0 {
@@ -41,7 +40,7 @@ pub fn is_file(ty: u8) -> bool
 }
 
 // Whether the numbers of the file at o are right.
-pub fn numbers_ok(block: &[u8], o: usize) -> bool
+fn numbers_ok(block: &[u8], o: usize) -> bool
     requires { ⌜ o + 128 ≤ length (now block) ⌝ }
     ensures { λ r. ⌜ r ≡ numbersOk (now (block .entry)) o ⌝ }
 {
@@ -63,7 +62,7 @@ pub fn numbers_ok(block: &[u8], o: usize) -> bool
 }
 
 // Whether the slot at o of a directory's block is free or a good file.
-pub fn slot_ok(block: &[u8], o: usize) -> bool
+fn slot_ok(block: &[u8], o: usize) -> bool
     requires { ⌜ o + 128 ≤ length (now block) ⌝ }
     ensures { λ r. ⌜ r ≡ slotOk (now (block .entry)) o ⌝ }
 {
@@ -82,7 +81,7 @@ pub fn slot_ok(block: &[u8], o: usize) -> bool
 }
 
 // Whether the entry at the start of block b is its self entry.
-pub fn self_ok(block: &[u8], b: usize, parent: usize) -> bool
+fn self_ok(block: &[u8], b: usize, parent: usize) -> bool
     requires { ⌜ 128 ≤ length (now block) ⌝ }
     ensures { λ r. ⌜ r ≡ selfOk (now (block .entry)) 0 b parent ⌝ }
 {
@@ -103,7 +102,7 @@ pub fn self_ok(block: &[u8], b: usize, parent: usize) -> bool
 }
 
 // The slots of an image, by the block b that holds slot k: its type, a number of its entry, whether it is right.
-pub fn type_of(block: &[u8], o: usize) -> u8
+fn type_of(block: &[u8], o: usize) -> u8
     requires { ⌜ o < length (now block) ⌝ }
     ensures { λ r. ⌜ r ≡ typeOf (now (block .entry)) o ⌝ }
 {
@@ -115,19 +114,15 @@ pub fn type_at(image: &[u8], b: usize, k: usize) -> u8
     ensures { λ r. ⌜ r ≡ typeOf (now (image .entry)) (entryAt b k) ⌝ }
 {
     let o = 128 * (k % 4);
-    let a = 512 * b;
-    let e = a + 512;
-    type_of(&image[a..e], o)
+    type_of(super::bytes::block(image, b), o)
 }
 
-pub fn word_at(image: &[u8], b: usize, k: usize, at: usize) -> u32
+fn word_at(image: &[u8], b: usize, k: usize, at: usize) -> u32
     requires { ⌜ (512 * b + 512 ≤ length (now image)) × (at + 4 ≤ 128) ⌝ }
     ensures { λ r. ⌜ r ≡ be32 (now (image .entry)) (entryAt b k + at) ⌝ }
 {
     let o = 128 * (k % 4) + at;
-    let a = 512 * b;
-    let e = a + 512;
-    get32(&image[a..e], o)
+    get32(super::bytes::block(image, b), o)
 }
 
 pub fn number_at(image: &[u8], b: usize, k: usize, at: usize) -> usize
@@ -137,18 +132,35 @@ pub fn number_at(image: &[u8], b: usize, k: usize, at: usize) -> usize
     word_at(image, b, k, at) as usize
 }
 
-pub fn slot_ok_at(image: &[u8], b: usize, k: usize) -> bool
+fn slot_ok_at(image: &[u8], b: usize, k: usize) -> bool
     requires { ⌜ 512 * b + 512 ≤ length (now image) ⌝ }
     ensures { λ r. ⌜ r ≡ slotOk (now (image .entry)) (entryAt b k) ⌝ }
 {
     let o = 128 * (k % 4);
-    let a = 512 * b;
-    let e = a + 512;
-    slot_ok(&image[a..e], o)
+    slot_ok(super::bytes::block(image, b), o)
+}
+
+// The name's field of the slot at o of a directory's block.
+fn field_of<'a>(block: &'a [u8], o: usize) -> &'a [u8]
+    requires { ⌜ o + 128 ≤ length (now block) ⌝ }
+    ensures { λ r. ⌜ now r ≡ part (now (block .entry)) (o + 48) 80 ⌝ }
+{
+    let a = o + 48;
+    let e = a + NAME_FIELD;
+    &block[a..e]
+}
+
+// The name's field of slot k, which is in block b.
+pub fn field_at<'a>(image: &'a [u8], b: usize, k: usize) -> &'a [u8]
+    requires { ⌜ 512 * b + 512 ≤ length (now image) ⌝ }
+    ensures { λ r. ⌜ now r ≡ part (now (image .entry)) (entryAt b k + 48) 80 ⌝ }
+{
+    let o = 128 * (k % 4);
+    field_of(super::bytes::block(image, b), o)
 }
 
 // Whether each slot from 1 to 4·d − 2 of a directory is right, and the last is the end.
-pub fn slots_ok(image: &[u8], n: usize, first: usize, d: usize) -> bool
+fn slots_ok(image: &[u8], n: usize, first: usize, d: usize) -> bool
     requires { ⌜ DirectoryAt (now image) n first d ⌝ }
     ensures { λ r. ⌜ r ≡ slotsOk (now (image .entry)) (chain (next (now (image .entry))) first d) 1 (4 * d - 2)
         && eqb (typeOf (now (image .entry)) (slotAt (chain (next (now (image .entry))) first d) (4 * d - 1))) 0xFF ⌝ }
@@ -179,7 +191,7 @@ pub fn entries_ok(image: &[u8], n: usize, first: usize, d: usize) -> bool
 }
 
 // Follows the chain of the file in slot k, which is in block b, if there is one, and marks its blocks.
-pub fn follow_slot(image: &[u8], t: usize, n: usize, b: usize, k: usize, marks: &mut [u8]) -> bool
+fn follow_slot(image: &[u8], t: usize, n: usize, b: usize, k: usize, marks: &mut [u8]) -> bool
     requires { ⌜ (Room (now image) t n (now marks)) × (b < n) ⌝ }
     ensures { λ r. ⌜ walked r (now (marks .exit)) ≡ followSlot (now (image .entry)) n (entryAt b k) (now (marks .entry)) ⌝ }
 {
@@ -230,9 +242,7 @@ pub fn directory_ok(
     requires { ⌜ (Room (now image) t n (now marks)) × (b < n) ⌝ }
     ensures { λ r. ⌜ walked r (now (marks .exit)) ≡ followDirectory (now (image .entry)) n b parent (now (marks .entry)) ⌝ }
 {
-    let a = 512 * b;
-    let e = a + 512;
-    if !self_ok(&image[a..e], b, parent) {
+    if !self_ok(super::bytes::block(image, b), b, parent) {
         return false;
     }
     let d = number_at(image, b, 0, 12);
@@ -240,8 +250,8 @@ pub fn directory_ok(
 }
 
 // Whether the slot at o of a directory's block is a file of a good name.
-pub fn slot_holds(block: &[u8], o: usize, name: &[u8]) -> bool
-    requires { ⌜ (o + 128 ≤ length (now block)) × (goodName (now name) ≡ true) × (length (now name) ≤ maxName) ⌝ }
+fn slot_holds(block: &[u8], o: usize, name: &[u8]) -> bool
+    requires { ⌜ (o + 128 ≤ length (now block)) × (goodName (now name) ≡ true) ⌝ }
     ensures { λ r. ⌜ r ≡ isFile (typeOf (now (block .entry)) o) && same (nameOf (now (block .entry)) o) (now (name .entry)) ⌝ }
 {
     if !is_file(block[o]) {
@@ -252,14 +262,12 @@ pub fn slot_holds(block: &[u8], o: usize, name: &[u8]) -> bool
     super::bytes::holds_name(&block[a..e], name)
 }
 
-pub fn holds_at(image: &[u8], b: usize, k: usize, name: &[u8]) -> bool
-    requires { ⌜ (512 * b + 512 ≤ length (now image)) × (goodName (now name) ≡ true) × (length (now name) ≤ maxName) ⌝ }
+fn holds_at(image: &[u8], b: usize, k: usize, name: &[u8]) -> bool
+    requires { ⌜ (512 * b + 512 ≤ length (now image)) × (goodName (now name) ≡ true) ⌝ }
     ensures { λ r. ⌜ r ≡ isFile (typeOf (now (image .entry)) (entryAt b k)) && same (nameOf (now (image .entry)) (entryAt b k)) (now (name .entry)) ⌝ }
 {
     let o = 128 * (k % 4);
-    let a = 512 * b;
-    let e = a + 512;
-    slot_holds(&image[a..e], o, name)
+    slot_holds(super::bytes::block(image, b), o, name)
 }
 
 // Where an entry is: its slot and the block that holds it. Slot 0: there is none.
@@ -270,7 +278,7 @@ pub struct Entry {
 
 // The file of a good name in a directory.
 pub fn find(image: &[u8], n: usize, first: usize, d: usize, name: &[u8]) -> Entry
-    requires { ⌜ (DirectoryAt (now image) n first d) × (goodName (now name) ≡ true) × (length (now name) ≤ maxName) ⌝ }
+    requires { ⌜ (DirectoryAt (now image) n first d) × (goodName (now name) ≡ true) ⌝ }
     ensures { λ r. ⌜ Stands (chain (next (now (image .entry))) first d) n (fileSlot (now (image .entry)) (chain (next (now (image .entry))) first d) (now (name .entry))) (r .slot) (r .block) ⌝ }
 {
     let mut b = first;

@@ -6,7 +6,7 @@ ghost use mathlib.Core.Path.{_≡_};
 ghost use lib.ListN.{length};
 ghost use Rattle.layout.specs.Limits.{maxSlots};
 ghost use Rattle.layout.specs.Lists.{same};
-ghost use Rattle.layout.specs.Bytes.{part, zeros};
+ghost use Rattle.layout.specs.Bytes.{zeros};
 ghost use Rattle.layout.specs.Table.{next, chain};
 ghost use Rattle.layout.specs.Directory.{slotAt, typeOf, isFile, nameOf};
 ghost use Rattle.layout.specs.Check.{slotOk};
@@ -34,27 +34,6 @@ fn fingerprint(field: &[u8]) -> usize
     16777216 * a + b
 }
 
-// The name's field of the slot at o of a directory's block.
-fn field_of<'a>(block: &'a [u8], o: usize) -> &'a [u8]
-    requires { ⌜ o + 128 ≤ length (now block) ⌝ }
-    ensures { λ r. ⌜ now r ≡ part (now (block .entry)) (o + 48) 80 ⌝ }
-{
-    let a = o + 48;
-    let e = a + NAME_FIELD;
-    &block[a..e]
-}
-
-// The name's field of slot k, which is in block b.
-fn field_at<'a>(image: &'a [u8], b: usize, k: usize) -> &'a [u8]
-    requires { ⌜ 512 * b + 512 ≤ length (now image) ⌝ }
-    ensures { λ r. ⌜ now r ≡ part (now (image .entry)) (entryAt b k + 48) 80 ⌝ }
-{
-    let o = 128 * (k % 4);
-    let a = 512 * b;
-    let e = a + 512;
-    field_of(&image[a..e], o)
-}
-
 // The fingerprints of a directory's slots.
 fn take_fingerprints(image: &[u8], n: usize, first: usize, d: usize, prints: &mut [usize])
     requires { ⌜ (DirectoryAt (now image) n first d) × (length (now prints) ≡ maxSlots) ⌝ }
@@ -64,7 +43,7 @@ fn take_fingerprints(image: &[u8], n: usize, first: usize, d: usize, prints: &mu
     let mut k = 1;
     let mut left = 4 * d - 2;
     while 0 < left {
-        prints[k] = fingerprint(field_at(image, b, k));
+        prints[k] = fingerprint(super::directory::field_at(image, b, k));
         k = k + 1;
         b = super::directory::following(image, b, k);
         left = left - 1;
@@ -100,7 +79,10 @@ fn same_names(image: &[u8], n: usize, first: usize, d: usize, k: usize, i: usize
         return false;
     }
     let b = super::table::nth(image, n, first, d, k / 4);
-    super::bytes::equal(field_at(image, b, k), field_at(image, c, i))
+    super::bytes::equal(
+        super::directory::field_at(image, b, k),
+        super::directory::field_at(image, c, i),
+    )
 }
 
 // Whether a slot after k is a file of the name of the file in slot k.

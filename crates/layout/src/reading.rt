@@ -3,7 +3,7 @@ ghost use Prim.Native.Nat.{_+_, _*_, _/_, _≤_, _<_};
 ghost use mathlib.Core.Path.{_≡_};
 ghost use lib.ListN.{length};
 ghost use Rattle.layout.specs.Looks.{lookupRefusal, lookup, extentOf, lookInPlace, read};
-ghost use Rattle.layout.specs.Answers.{lookupAnswer, readAnswer};
+ghost use Rattle.layout.specs.Answers.{lookupAnswer, readAnswer, LookupNumbered, ReadNumbered};
 ghost use Rattle.layout.specs.Walks.Looks.{Opens};
 
 // What looking up gives.
@@ -25,7 +25,8 @@ fn open_file(image: &[u8], name: &[u8]) -> super::root::File
 
 // Look up: slot, size and blocks of the file of a name.
 pub fn lookup(image: &[u8], name: &[u8]) -> Found
-    ensures { λ r. ⌜ lookupAnswer r ≡ lookup (now (image .entry)) (now (name .entry)) ⌝ }
+    ensures answer { λ r. ⌜ lookupAnswer r ≡ lookup (now (image .entry)) (now (name .entry)) ⌝ }
+    ensures numbered { λ r. ⌜ LookupNumbered r ⌝ }
 {
     let o = open_file(image, name);
     let number = o.number;
@@ -76,7 +77,8 @@ pub fn extent_in_place(image: &[u8], name: &[u8], index: usize) -> Extent
 
 // Look in place: the image's own bytes of the file's block `index`, up to the file's end; empty if there are none.
 pub fn look_in_place<'a>(image: &'a [u8], name: &[u8], index: usize) -> &'a [u8]
-    ensures { λ r. ⌜ now r ≡ lookInPlace (now (image .entry)) (now (name .entry)) index ⌝ }
+    ensures bytes { λ r. ⌜ now r ≡ lookInPlace (now (image .entry)) (now (name .entry)) index ⌝ }
+    ensures place { λ r. ⌜ r .ptr ≡ (image .entry .ptr .0, extentOf (now (image .entry)) (now (name .entry)) index .start + image .entry .ptr .1) ⌝ }
 {
     let x = extent_in_place(image, name, index);
     let a = x.start;
@@ -92,7 +94,8 @@ pub enum Filled {
 
 // Read: fills the first bytes of the buffer with the file's bytes from offset on.
 pub fn read(image: &[u8], name: &[u8], offset: usize, buffer: &mut [u8]) -> Filled
-    ensures { λ r. ⌜ readAnswer r (now (buffer .exit)) ≡ read (now (image .entry)) (now (name .entry)) offset (now (buffer .entry)) ⌝ }
+    ensures answer { λ r. ⌜ readAnswer r (now (buffer .exit)) ≡ read (now (image .entry)) (now (name .entry)) offset (now (buffer .entry)) ⌝ }
+    ensures numbered { λ r. ⌜ ReadNumbered r ⌝ }
 {
     let o = open_file(image, name);
     let number = o.number;

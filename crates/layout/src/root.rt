@@ -3,7 +3,6 @@ ghost use Prim.Native.Nat.{_≤_};
 ghost use mathlib.Core.Bool.{true};
 ghost use mathlib.Core.Path.{_≡_};
 ghost use lib.ListN.{length};
-ghost use Rattle.layout.specs.Limits.{maxName};
 ghost use Rattle.layout.specs.Geometry.{blockCount};
 ghost use Rattle.layout.specs.Directory.{goodName, fileSlot, freeSlot, root};
 ghost use Rattle.layout.specs.Check.{check};
@@ -15,11 +14,11 @@ use super::directory::number_at;
 
 // The slot of a good name.
 pub fn find_file(image: &[u8], name: &[u8]) -> Entry
-    requires { ⌜ (check (now image) ≡ 0) × (goodName (now name) ≡ true) × (length (now name) ≤ maxName) ⌝ }
+    requires { ⌜ (check (now image) ≡ 0) × (goodName (now name) ≡ true) ⌝ }
     ensures { λ r. ⌜ Stands (root (now (image .entry))) (blockCount (now (image .entry))) (fileSlot (now (image .entry)) (root (now (image .entry))) (now (name .entry))) (r .slot) (r .block) ⌝ }
 {
     let n = image.len() / 512;
-    let first = (n + 127) / 128 + 1;
+    let first = super::geometry::root_block(n);
     let d = number_at(image, first, 0, 12);
     super::directory::find(image, n, first, d, name)
 }
@@ -30,7 +29,7 @@ pub fn free_slot(image: &[u8]) -> Entry
     ensures { λ r. ⌜ Stands (root (now (image .entry))) (blockCount (now (image .entry))) (freeSlot (now (image .entry)) (root (now (image .entry)))) (r .slot) (r .block) ⌝ }
 {
     let n = image.len() / 512;
-    let first = (n + 127) / 128 + 1;
+    let first = super::geometry::root_block(n);
     let d = number_at(image, first, 0, 12);
     super::directory::find_free(image, n, first, d)
 }

@@ -75,9 +75,10 @@ afterSize blocks name = ((32 ∷ []) ++ decimal blocks) ++ ((32 ∷ []) ++ (prin
 abbrev pub afterSlot : ℕ → ℕ → List ℕ → List ℕ
 afterSlot size blocks name = ((32 ∷ []) ++ decimal size) ++ afterSize blocks name
 
-pub entry-pieces : (s : List ℕ) (e k size blocks x : ℕ) → size ≡ be32 s (e + 8) → blocks ≡ be32 s (e + 12) → x ≡ 80 → entryLine s e k ≡ decimal k ++ afterSlot size blocks (unpadded (part s (e + 48) x))
+pub entry-pieces : (s : List ℕ) (e k size blocks : ℕ) (field : List ℕ) → size ≡ be32 s (e + 8) → blocks ≡ be32 s (e + 12) → field ≡ part s (e + 48) 80
+    → entryLine s e k ≡ decimal k ++ afterSlot size blocks (unpadded field)
 unfolding entryLine nameOf
-entry-pieces s e k size blocks x es eb ex = rw (es, eb, ex)
+entry-pieces s e k size blocks field es eb ef = rw (es, eb, ef)
 
 abbrev pub afterUsed : ℕ → List ℕ
 afterUsed free = ((32 ∷ 102 ∷ 114 ∷ 101 ∷ 101 ∷ 32 ∷ []) ++ decimal free) ++ (10 ∷ [])

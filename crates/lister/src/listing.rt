@@ -15,7 +15,6 @@ ghost use Rattle.layout.specs.Listing.{entryLine, fileLine, countLine, refusedL
 ghost use Rattle.lister.specs.Text.{TextPut, maxListing, slotLine, slotLines};
 use super::text;
 use layout::directory::number_at;
-use layout::limits::NAME_FIELD;
 ghost use Rattle.layout.specs.Walks.Shapes.{DirectoryAt};
 ghost use Rattle.layout.specs.Walks.Slots.{entryAt};
 
@@ -32,13 +31,12 @@ fn entry_line(image: &[u8], b: usize, k: usize, out: &mut [u8], at: usize) -> us
 {
     let size = number_at(image, b, k, 8);
     let blocks = number_at(image, b, k, 12);
-    let a = 512 * b + 128 * (k % 4) + 48;
-    let e = a + NAME_FIELD;
+    let name = layout::directory::field_at(image, b, k);
     let p = text::put_decimal(out, at, k);
     let q = text::put_labelled(out, p, b" ", size);
     let r = text::put_labelled(out, q, b" ", blocks);
     let s = text::put_byte(out, r, b' ');
-    let t = text::put_name(out, s, &image[a..e]);
+    let t = text::put_name(out, s, name);
     text::put_byte(out, t, b'\n')
 }
 
@@ -77,8 +75,8 @@ fn count_line(image: &[u8], out: &mut [u8]) -> usize
     ensures { λ r. ⌜ TextPut (now (out .entry)) 0 (countLine (now (image .entry))) (now (out .exit)) r ⌝ }
 {
     let n = image.len() / 512;
-    let used = number_at(image, 0, 0, 20);
-    let free = number_at(image, 0, 0, 24);
+    let used = layout::number::header_number(image, 20);
+    let free = layout::number::header_number(image, 24);
     let p = text::put_labelled(out, 0, b"blocks ", n);
     let q = text::put_labelled(out, p, b" used ", used);
     let r = text::put_labelled(out, q, b" free ", free);
@@ -100,7 +98,7 @@ fn list(image: &[u8], out: &mut [u8]) -> usize
     ensures { λ r. ⌜ TextPut (now (out .entry)) 0 (countLine (now (image .entry)) ++ joined (fileLine (now (image .entry))) (files (now (image .entry)) (root (now (image .entry))))) (now (out .exit)) r ⌝ }
 {
     let n = image.len() / 512;
-    let first = (n + 127) / 128 + 1;
+    let first = layout::geometry::root_block(n);
     let d = number_at(image, first, 0, 12);
     let p = count_line(image, out);
     file_lines(image, n, first, d, out, p)

@@ -6,7 +6,7 @@ use mathlib.Core.Bool.{not, _&&_}
 use lib.ListN.{length, getD, take, drop}
 use lib.Dec.{eqb, leb}
 use Rattle.layout.specs.Lists.{lastOr}
-use Rattle.layout.specs.Refusals.{require, accept}
+use Rattle.layout.specs.Refusals.{require}
 use Rattle.layout.specs.Bytes.{bytes4, bytes8, part, splice}
 use Rattle.layout.specs.Limits.{maxData}
 use Rattle.layout.specs.Geometry.{blockCount, blocksFor}
@@ -45,7 +45,8 @@ writeAt s e offset bytes time =
 
 -- the blocks of bs that hold one of `count` bytes written at an offset
 unfoldable pub written : List ℕ → ℕ → ℕ → List ℕ
-written bs offset count = accept count [] (part bs (offset / 512) (blocksFor (offset % 512 + count)))
+written bs offset zero = []
+written bs offset (suc count) = part bs (offset / 512) (blocksFor (offset % 512 + suc count))
 
 -- the table entries that change: of the blocks taken, and of the block that they are linked to (0: there is none)
 unfoldable pub changedEntries : ℕ → List ℕ → List ℕ

@@ -14,13 +14,14 @@ ghost use Rattle.layout.specs.Walks.Slots.{entryAt};
 // The file of a name that is there.
 pub fn locate(image: &[u8], name: &[u8]) -> layout::root::File
     requires { ⌜ (check (now image) ≡ 0) × (nameRefusal (now image) (now name) ≡ 0) ⌝ }
-    ensures { λ r. ⌜ Located (now (image .entry)) (now (name .entry)) (r .slot) (r .block) (r .first) (r .size) (r .blocks) ⌝ }
+    ensures file { λ r. ⌜ Located (now (image .entry)) (now (name .entry)) (r .slot) (r .block) (r .first) (r .size) (r .blocks) ⌝ }
+    ensures number { λ r. ⌜ r .number ≡ 0 ⌝ }
 {
     layout::root::open_file(image, name)
 }
 
 // Zeroes the `count` bytes at `at`.
-pub fn clear_part(s: &mut [u8], at: usize, count: usize)
+fn clear_part(s: &mut [u8], at: usize, count: usize)
     requires { ⌜ at + count ≤ length (now s) ⌝ }
     ensures { λ _. ⌜ now (s .exit) ≡ splice (now (s .entry)) at (zeros count) ⌝ }
 {

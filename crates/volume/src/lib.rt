@@ -1,13 +1,13 @@
-// The volume: what changes an image. The call is `format::format`, on any bytes. Create, write and delete are for the journal above: each has its
-// refusal, its named blocks as marks and the change itself, on an image that the caller has checked.
+// The volume: what changes an image. The call is `format::format`, on any bytes. Create, write and delete are for the journal above, as one value
+// (`change`): its refusal, its named blocks as marks and the change itself, on an image that the caller has checked. `number` writes numbers.
 pub mod change;
-pub mod create;
-pub mod data;
-pub mod delete;
-pub mod file;
+mod create;
+mod data;
+mod delete;
+mod file;
 pub mod format;
-pub mod marks;
+mod marks;
 pub mod number;
-pub mod slot;
-pub mod table;
-pub mod write;
+mod slot;
+mod table;
+mod write;

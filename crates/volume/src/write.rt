@@ -5,7 +5,7 @@ ghost use Prim.Native.Nat.{_+_, _-_, _*_, _≤_, _<_, max};
 ghost use lib.ListN.{length, getD, take};
 ghost use Rattle.layout.specs.Limits.{maxBlocks, maxData};
 ghost use Rattle.layout.specs.Lists.{lastOr};
-ghost use Rattle.layout.specs.Geometry.{blocksFor};
+ghost use Rattle.layout.specs.Geometry.{tableBlocks, blocksFor};
 ghost use Rattle.layout.specs.Table.{next, chain, freeBlocks};
 ghost use Rattle.layout.specs.Check.{check};
 ghost use Rattle.layout.specs.Looks.{entryOf};
@@ -49,7 +49,7 @@ pub fn write_refusal(image: &[u8], name: &[u8], offset: usize, count: usize) -> 
     if size < offset {
         return 12;
     }
-    if super::table::header_number(image, 24) < needed(size, blocks, offset, count) {
+    if layout::number::header_number(image, 24) < needed(size, blocks, offset, count) {
         return 14;
     }
     0
@@ -68,7 +68,7 @@ fn last_block(image: &[u8], n: usize, first: usize, blocks: usize) -> usize
 
 // The first block of a chain that takes k blocks more; 0: it has none.
 fn start_block(image: &[u8], n: usize, first: usize, blocks: usize, k: usize) -> usize
-    requires { ⌜ (512 + 4 * n ≤ length (now image)) × (k ≤ length (freeBlocks (next (now image)) n)) ⌝ }
+    requires { ⌜ (512 * tableBlocks n + 512 ≤ length (now image)) × (k ≤ length (freeBlocks (next (now image)) n)) ⌝ }
     ensures { λ r. ⌜ r ≡ getD (chain (next (now (image .entry))) first blocks ++ take k (freeBlocks (next (now (image .entry))) n)) 0 0 ⌝ }
 {
     if blocks != 0 {

@@ -14,10 +14,10 @@ enum-known-number : tie.Need-enum-known-number
 enum-known-number c = search needs
 
 returns : tie.Need-returns
-returns c = ap lookupAnswer (sym (c .before .slot .given .1)) ∙ c .before .before .before .lookup .ensures
+returns c = ap lookupAnswer (sym (c .before .slot .given .1)) ∙ c .before .before .before .lookup .ensures .0
 
 returns-2 : tie.Need-returns-2
-returns-2 c = ap lookupAnswer (sym (c .before .number .given .1)) ∙ c .before .before .before .lookup .ensures
+returns-2 c = ap lookupAnswer (sym (c .before .number .given .1)) ∙ c .before .before .before .lookup .ensures .0
 
 pub bulgefs-lookup-spec : {M : Type 1} → statement M
 bulgefs-lookup-spec =

@@ -18,7 +18,7 @@ cast-t12 c =
     let read = c .before .before .before .before .before .read in
     let shared-slice-known = c .before .before .before .before .before .before .before .before .before .shared-slice-known in
     let a = c .before .before .before .before .before .before .before .before .before .before .args in
-    let e = ap (λ (x : ReadAnswer). x .count) (read-case _ _ (c .before .count .given .1) (read .ensures)) in
+    let e = ap (λ (x : ReadAnswer). x .count) (read-case _ _ (c .before .count .given .1) (read .ensures .0)) in
     omega (arith, count-small (a .image .now) (a .name .now) (a .offset) (a .buffer .now) (λ i. omega (arith, shared-slice-known .given i)))
 
 enum-known-number : tie.Need-enum-known-number
@@ -28,13 +28,13 @@ same-length : tie.Need-same-length
 same-length c = search needs
 
 returns : tie.Need-returns
-returns c = read-case _ _ (c .before .count .given .1) (c .before .before .before .before .before .read .ensures)
+returns c = read-case _ _ (c .before .count .given .1) (c .before .before .before .before .before .read .ensures .0)
 
 same-length-2 : tie.Need-same-length-2
 same-length-2 c = search needs
 
 returns-2 : tie.Need-returns-2
-returns-2 c = read-case _ _ (c .before .number .given .1) (c .before .before .before .before .before .read .ensures)
+returns-2 c = read-case _ _ (c .before .number .given .1) (c .before .before .before .before .before .read .ensures .0)
 
 pub bulgefs-read-spec : {M : Type 1} → statement M
 bulgefs-read-spec =

@@ -232,9 +232,9 @@ module _ (s : List ℕ) (e type : ℕ) (et : type ≡ typeOf s e) where
   pub type-used : (type ≡ 0 → ⊥) → false ≡ slotFree s e
   type-used z = rw (← et, ne-eqb type 0 z)
 
-pub stands-here : (ds : List ℕ) (n d x b k j : ℕ) → Blocks n d ds → Place ds d b k j → x ≡ k → Stands ds n x k b
-stands-here ds n d x b k j bs p e =
-    record { slot = sym e; low = omega arith; block = λ z. (place-below n ds d b k j bs p, place-entry ds d b k j p) }
+pub stands-here : (ds : List ℕ) (n d x b k j : ℕ) → Blocks n d ds → Place ds d b k j → 1 ≤ k → x ≡ k → Stands ds n x k b
+stands-here ds n d x b k j bs p h e =
+    record { slot = sym e; low = omega arith; block = λ z. (place-below n ds d b k j bs p, place-entry ds d b k j p); none = λ z. absurd (omega arith) }
 
 pub stands-none : (ds : List ℕ) (n x : ℕ) → x ≡ 0 → Stands ds n x 0 0
-stands-none ds n x e = record { slot = sym e; low = omega arith; block = λ z. absurd (z refl) }
+stands-none ds n x e = record { slot = sym e; low = omega arith; block = λ z. absurd (z refl); none = λ z. refl }

@@ -43,8 +43,9 @@ slotFree s e = isFree (typeOf s e)
 unfoldable pub slotFrom : (ℕ → Bool) → List ℕ → ℕ → ℕ → ℕ
 slotFrom test ds k j = lowest (λ x. test (slotAt ds x)) (interval k j)
 
--- k is the slot x that a search gives, 0 if there is none; if it is not 0, b is its block
+-- k is the slot x that a search gives, 0 if there is none; b is its block, 0 if there is none
 pub record Stands (ds : List ℕ) (n x k b : ℕ) : Type 0 where
   pub slot : k ≡ x
   pub low : k < 256
   pub block : (k ≡ 0 → ⊥) → (b < n) × (entryAt b k ≡ slotAt ds k)
+  pub none : k ≡ 0 → b ≡ 0

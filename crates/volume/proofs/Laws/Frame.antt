@@ -12,7 +12,6 @@ use Rattle.layout.specs.Bytes.{splice, be32, bytes4, zeros, part, bytes8}
 use Rattle.layout.specs.Table.{setNext, tableBlockOf}
 use Rattle.layout.specs.Lists.{has, lastOr}
 use Rattle.layout.specs.Geometry.{blocksFor, tableBlocks, blockCount}
-use Rattle.layout.specs.Refusals.{accept}
 use Rattle.layout.specs.Check.{check}
 use Rattle.layout.specs.Directory.{isFile, typeOf, slotAt, root, sizeOf, fileBlocks, fileSlot, freeSlot}
 use Rattle.layout.specs.Looks.{entryOf, nameRefusal}
@@ -87,22 +86,22 @@ written-far b bs offset (suc c) h =
     let m : offset % 512 ≡ (offset - 512) % 512 = omega arith in
     rw (d, m)
 
-written-here : (b : ℕ) (bs : List ℕ) (offset c : ℕ) → offset < 512 → written (b ∷ bs) offset (suc c) ≡ b ∷ written bs (offset - 512) (suc c - (512 - offset))
+written-from : (b : ℕ) (bs : List ℕ) (offset c y : ℕ) → offset < 512 → suc c - (512 - offset) ≡ y → written (b ∷ bs) offset (suc c) ≡ b ∷ written bs (offset - 512) y
 unfolding written
-written-here b bs offset c h = go (suc c - (512 - offset)) refl
-  where
-    d : offset / 512 ≡ 0
-    d = omega arith
+written-from b bs offset c zero h e =
+    let d : offset / 512 ≡ 0 = omega arith in
+    let k : blocksFor (offset % 512 + suc c) ≡ suc ((offset + c) / 512) = omega arith in
+    let w : (offset + c) / 512 ≡ 0 = omega arith in
+    rw (d, k, w)
+written-from b bs offset c (suc y) h e =
+    let d : offset / 512 ≡ 0 = omega arith in
+    let k : blocksFor (offset % 512 + suc c) ≡ suc ((offset + c) / 512) = omega arith in
+    let o : (offset - 512) / 512 ≡ 0 = omega arith in
+    let w : blocksFor ((offset - 512) % 512 + suc y) ≡ (offset + c) / 512 = omega arith in
+    rw (d, k, o, w)
 
-    k : blocksFor (offset % 512 + suc c) ≡ suc ((offset + c) / 512)
-    k = omega arith
-
-    go : (y : ℕ) → suc c - (512 - offset) ≡ y → part (b ∷ bs) (offset / 512) (blocksFor (offset % 512 + suc c)) ≡ b ∷ accept y [] (part bs ((offset - 512) / 512) (blocksFor ((offset - 512) % 512 + y)))
-    go zero e = let w : (offset + c) / 512 ≡ 0 = omega arith in rw (d, k, w)
-    go (suc y) e =
-        let o : (offset - 512) / 512 ≡ 0 = omega arith in
-        let w : blocksFor ((offset - 512) % 512 + suc y) ≡ (offset + c) / 512 = omega arith in
-        rw (d, k, o, w)
+written-here : (b : ℕ) (bs : List ℕ) (offset c : ℕ) → offset < 512 → written (b ∷ bs) offset (suc c) ≡ b ∷ written bs (offset - 512) (suc c - (512 - offset))
+written-here b bs offset c h = written-from b bs offset c (suc c - (512 - offset)) h refl
 
 written-none : (bs : List ℕ) (offset : ℕ) → written bs offset 0 ≡ []
 unfolding written

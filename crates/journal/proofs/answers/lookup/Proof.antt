@@ -28,7 +28,7 @@ returns c =
     let lookup = c .before .before .before .before .before .lookup in
     let name-of = c .before .before .before .before .before .before .name-of in
     let p = c .before .before .before .before .before .before .before .before .before .before .pre in
-    put-numbers .ensures ∙ numbers-alone _ _ _ _ _ (p .1) ∙ found-numbers .ensures ∙ rw (lookup .ensures, name-of .ensures)
+    put-numbers .ensures ∙ numbers-alone _ _ _ _ _ (p .1) ∙ found-numbers .ensures ∙ rw (lookup .ensures .0, name-of .ensures)
 
 pub lookup-spec : {M : Type 1} → statement M
 lookup-spec =

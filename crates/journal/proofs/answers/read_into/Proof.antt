@@ -35,7 +35,7 @@ returns c =
     let get64 = c .before .before .before .before .before .get64 in
     let copy = c .before .before .before .before .before .before .before .before .copy in
     let data-of = c .before .before .before .before .before .before .before .before .before .before .data-of in
-    read .ensures ∙ rw (copy .ensures, data-of .ensures, name-of .ensures, get64 .ensures)
+    read .ensures .0 ∙ rw (copy .ensures, data-of .ensures, name-of .ensures, get64 .ensures)
 
 pub read-into-spec : {M : Type 1} → statement M
 read-into-spec =

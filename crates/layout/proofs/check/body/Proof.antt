@@ -7,8 +7,8 @@ use Rattle.layout.proofs.Walks.Stages.{bodyStage-4, bodyStage-files}
 use Rattle.layout.proofs.check.body.Statement.{statement}
 use Rattle.layout.proofs.check.body.Tie as tie
 
-add-t : tie.Need-add-t
-add-t c = search needs
+table-blocks-requires : tie.Need-table-blocks-requires
+table-blocks-requires c κs = search needs
 
 add-root : tie.Need-add-root
 add-root c = search needs
@@ -26,9 +26,10 @@ returns : tie.Need-returns
 returns c =
     let w = c .before .before in
     let m = w .before .before in
-    let shape = m .before .before .pre in
+    let b = m .before .table-blocks in
+    let shape = m .before .before .before .pre in
     let t : w .directory-ok .result ≡ false = not-true _ (c .if1 .taken) in
-    sym (bodyStage-4 _ (stage4-walked _ _ shape _ _ (rw (t, m .no-marks .ensures) at (w .directory-ok .ensures))))
+    sym (bodyStage-4 _ (stage4-walked _ _ shape _ _ (rw (t, m .no-marks .ensures, b .ensures) at (w .directory-ok .ensures))))
 
 number-at-requires : tie.Need-number-at-requires
 number-at-requires c κs = search needs
@@ -40,23 +41,25 @@ files-requires : tie.Need-files-requires
 files-requires c κs =
     let w = c .before .before .before .before in
     let m = w .before .before in
-    let shape = m .before .before .pre in
+    let b = m .before .table-blocks in
+    let shape = m .before .before .before .pre in
     let t : w .directory-ok .result ≡ true = not-false _ (c .before .before .if1 .left) in
-    record { shape = shape; marked = rw (t, m .no-marks .ensures) at (w .directory-ok .ensures); size = c .before .number-at .ensures }
+    record { shape = shape; marked = rw (t, m .no-marks .ensures, b .ensures) at (w .directory-ok .ensures); size = rw (b .ensures) at (c .before .number-at .ensures) }
 
 returns-2 : tie.Need-returns-2
 returns-2 c =
     let w = c .before .before .before .before .before .before in
     let m = w .before .before in
-    let shape = m .before .before .pre in
+    let b = m .before .table-blocks in
+    let shape = m .before .before .before .pre in
     let t : w .directory-ok .result ≡ true = not-false _ (c .before .before .before .before .if1 .left) in
-    c .before .files .ensures ∙ sym (bodyStage-files _ (stage4-walked _ _ shape _ _ (rw (t, m .no-marks .ensures) at (w .directory-ok .ensures))))
+    c .before .files .ensures ∙ sym (bodyStage-files _ (stage4-walked _ _ shape _ _ (rw (t, m .no-marks .ensures, b .ensures) at (w .directory-ok .ensures))))
 
 pub body-spec : {M : Type 1} → statement M
 body-spec =
     tie.close
     (tie.spec
-    add-t
+    table-blocks-requires
     add-root
     no-marks-requires
     slice-aggregate-directory-ok

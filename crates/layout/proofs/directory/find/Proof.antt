@@ -1,5 +1,5 @@
 use mathlib.Core.Path.{_≡_, refl, sym, _∙_}
-use Prim.Native.Nat.{_-_, _*_}
+use Prim.Native.Nat.{_-_, _*_, _≤_}
 use native.Mathlib.Omega.{arith}
 use Rattle.layout.specs.Table.{next, chain}
 use Rattle.layout.specs.Walks.Slots.{Place, fileNamed, slotFrom, entryAt}
@@ -8,7 +8,7 @@ use Rattle.layout.proofs.directory.find.Statement.{statement}
 use Rattle.layout.proofs.directory.find.Tie as tie
 
 abbrev Inv-loop : tie.InvT-loop
-Inv-loop image n first d name b₀ k₀ left₀ b k left = (Place (chain (next image) first d) d b k left) × (slotFrom (fileNamed image name) (chain (next image) first d) 1 (4 * d - 2) ≡ slotFrom (fileNamed image name) (chain (next image) first d) k left)
+Inv-loop image n first d name b₀ k₀ left₀ b k left = (Place (chain (next image) first d) d b k left) × (slotFrom (fileNamed image name) (chain (next image) first d) 1 (4 * d - 2) ≡ slotFrom (fileNamed image name) (chain (next image) first d) k left) × (1 ≤ k)
 
 abbrev μ-loop : tie.MeasureT-loop
 μ-loop image n first d name b₀ k₀ left₀ b k left = left
@@ -20,13 +20,13 @@ sub-left : tie.Need-sub-left Inv-loop μ-loop
 sub-left c = omega arith
 
 loop-holds : tie.Need-loop-holds Inv-loop μ-loop
-loop-holds c = (place-first (next (c .before .before .args .image .now)) (c .before .before .args .first) (c .before .before .args .d) (omega arith), refl)
+loop-holds c = (place-first (next (c .before .before .args .image .now)) (c .before .before .args .first) (c .before .before .args .d) (omega arith), refl, omega arith)
 
 holds-at-requires : tie.Need-holds-at-requires Inv-loop μ-loop
 holds-at-requires c κs =
     let l = c .before .loop in
     let h = place-below _ _ _ _ _ _ (c .before .before .before .before .pre .0 .blocks) (l .inv .0) in
-    (omega arith, c .before .before .before .before .pre .1, c .before .before .before .before .pre .2)
+    (omega arith, c .before .before .before .before .pre .1)
 
 returns : tie.Need-returns Inv-loop μ-loop
 returns c =
@@ -34,7 +34,7 @@ returns c =
     let a = c .before .before .before .before .before .before .args in
     let p = c .before .before .before .before .before .before .pre in
     let bs = p .0 .blocks in
-    stands-here _ _ (a .d) _ _ _ _ bs (l .inv .0)
+    stands-here _ _ (a .d) _ _ _ _ bs (l .inv .0) (l .inv .2)
     (fileSlot-from (a .image .now) _ (a .name .now) (a .d) (bs .size) ∙ l .inv .1 ∙ slotFrom-here (fileNamed (a .image .now) (a .name .now)) _ _ _
     (entryAt (l .b) (l .k)) (place-entry _ _ _ _ _ (l .inv .0)) (omega arith) (sym (c .if1 .taken) ∙ c .before .holds-at .ensures))
 
@@ -61,6 +61,7 @@ loop-again c =
       place-then _ _ _ _ _ _ _ (l .inv .0) (omega arith) (c .following .ensures),
       l .inv .1 ∙ slotFrom-next (fileNamed (a .image .now) (a .name .now))
           _ _ _ (entryAt (l .b) (l .k)) (place-entry _ _ _ _ _ (l .inv .0)) (omega arith) (sym (c .before .if1 .left) ∙ holds-at .ensures),
+      omega arith,
     )
 
 returns-2 : tie.Need-returns-2 Inv-loop μ-loop

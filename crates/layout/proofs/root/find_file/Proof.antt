@@ -9,31 +9,30 @@ use Rattle.layout.proofs.Walks.Shapes.{sound-shape, sound-root, sound-d
 use Rattle.layout.proofs.root.find_file.Statement.{statement}
 use Rattle.layout.proofs.root.find_file.Tie as tie
 
-add-first : tie.Need-add-first
-add-first c = omega arith
-
-add-first-2 : tie.Need-add-first-2
-add-first-2 c = omega arith
+root-block-requires : tie.Need-root-block-requires
+root-block-requires c κs = omega (arith, sound-shape (c .before .before .args .image .now) (c .before .before .pre .0))
 
 number-at-requires : tie.Need-number-at-requires
 number-at-requires c κs =
-    let h = sound-shape (c .before .before .args .image .now) (c .before .before .pre .0) in
+    let h = sound-shape (c .before .before .before .args .image .now) (c .before .before .before .pre .0) in
     (omega arith, omega arith)
 
 find-requires : tie.Need-find-requires
 find-requires c κs =
-    let a = c .before .before .before .args in
-    let p = c .before .before .before .pre in
-    (sound-directory (a .image .now) (p .0) _ (c .number-at .ensures), p .1, p .2)
+    let e = c .before .root-block .ensures in
+    let a = c .before .before .before .before .args in
+    let p = c .before .before .before .before .pre in
+    (rw e (sound-directory (a .image .now) (p .0) _ (rw e at (c .number-at .ensures))), p .1)
 
 returns : tie.Need-returns
 returns c =
-    let a = c .before .before .before .before .args in
-    let p = c .before .before .before .before .pre in
+    let e = c .before .before .root-block .ensures in
+    let a = c .before .before .before .before .before .args in
+    let p = c .before .before .before .before .before .pre in
     let s = a .image .now in
     subst (λ (ds : List ℕ). Stands ds (blockCount s) (fileSlot s ds (a .name .now)) (c .find .result .slot) (c .find .result .block))
-    (sound-root s (p .0) _ (c .before .number-at .ensures)) (c .find .ensures)
+    (sound-root s (p .0) _ (rw e at (c .before .number-at .ensures))) (rw e at (c .find .ensures))
 
 pub find-file-spec : {M : Type 1} → statement M
 find-file-spec =
-    tie.close (tie.spec add-first add-first-2 number-at-requires find-requires returns)
+    tie.close (tie.spec root-block-requires number-at-requires find-requires returns)

@@ -2,7 +2,6 @@ use mathlib.Core.Path.{sym, _∙_}
 use native.Mathlib.Omega.{arith}
 use borrow.Author.Needs.{needs}
 use borrow.Author.Tests.{not-true, not-false}
-use Rattle.layout.proofs.Laws.Names.{goodName-length}
 use Rattle.layout.proofs.Walks.Looks.{opens-refused, opens-found, name-bad, name-none}
 use Rattle.layout.proofs.Walks.Shapes.{sound-shape}
 use Rattle.layout.proofs.root.open_file.Statement.{statement}
@@ -22,7 +21,7 @@ returns c =
 find-file-requires : tie.Need-find-file-requires
 find-file-requires c κs =
     let g = sym (c .before .good-name .ensures) ∙ not-false _ (c .if1 .left) in
-    (c .before .before .before .before .pre, g, goodName-length _ g)
+    (c .before .before .before .before .pre, g)
 
 refused-requires-2 : tie.Need-refused-requires-2
 refused-requires-2 c κs = search needs

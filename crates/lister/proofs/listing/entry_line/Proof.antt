@@ -1,9 +1,7 @@
 -- The steps l₀ to l₅ say what is left of the line after each piece.
 use mathlib.Core.Path.{refl, _∙_}
 use mathlib.Core.List.{List, [], _∷_, _++_}
-use Prim.Native.Nat.{ℕ, _+_, _-_, _*_, _%_}
-use native.Mathlib.Omega.{arith}
-use Rattle.layout.specs.Bytes.{part}
+use Prim.Native.Nat.{ℕ}
 use Rattle.layout.specs.Directory.{unpadded}
 use Rattle.layout.specs.Listing.{entryLine, decimal, printed}
 use Rattle.lister.proofs.Pieces.{Pending, begin, room, more, last}
@@ -13,29 +11,25 @@ use Rattle.lister.proofs.listing.entry_line.Statement.{statement}
 use Rattle.lister.proofs.listing.entry_line.Tie as tie
 use Rattle.layout.specs.Walks.Slots.{entryAt}
 
-abbrev start : tie.After-number-at2 → tie.Start
-start c = c .before .before .before .before
+abbrev start : tie.After-field-at → tie.Start
+start c = c .before .before .before .before .before
 
-abbrev name : tie.After-number-at2 → List ℕ
-name c =
-    let a = start c .args in
-    let o : ℕ = 512 * a .b + 128 * (a .k % 4) + 48 in
-    unpadded (part (a .image .now) o (o + 80 - o))
+abbrev name : tie.After-field-at → List ℕ
+name c = unpadded (c .field-at .result .now)
 
-abbrev Rest : tie.After-number-at2 → List ℕ → ℕ → List ℕ → Type 0
+abbrev Rest : tie.After-field-at → List ℕ → ℕ → List ℕ → Type 0
 Rest c out p rest = let a = start c .args in Pending (a .out .now) (a .at) (entryLine (a .image .now) (entryAt (a .b) (a .k)) (a .k)) out p rest
 
-l₀ : (c : tie.After-number-at2) → Rest c (start c .args .out .now) (start c .args .at) (decimal (start c .args .k) ++ afterSlot (c .before .number-at .result) (c .number-at2 .result) (name c))
+l₀ : (c : tie.After-field-at) → Rest c (start c .args .out .now) (start c .args .at) (decimal (start c .args .k) ++ afterSlot (c .before .before .number-at .result) (c .before .number-at2 .result) (name c))
 l₀ c =
     let a = start c .args in
-    let o : ℕ = 512 * a .b + 128 * (a .k % 4) + 48 in
     begin (a .out .now) _ _ _ (start c .pre .1)
-    (entry-pieces (a .image .now) (entryAt (a .b) (a .k)) (a .k) _ _ (o + 80 - o) (c .before .number-at .ensures) (c .number-at2 .ensures) (omega arith))
+    (entry-pieces (a .image .now) (entryAt (a .b) (a .k)) (a .k) _ _ _ (c .before .before .number-at .ensures) (c .before .number-at2 .ensures) (c .field-at .ensures))
 
-l₁ : (c : tie.After-put-decimal) → let d = c .before .before in Rest d (c .put-decimal .last .0) (c .put-decimal .result) (afterSlot (d .before .number-at .result) (d .number-at2 .result) (name d))
+l₁ : (c : tie.After-put-decimal) → let d = c .before .before in Rest d (c .put-decimal .last .0) (c .put-decimal .result) (afterSlot (d .before .before .number-at .result) (d .before .number-at2 .result) (name d))
 l₁ c = more (l₀ (c .before .before)) (c .put-decimal .ensures) _ refl
 
-l₂ : (c : tie.After-put-labelled) → let d = c .before .before .before .before .before .before .before in Rest d (c .put-labelled .last .0) (c .put-labelled .result) (afterSize (d .number-at2 .result) (name d))
+l₂ : (c : tie.After-put-labelled) → let d = c .before .before .before .before .before .before .before in Rest d (c .put-labelled .last .0) (c .put-labelled .result) (afterSize (d .before .number-at2 .result) (name d))
 l₂ c = more (l₁ (c .before .before .before .before .before)) (c .put-labelled .ensures) _ refl
 
 l₃ : (c : tie.After-put-labelled2) → let d = c .before .before .before .before .before .before .before .before .before .before .before .before in Rest d (c .put-labelled2 .last .0) (c .put-labelled2 .result) ((32 ∷ []) ++ (printed (name d) ++ (10 ∷ [])))
@@ -44,8 +38,8 @@ l₃ c = more (l₂ (c .before .before .before .before .before)) (c .put-labelle
 l₄ : (c : tie.After-put-byte) → let d = c .before .before .before .before .before .before .before .before .before .before .before .before .before .before .before .before in Rest d (c .put-byte .last .0) (c .put-byte .result) (printed (name d) ++ (10 ∷ []))
 l₄ c = more (l₃ (c .before .before .before .before)) (c .put-byte .ensures) _ refl
 
-l₅ : (c : tie.After-put-name) → let d = c .before .before .before .before .before .before .before .before .before .before .before .before .before .before .before .before .before .before .before .before .before in Rest d (c .put-name .last .0) (c .put-name .result) (10 ∷ [])
-l₅ c = more (l₄ (c .before .before .before .before .before)) (c .put-name .ensures) _ refl
+l₅ : (c : tie.After-put-name) → let d = c .before .before .before .before .before .before .before .before .before .before .before .before .before .before .before .before .before .before .before .before in Rest d (c .put-name .last .0) (c .put-name .result) (10 ∷ [])
+l₅ c = more (l₄ (c .before .before .before .before)) (c .put-name .ensures) _ refl
 
 number-at-requires : tie.Need-number-at-requires
 number-at-requires c κs = search needs
@@ -53,30 +47,18 @@ number-at-requires c κs = search needs
 number-at-requires-2 : tie.Need-number-at-requires-2
 number-at-requires-2 c κs = search needs
 
-mul-a : tie.Need-mul-a
-mul-a c = search needs
-
-mul-a-2 : tie.Need-mul-a-2
-mul-a-2 c = search needs
-
-add-a : tie.Need-add-a
-add-a c = search needs
-
-add-a-2 : tie.Need-add-a-2
-add-a-2 c = search needs
-
-add-e : tie.Need-add-e
-add-e c = search needs
+field-at-requires : tie.Need-field-at-requires
+field-at-requires c κs = search needs
 
 put-decimal-requires : tie.Need-put-decimal-requires
-put-decimal-requires c κs = room (l₀ (c .before)) (decimal (c .before .before .before .before .before .args .k)) _ refl
+put-decimal-requires c κs = room (l₀ (c .before)) (decimal (c .before .before .before .before .before .before .args .k)) _ refl
 
 slice-aggregate-put-labelled : tie.Need-slice-aggregate-put-labelled
 slice-aggregate-put-labelled c = search needs
 
 put-labelled-requires : tie.Need-put-labelled-requires
 put-labelled-requires c κs =
-    let number-at = c .before .before .before .before .before .before .before .number-at in
+    let number-at = c .before .before .before .before .before .before .before .before .number-at in
     room (l₁ (c .before .before .before .before)) ((32 ∷ []) ++ decimal (number-at .result)) _ refl
 
 slice-aggregate-put-labelled-2 : tie.Need-slice-aggregate-put-labelled-2
@@ -84,23 +66,14 @@ slice-aggregate-put-labelled-2 c = search needs
 
 put-labelled-requires-2 : tie.Need-put-labelled-requires-2
 put-labelled-requires-2 c κs =
-    let number-at2 = c .before .before .before .before .before .before .before .before .before .before .before .number-at2 in
+    let number-at2 = c .before .before .before .before .before .before .before .before .before .before .before .before .number-at2 in
     room (l₂ (c .before .before .before .before)) ((32 ∷ []) ++ decimal (number-at2 .result)) _ refl
 
 put-byte-requires : tie.Need-put-byte-requires
 put-byte-requires c κs = room (l₃ (c .before .before .before)) (32 ∷ []) _ refl
 
-sub-put-name : tie.Need-sub-put-name
-sub-put-name c = search needs
-
-part-put-name-start : tie.Need-part-put-name-start
-part-put-name-start c = search needs
-
-part-put-name-end : tie.Need-part-put-name-end
-part-put-name-end c = search needs
-
 put-name-requires : tie.Need-put-name-requires
-put-name-requires c κs = room (l₄ (c .before .before .before .before)) (printed (name (c .before .before .before .before .before .before .before .before .before .before .before .before .before .before .before .before .before .before .before .before))) _ refl
+put-name-requires c κs = room (l₄ (c .before .before .before)) (printed (name (c .before .before .before .before .before .before .before .before .before .before .before .before .before .before .before .before .before .before .before))) _ refl
 
 put-byte-requires-2 : tie.Need-put-byte-requires-2
 put-byte-requires-2 c κs = l₅ (c .before .before .before) .fits
@@ -112,4 +85,4 @@ returns : tie.Need-returns
 returns c = last (l₅ (c .before .before .before .before .before .before)) (c .before .before .put-byte2 .ensures) refl
 
 pub entry-line-spec : {M : Type 1} → statement M
-entry-line-spec = tie.close (tie.spec number-at-requires number-at-requires-2 mul-a mul-a-2 add-a add-a-2 add-e put-decimal-requires slice-aggregate-put-labelled put-labelled-requires slice-aggregate-put-labelled-2 put-labelled-requires-2 put-byte-requires sub-put-name part-put-name-start part-put-name-end put-name-requires put-byte-requires-2 same-length returns)
+entry-line-spec = tie.close (tie.spec number-at-requires number-at-requires-2 field-at-requires put-decimal-requires slice-aggregate-put-labelled put-labelled-requires slice-aggregate-put-labelled-2 put-labelled-requires-2 put-byte-requires put-name-requires put-byte-requires-2 same-length returns)

@@ -5,7 +5,6 @@ use borrow.Author.Needs.{needs}
 use Rattle.volume.proofs.create.create_refusal.Statement.{statement}
 use Rattle.volume.proofs.create.create_refusal.Tie as tie
 use Rattle.volume.proofs.Walks.Create.{refused-name, refused-kind, refused-taken, refused-full, not-refused}
-use Rattle.layout.proofs.Laws.Names.{goodName-length}
 
 good-name-requires : tie.Need-good-name-requires
 good-name-requires c κs = search needs
@@ -30,7 +29,7 @@ find-file-requires : tie.Need-find-file-requires
 find-file-requires c κs =
     let g : c .before .before .before .good-name .result ≡ true = not-false _ (c .before .before .if1 .left) in
     let h = sym (c .before .before .before .good-name .ensures) ∙ g in
-    (c .before .before .before .before .before .before .pre, h, goodName-length _ h)
+    (c .before .before .before .before .before .before .pre, h)
 
 returns-3 : tie.Need-returns-3
 returns-3 c =

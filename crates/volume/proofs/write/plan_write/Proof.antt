@@ -12,26 +12,26 @@ locate-requires c κs = (c .before .before .pre .0, name-given _ _ _ _ (c .befor
 
 needed-requires : tie.Need-needed-requires
 needed-requires c κs =
-    let z = plan-sizes _ _ _ _ (c .before .before .before .pre .0) (c .before .before .before .pre .1) (c .locate .ensures) in
+    let z = plan-sizes _ _ _ _ (c .before .before .before .pre .0) (c .before .before .before .pre .1) (c .locate .ensures .0) in
     (z .0, omega arith, z .2, omega arith)
 
 last-block-requires : tie.Need-last-block-requires
 last-block-requires c κs =
     let p = c .before .before .before .before .pre in
-    located-below (c .before .locate .ensures) (name-given _ _ _ _ (p .1)) (p .0)
+    located-below (c .before .locate .ensures .0) (name-given _ _ _ _ (p .1)) (p .0)
 
 start-block-requires : tie.Need-start-block-requires
 start-block-requires c κs =
     let locate = c .before .before .locate in
     let p = c .before .before .before .before .before .pre in
     let h = sound-shape _ (p .0) in
-    (omega arith, room-given _ _ _ _ (p .0) (p .1) (locate .ensures) _ (c .before .needed .ensures))
+    (omega arith, room-given _ _ _ _ (p .0) (p .1) (locate .ensures .0) _ (c .before .needed .ensures))
 
 add-larger : tie.Need-add-larger
 add-larger c =
     let locate = c .before .before .before .locate in
     let p = c .before .before .before .before .before .before .pre in
-    omega (arith, plan-sizes _ _ _ _ (p .0) (p .1) (locate .ensures))
+    omega (arith, plan-sizes _ _ _ _ (p .0) (p .1) (locate .ensures .0))
 
 larger-requires : tie.Need-larger-requires
 larger-requires c κs = search needs
@@ -41,7 +41,7 @@ add-t14 c =
     let needed = c .before .before .before .needed in
     let locate = c .before .before .before .before .locate in
     let p = c .before .before .before .before .before .before .before .pre in
-    omega (arith, plan-sizes _ _ _ _ (p .0) (p .1) (locate .ensures), needed .ensures)
+    omega (arith, plan-sizes _ _ _ _ (p .0) (p .1) (locate .ensures .0), needed .ensures)
 
 returns : tie.Need-returns
 returns c =
@@ -49,7 +49,7 @@ returns c =
     let needed = c .before .before .before .needed in
     let locate = c .before .before .before .before .locate in
     let p = c .before .before .before .before .before .before .before .pre in
-    planned _ _ _ _ (p .0) (p .1) (locate .ensures) _ (needed .ensures) _ _ _ (last-block .ensures) (c .before .start-block .ensures) (c .larger .ensures)
+    planned _ _ _ _ (p .0) (p .1) (locate .ensures .0) _ (needed .ensures) _ _ _ (last-block .ensures) (c .before .start-block .ensures) (c .larger .ensures)
 
 pub plan-write-spec : {M : Type 1} → statement M
 plan-write-spec =

@@ -15,12 +15,12 @@ locate-requires c κs = (c .before .before .before .pre .0, name-given _ _ _ _ (
 last-block-requires : tie.Need-last-block-requires
 last-block-requires c κs =
     let p = c .before .before .before .before .pre in
-    located-below (c .locate .ensures) (name-given _ _ _ _ (p .1)) (p .0)
+    located-below (c .locate .ensures .0) (name-given _ _ _ _ (p .1)) (p .0)
 
 needed-requires : tie.Need-needed-requires
 needed-requires c κs =
     let p = c .before .before .before .before .before .pre in
-    let z = plan-sizes _ _ _ _ (p .0) (p .1) (c .before .locate .ensures) in
+    let z = plan-sizes _ _ _ _ (p .0) (p .1) (c .before .locate .ensures .0) in
     (z .0, omega arith, z .2, omega arith)
 
 mark-requires : tie.Need-mark-requires
@@ -29,13 +29,13 @@ mark-requires c κs =
     let a = c .before .before .before .before .before .before .before .args in
     let p = c .before .before .before .before .before .before .before .pre in
     let h = sound-shape (a .image .now) (p .0) in
-    omega (arith, locate .ensures .inside, p .2)
+    omega (arith, locate .ensures .0 .inside, p .2)
 
 mark-written-requires : tie.Need-mark-written-requires
 mark-written-requires c κs =
     let locate = c .before .before .before .before .before .before .before .locate in
     let p = c .before .before .before .before .before .before .before .before .before .before .before .pre in
-    (located-below (locate .ensures) (name-given _ _ _ _ (p .1)) (p .0), plan-sizes _ _ _ _ (p .0) (p .1) (locate .ensures) .2, omega (arith, p .2))
+    (located-below (locate .ensures .0) (name-given _ _ _ _ (p .1)) (p .0), plan-sizes _ _ _ _ (p .0) (p .1) (locate .ensures .0) .2, omega (arith, p .2))
 
 mark-grown-requires : tie.Need-mark-grown-requires
 mark-grown-requires c κs =
@@ -44,9 +44,9 @@ mark-grown-requires c κs =
     let locate = c .before .before .before .before .before .before .before .before .before .before .before .locate in
     let p = c .before .before .before .before .before .before .before .before .before .before .before .before .before .before .before .pre in (
       sound-shape _ (p .0),
-      rw (last-block .ensures) (last-under (located-below (locate .ensures) (name-given _ _ _ _ (p .1)) (p .0))),
+      rw (last-block .ensures) (last-under (located-below (locate .ensures .0) (name-given _ _ _ _ (p .1)) (p .0))),
       room-given _ _ _ _
-          (p .0) (p .1) (locate .ensures) _ (needed .ensures),
+          (p .0) (p .1) (locate .ensures .0) _ (needed .ensures),
       omega (arith, p .2),
     )
 
@@ -63,7 +63,7 @@ returns c =
     let locate = c .before .before .before .before .before .before .before .before .before .before .before .before .before .before .locate in
     let p = c .before .before .before .before .before .before .before .before .before .before .before .before .before .before .before .before .before .before .pre in
     mark-grown .ensures ∙ rw (mark-written .ensures, mark .ensures)
-    (write-named (locate .ensures) (p .0) _ _ (p .1) _ (needed .ensures) _ _ (last-block .ensures))
+    (write-named (locate .ensures .0) (p .0) _ _ (p .1) _ (needed .ensures) _ _ (last-block .ensures))
 
 pub write-named-spec : {M : Type 1} → statement M
 write-named-spec =
