@@ -143,7 +143,7 @@ static bool good_name_field(const uint8_t *field)
     size_t len = 0;
     while (len < NAME_FIELD && field[len] != 0)
         len++;
-    if (len == 0 || len == NAME_FIELD)
+    if (len == 0)
         return false;
     while (len < NAME_FIELD && field[len] == 0)
         len++;

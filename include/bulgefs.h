@@ -41,7 +41,7 @@ extern "C" {
 #define BULGEFS_MIN_ROOT_BLOCKS    1u        /* blocks of the smallest root directory  */
 #define BULGEFS_MAX_ROOT_BLOCKS    64u       /* blocks of the largest root directory   */
 #define BULGEFS_SLOTS_PER_BLOCK    4u        /* directory slots in a block             */
-#define BULGEFS_MAX_NAME           79u       /* bytes in the longest file name         */
+#define BULGEFS_MAX_NAME           80u       /* bytes in the longest file name         */
 #define BULGEFS_VOLUME_NAME_SIZE   128u      /* bytes of a volume name, always         */
 #define BULGEFS_MAX_DATA           4096u     /* bytes that one write accepts           */
 #define BULGEFS_MIN_FILE_TYPE      0x60u     /* lowest type of a file                  */
@@ -100,7 +100,7 @@ typedef struct { uint32_t number, record; } bulgefs_changed;
 
 /*
  * Names
- *   A file name is 1 to 79 bytes, none of them zero, handed over without a
+ *   A file name is 1 to 80 bytes, none of them zero, handed over without a
  *   terminating zero.  Names are equal when all their bytes are.  Every call
  *   that takes a file name refuses a bad one with BULGEFS_BAD_ARGUMENT.
  */

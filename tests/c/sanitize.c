@@ -254,7 +254,7 @@ static void call_all(const material *m)
 
 /* ---- cases ---- */
 
-static const size_t lengths[] = {0, 1, 2, 3, 4, 5, 6, 31, 32, 79, 80, 127, 128, 129, 511, 512,
+static const size_t lengths[] = {0, 1, 2, 3, 4, 5, 6, 31, 32, 79, 80, 81, 127, 128, 129, 511, 512,
                                  513, 525, 1024, 1535, 1536, 1537, 2048, 4096, 4097, 8192};
 enum { LENGTHS = sizeof lengths / sizeof lengths[0], MOST = 70000 };
 
@@ -405,6 +405,43 @@ static void damaged_volumes(void)
     }
 }
 
+/*
+ * A name that fills its field: created, written, found, read and taken back;
+ * one that differs in its last byte is another file, and one byte more is bad.
+ */
+static void full_name(void)
+{
+    static uint8_t image[16 * 512], before[16 * 512], journal[8192], name[81], other[80], got[5];
+    bulgefs_uuid uuid = {{0}};
+    memset(name, 'n', sizeof name);
+    memcpy(other, name, sizeof other);
+    other[79] = 'm';
+    expect(bulgefs_format(image, sizeof image, 2, 1, uuid, volume_name, 128) == 0, "full: format");
+    expect(bulgefs_journal_start(journal, sizeof journal) == 0, "full: start");
+    memcpy(before, image, sizeof image);
+    bulgefs_created c = bulgefs_create(image, sizeof image, journal, sizeof journal, name, 80,
+                                       0x60, 0, 0, 0, 0, 2);
+    expect(c.number == 0 && c.slot == 1 && c.record == 520, "full: create");
+    expect(bulgefs_create(image, sizeof image, journal, sizeof journal, other, 80, 0x60, 0, 0, 0,
+                          0, 2).slot == 2, "full: another last byte");
+    expect(bulgefs_create(image, sizeof image, journal, sizeof journal, name, 81, 0x60, 0, 0, 0,
+                          0, 2).number == BULGEFS_BAD_ARGUMENT, "full: one byte more");
+    bulgefs_changed w = bulgefs_write(image, sizeof image, journal, sizeof journal, name, 80, 0,
+                                      (const uint8_t *)"bytes", 5, 3);
+    expect(w.number == 0, "full: write");
+    expect(bulgefs_check(image, sizeof image) == 0, "full: sound");
+    bulgefs_found f = bulgefs_lookup(image, sizeof image, name, 80);
+    expect(f.number == 0 && f.slot == 1 && f.size == 5, "full: lookup");
+    expect(bulgefs_lookup(image, sizeof image, name, 79).number == BULGEFS_NOT_FOUND,
+           "full: one byte less");
+    bulgefs_filled r = bulgefs_read(image, sizeof image, name, 80, 0, got, sizeof got);
+    expect(r.number == 0 && r.count == 5 && memcmp(got, "bytes", 5) == 0, "full: read");
+    for (int i = 0; i < 3; i++)
+        expect(bulgefs_undo(image, sizeof image, journal, sizeof journal).number == 0,
+               "full: undo");
+    expect(memcmp(image, before, sizeof image) == 0, "full: as it was");
+}
+
 /* The largest image and the longest journal. */
 static void largest(void)
 {
@@ -430,6 +467,7 @@ int main(void)
     sound_volumes();
     cut_journals();
     damaged_volumes();
+    full_name();
     largest();
     printf("%lu passed, %lu failed\n", passed, failed);
     return failed == 0 ? 0 : 1;

@@ -46,7 +46,7 @@ isFree type = eqb type 0
 abbrev pub isFile : ℕ → Bool
 isFile type = within 0x60 0x9F type
 
--- "a name is 1 to 79 non-zero bytes, zeros after it up to 80"
+-- "A name is 1 to 80 non-zero bytes, zeros after it if any room is left." (02, L2)
 abbrev pub nameByte : ℕ → Bool
 nameByte x = not (eqb x 0)
 

@@ -16,9 +16,9 @@ maxDirectory = 64
 abbrev pub maxSlots : ℕ
 maxSlots = 4 * maxDirectory
 
--- "a name is 1 to 79 non-zero bytes"
+-- "A name is 1 to 80 non-zero bytes" (02, L2): the whole field
 abbrev pub maxName : ℕ
-maxName = 79
+maxName = 80
 
 -- refusal 9: "data above 4,096 bytes"
 abbrev pub maxData : ℕ

@@ -2,7 +2,8 @@
 ghost use Prim.Native.Nat.{_+_, _*_, _≤_, _<_};
 ghost use mathlib.Core.Bool.{true};
 ghost use mathlib.Core.Path.{_≡_};
-ghost use lib.ListN.{length, replicate};
+ghost use lib.ListN.{length, getD, replicate};
+ghost use lib.Dec.{eqb};
 ghost use Rattle.layout.specs.Lists.{same};
 ghost use Rattle.layout.specs.Bytes.{part, block, splice};
 ghost use Rattle.layout.specs.Directory.{unpadded, goodName};
@@ -59,7 +60,7 @@ fn name_length(field: &[u8]) -> usize
     field.len()
 }
 
-// Whether a field of 80 bytes holds a name of 1 to 79 bytes and zeros after it.
+// Whether a field of 80 bytes holds a name of at least one byte, and zeros after it if any room is left.
 pub fn name_ok(field: &[u8]) -> bool
     requires { ⌜ length (now field) ≡ 80 ⌝ }
     ensures { λ r. ⌜ r ≡ fieldOk (now (field .entry)) ⌝ }
@@ -68,13 +69,10 @@ pub fn name_ok(field: &[u8]) -> bool
     if k == 0 {
         return false;
     }
-    if MAX_NAME < k {
-        return false;
-    }
     all_zero(&field[k..])
 }
 
-// Whether a name has 1 to 79 bytes, none of them 0.
+// Whether a name has 1 to 80 bytes, none of them 0.
 pub fn good_name(name: &[u8]) -> bool
     ensures { λ r. ⌜ r ≡ goodName (now (name .entry)) ⌝ }
 {
@@ -92,13 +90,23 @@ pub fn good_name(name: &[u8]) -> bool
     true
 }
 
+// Whether no byte of a name stands at i: there is a zero, or the field ends before it.
+fn ends_at(field: &[u8], i: usize) -> bool
+    ensures { λ r. ⌜ r ≡ eqb (getD (now (field .entry)) i 0) 0 ⌝ }
+{
+    if field.len() <= i {
+        return true;
+    }
+    field[i] == 0
+}
+
 // Whether a field of 80 bytes holds a good name. It looks from the end, where names of one kind differ most.
 pub fn holds_name(field: &[u8], name: &[u8]) -> bool
     requires { ⌜ (length (now field) ≡ 80) × (goodName (now name) ≡ true) ⌝ }
     ensures { λ r. ⌜ r ≡ same (unpadded (now (field .entry))) (now (name .entry)) ⌝ }
 {
     let mut i = name.len();
-    if field[i] != 0 {
+    if !ends_at(field, i) {
         return false;
     }
     while 0 < i {

@@ -11,8 +11,8 @@ pub const MAX_DIRECTORY: u32 = 64;
 // With four slots in a block.
 pub const MAX_SLOTS: usize = 256;
 
-// A name has 1 to 79 bytes, in a field of 80.
-pub const MAX_NAME: usize = 79;
+// A name has 1 to 80 bytes, and may fill its field.
+pub const MAX_NAME: usize = 80;
 
 pub const NAME_FIELD: usize = 80;
 

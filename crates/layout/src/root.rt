@@ -1,8 +1,6 @@
 // The root directory of a sound image: the file of a name, and the lowest free slot.
-ghost use Prim.Native.Nat.{_≤_};
 ghost use mathlib.Core.Bool.{true};
 ghost use mathlib.Core.Path.{_≡_};
-ghost use lib.ListN.{length};
 ghost use Rattle.layout.specs.Geometry.{blockCount};
 ghost use Rattle.layout.specs.Directory.{goodName, fileSlot, freeSlot, root};
 ghost use Rattle.layout.specs.Check.{check};

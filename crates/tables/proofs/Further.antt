@@ -65,10 +65,10 @@ stages =
       5 ∷ 5 ∷ 5 ∷ 5 ∷ 5 ∷ [],
     )
     ∷ (checks (splice s 1184 (bytes4 1) ∷ splice s 1188 (bytes4 1) ∷ []), 5 ∷ 5 ∷ [])
-    -- 5: no name; a byte after the name; 80 bytes of name; 79 are good; two equal names
+    -- 5: no name; a byte after the name; two equal names; names of 80 and of 79 bytes are good
     ∷ (
-      checks (splice s 1200 (0 ∷ []) ∷ splice s 1205 (1 ∷ []) ∷ splice s 1200 (replicate 80 66) ∷ splice s 1200 (replicate 79 66) ∷ splice both 1328 (65 ∷ []) ∷ []),
-      5 ∷ 5 ∷ 5 ∷ 0 ∷ 5 ∷ [],
+      checks (splice s 1200 (0 ∷ []) ∷ splice s 1205 (1 ∷ []) ∷ splice both 1328 (65 ∷ []) ∷ splice s 1200 (replicate 80 66) ∷ splice s 1200 (replicate 79 66) ∷ []),
+      5 ∷ 5 ∷ 5 ∷ 0 ∷ 0 ∷ [],
     )
     -- 5: size in blocks; first block 0 with a size, and not 0 without
     ∷ (checks (splice s 1160 (bytes4 1025) ∷ splice s 1156 (bytes4 0) ∷ splice s 1160 (bytes4 0 ++ bytes4 0) ∷ []), 5 ∷ 5 ∷ 5 ∷ [])
@@ -86,9 +86,9 @@ pub looks : List (List ℕ × List ℕ)
 looks =
     let s = p₂ .image in
     (looked (findFile fileA) ++ looked (findFile (65 ∷ 66 ∷ [])), 0 ∷ 1 ∷ 513 ∷ 2 ∷ 10 ∷ 0 ∷ 0 ∷ 0 ∷ [])
-    -- names: none, 80 bytes, 79, with a zero in it
+    -- names: none, 81 bytes, 80, with a zero in it
     ∷ (
-      looked (findFile []) ++ looked (findFile (replicate 80 65)) ++ looked (findFile (replicate 79 65)) ++ looked (findFile (65 ∷ 0 ∷ [])),
+      looked (findFile []) ++ looked (findFile (replicate 81 65)) ++ looked (findFile (replicate 80 65)) ++ looked (findFile (65 ∷ 0 ∷ [])),
       9 ∷ 0 ∷ 0 ∷ 0 ∷ 9 ∷ 0 ∷ 0 ∷ 0 ∷ 10 ∷ 0 ∷ 0 ∷ 0 ∷ 9 ∷ 0 ∷ 0 ∷ 0 ∷ [],
     )
     -- read across blocks to the end, at the end, past it, into no buffer, of no file

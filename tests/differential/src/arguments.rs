@@ -56,8 +56,8 @@ pub fn bad_name(rng: &mut Rng) -> Vec<u8> {
     let good = good_name(rng);
     match rng.below(8) {
         0 => vec![],
-        1 => vec![b'n'; NAME_FIELD],
-        2 => vec![b'n'; NAME_FIELD + 1],
+        1 => vec![b'n'; MAX_NAME + 1],
+        2 => vec![b'n'; MAX_NAME + 2],
         3 => vec![0],
         4 => [&good[..], &[0]].concat(),
         5 => [&[0], &good[..good.len() - 1]].concat(),
@@ -66,7 +66,7 @@ pub fn bad_name(rng: &mut Rng) -> Vec<u8> {
             name[rng.below(MAX_NAME)] = 0;
             name
         }
-        _ => (0..rng.between(NAME_FIELD, 700)).map(|_| rng.nonzero_byte()).collect(),
+        _ => (0..rng.between(MAX_NAME + 1, 700)).map(|_| rng.nonzero_byte()).collect(),
     }
 }
 

@@ -240,14 +240,13 @@ const DIRECTORY: &[Clause] = &[
     } },
     Clause { stage: 5, what: "no name", make: |r, i| { let f = any_file(r, i)?; rename(i, &f, &[0; 80]); Some(()) } },
     Clause { stage: 5, what: "name starts with 0", make: |r, i| { let f = any_file(r, i)?; i[f.at + slot::NAME] = 0; Some(()) } },
-    Clause { stage: 5, what: "name of 80 bytes", make: |r, i| { let f = any_file(r, i)?; rename(i, &f, &[b'x'; 80]); Some(()) } },
     Clause { stage: 5, what: "byte after the name", make: |r, i| {
         let f = file_where(r, i, |f| f.name.len() < 79)?;
         let at = f.at + slot::NAME + r.between(f.name.len() + 1, 79);
         i[at] = r.nonzero_byte();
         Some(())
     } },
-    Clause { stage: 5, what: "byte 79 of the name field", make: |r, i| {
+    Clause { stage: 5, what: "last byte of the name field", make: |r, i| {
         let f = file_where(r, i, |f| f.name.len() < 79)?;
         i[f.at + SLOT - 1] = r.nonzero_byte();
         Some(())

@@ -200,7 +200,7 @@ pub fn good_name(rng: &mut Rng) -> Vec<u8> {
         2 => vec![b'a'; rng.between(1, MAX_NAME)],
         3 => vec![rng.nonzero_byte()],
         4 => {
-            let mut name = vec![b'z'; rng.pick(&[78, 79])];
+            let mut name = vec![b'z'; rng.pick(&[78, 79, 80])];
             *name.last_mut().unwrap() = rng.nonzero_byte();
             name
         }

@@ -7,7 +7,7 @@ pub const MAX_ROOT_BLOCKS: usize = 64;
 pub const ENTRIES_PER_TABLE_BLOCK: usize = 128;
 pub const SLOTS_PER_BLOCK: usize = 4;
 pub const SLOT: usize = 128;
-pub const MAX_NAME: usize = 79;
+pub const MAX_NAME: usize = 80;
 pub const NAME_FIELD: usize = 80;
 pub const MAX_DATA: usize = 4096;
 
@@ -136,7 +136,7 @@ pub fn name_field(name: &[u8]) -> [u8; NAME_FIELD] {
     field
 }
 
-/// A name is 1 to 79 non-zero bytes.
+/// A name is 1 to 80 non-zero bytes.
 pub fn is_good_name(name: &[u8]) -> bool {
     (1..=MAX_NAME).contains(&name.len()) && !name.contains(&0)
 }

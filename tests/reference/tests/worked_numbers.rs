@@ -77,8 +77,8 @@ fn one_more_byte_and_undo() {
 #[test]
 fn longest_name() {
     let state = fresh(16, 2);
-    assert!(apply(&state, &create(&[b'n'; 79])).is_ok());
-    assert_eq!(apply(&state, &create(&[b'n'; 80])), Err(9));
+    assert!(apply(&state, &create(&[b'n'; 80])).is_ok());
+    assert_eq!(apply(&state, &create(&[b'n'; 81])), Err(9));
 }
 
 #[test]

@@ -44,12 +44,17 @@ take-unpadded [] = refl
 take-unpadded (zero ∷ xs) = refl
 take-unpadded (suc x ∷ xs) = ap (λ (l : List ℕ). suc x ∷ l) (take-unpadded xs)
 
+pub unpadded-most : (f : List ℕ) → length (unpadded f) ≤ length f
+unpadded-most [] = omega arith
+unpadded-most (zero ∷ xs) = omega arith
+unpadded-most (suc x ∷ xs) = let r = unpadded-most xs in omega arith
+
 pub unpadded-bytes : (f : List ℕ) → every nameByte (unpadded f) ≡ true
 unpadded-bytes [] = refl
 unpadded-bytes (zero ∷ xs) = refl
 unpadded-bytes (suc x ∷ xs) = rw (ne-eqb (suc x) 0 (suc-ne-zero x)) (unpadded-bytes xs)
 
--- a good name has 1 to 79 bytes, none of them 0
+-- a good name has 1 to 80 bytes, none of them 0
 pub goodName-split : (name : List ℕ) → goodName name ≡ true → (1 ≤ length name) × (length name ≤ maxName) × (every nameByte name ≡ true)
 unfolding goodName
 goodName-split name e =

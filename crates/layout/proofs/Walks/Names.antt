@@ -15,7 +15,7 @@ use Rattle.layout.specs.Lists.{every, same}
 use Rattle.layout.specs.Bytes.{zeros}
 use Rattle.layout.specs.Directory.{nameByte, goodName, unpadded}
 use Rattle.layout.specs.Walks.Entries.{fieldOk, allZero}
-use Rattle.layout.proofs.Laws.Names.{same-eq, same-refl, same-append, take-unpadded, unpadded-bytes, goodName-split}
+use Rattle.layout.proofs.Laws.Names.{same-eq, same-refl, same-append, take-unpadded, unpadded-most, unpadded-bytes, goodName-split}
 use Rattle.layout.proofs.Laws.Tests.{and-split, is-false}
 
 pub same-lengths : (a b : List ℕ) → (length a ≡ length b → ⊥) → same a b ≡ false
@@ -61,15 +61,12 @@ module _ (f : List ℕ) where
   unfolding fieldOk goodName
   fieldOk-empty e = rw (lt-leb 1 (length (unpadded f)) (omega arith))
 
-  pub fieldOk-long : maxName < length (unpadded f) → fieldOk f ≡ false
-  unfolding fieldOk goodName
-  fieldOk-long h = rw (le-leb 1 (length (unpadded f)) (omega arith), lt-leb (length (unpadded f)) maxName h)
-
-  pub fieldOk-rest : length f ≡ 80 → (length (unpadded f) ≡ 0 → ⊥) → length (unpadded f) ≤ maxName → fieldOk f ≡ allZero (drop (length (unpadded f)) f)
+  pub fieldOk-rest : length f ≡ 80 → (length (unpadded f) ≡ 0 → ⊥) → fieldOk f ≡ allZero (drop (length (unpadded f)) f)
   unfolding fieldOk goodName zeros
-  fieldOk-rest e h g =
+  fieldOk-rest e h =
+      let m = unpadded-most f in
       let r : 80 - length (unpadded f) ≡ length (drop (length (unpadded f)) f) = simp length-drop (omega arith) in
-      rw (le-leb 1 (length (unpadded f)) (omega arith), le-leb (length (unpadded f)) maxName g, unpadded-bytes f)
+      rw (le-leb 1 (length (unpadded f)) (omega arith), le-leb (length (unpadded f)) maxName (omega arith), unpadded-bytes f)
       (same-append f (unpadded f) (replicate (80 - length (unpadded f)) 0) (omega arith) ∙ rw (take-unpadded f, same-refl (unpadded f), r, allZero-same))
 
 -- a good name

@@ -23,8 +23,10 @@ const KINDS: &[Kind] = &[
     Kind { what: "other first byte", make: |rng| one_byte_apart(rng, 40, 0) },
     Kind { what: "other byte within", make: |rng| one_byte_apart(rng, MAX_NAME, 40) },
     Kind { what: "prefixes of one another", make: |_| prefixes() },
-    Kind { what: "79 bytes", make: |rng| different(|| any_bytes(rng, MAX_NAME)) },
-    Kind { what: "79 bytes, other last byte", make: |rng| one_byte_apart(rng, MAX_NAME, 78) },
+    Kind { what: "a full field", make: |rng| different(|| any_bytes(rng, MAX_NAME)) },
+    Kind { what: "a full field, other last byte", make: |rng| one_byte_apart(rng, MAX_NAME, MAX_NAME - 1) },
+    Kind { what: "79 bytes", make: |rng| different(|| any_bytes(rng, MAX_NAME - 1)) },
+    Kind { what: "79 bytes, and all but the last with one more", make: |rng| with_one_more(rng) },
     Kind { what: "bytes in another order", make: |rng| permutations(rng, 1) },
     Kind { what: "words in another order", make: |rng| permutations(rng, 4) },
     Kind { what: "double words in another order", make: |rng| permutations(rng, 8) },
@@ -123,7 +125,13 @@ fn one_byte_apart(rng: &mut Rng, len: usize, at: usize) -> Vec<Vec<u8>> {
     (1..=PLACES as u8).map(with).collect()
 }
 
-/// Four names of 79 bytes, each with most of its prefixes.
+/// Names of 79 bytes, each also with one byte more.
+fn with_one_more(rng: &mut Rng) -> Vec<Vec<u8>> {
+    let short = different(|| any_bytes(rng, MAX_NAME - 1));
+    short.into_iter().take(PLACES / 2).flat_map(|name| [[&name[..], b"x"].concat(), name]).collect()
+}
+
+/// Four names of 80 bytes, each with most of its prefixes.
 fn prefixes() -> Vec<Vec<u8>> {
     let all = (1..=MAX_NAME).rev().flat_map(|len| b"abcd".map(|byte| vec![byte; len]));
     all.take(PLACES).collect()
