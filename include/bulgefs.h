@@ -2,18 +2,20 @@
  * bulgefs.h - a verified settings volume (BulgeFS 0.1.0.0) with an undo journal.
  *
  * A volume is one run of bytes, the image: 512 * n bytes with n from 3 to
- * 4,096, holding one directory of named files.  A journal is a second run of
+ * 65,536, holding one directory of named files.  A journal is a second run of
  * bytes.  Every accepted change adds one record to it, and bulgefs_undo takes
  * the last change back, byte for byte.
  *
  * The library keeps nothing between calls: no handles, no allocation, no
- * input or output, no global state.  Calls on different buffers may run at the
+ * input or output, no global state.  A call takes at most BULGEFS_STACK bytes
+ * of stack (measured, not proved).  Calls on different buffers may run at the
  * same time.  Link libcapi.a; examples/installer.c shows every call in use.
  *
  * Buffers
  *   The caller owns every buffer and lends it for the length of one call.
  *   Buffers lent to the same call must not overlap.  A pointer may be NULL
- *   only together with length 0.  Buffers need no alignment.
+ *   only together with length 0.  Buffers of bytes need no alignment; runs of
+ *   numbers are aligned for uint32_t, and their lengths count numbers.
  *
  *   Apart from that there are no preconditions: every call accepts any bytes
  *   at all in any buffer, and any length including 0.
@@ -37,7 +39,7 @@ extern "C" {
 /* Limits. */
 #define BULGEFS_BLOCK_SIZE         512u      /* bytes in a block                       */
 #define BULGEFS_MIN_BLOCKS         3u        /* blocks in the smallest image           */
-#define BULGEFS_MAX_BLOCKS         4096u     /* blocks in the largest image            */
+#define BULGEFS_MAX_BLOCKS         65536u    /* blocks in the largest image            */
 #define BULGEFS_MIN_ROOT_BLOCKS    1u        /* blocks of the smallest root directory  */
 #define BULGEFS_MAX_ROOT_BLOCKS    64u       /* blocks of the largest root directory   */
 #define BULGEFS_SLOTS_PER_BLOCK    4u        /* directory slots in a block             */
@@ -47,11 +49,12 @@ extern "C" {
 #define BULGEFS_MIN_FILE_TYPE      0x60u     /* lowest type of a file                  */
 #define BULGEFS_MAX_FILE_TYPE      0x9Fu     /* highest type of a file                 */
 #define BULGEFS_MIN_JOURNAL        5u        /* bytes in the smallest journal          */
-#define BULGEFS_MAX_JOURNAL        4194304u  /* bytes in the largest journal           */
+#define BULGEFS_MAX_JOURNAL        67108864u /* bytes in the largest journal           */
+#define BULGEFS_STACK              147456u   /* bytes of stack that a call takes       */
 
 /*
  * Length of a journal record that saves k blocks.  A create saves 1 block, a
- * write at most 20, a delete at most 34.
+ * write at most 20, a delete at most 510.
  */
 #define BULGEFS_RECORD_SIZE(k)     (4u + 516u * (k))
 
@@ -60,7 +63,7 @@ enum bulgefs_number {
     BULGEFS_OK              = 0,
 
     /* The image is not sound; the number is the first stage of the check that fails. */
-    BULGEFS_BAD_LENGTH      = 1,  /* length is not 512 * n with n from 3 to 4,096      */
+    BULGEFS_BAD_LENGTH      = 1,  /* length is not 512 * n with n from 3 to 65,536     */
     BULGEFS_BAD_SIGNATURE   = 2,  /* signature or version                              */
     BULGEFS_BAD_GEOMETRY    = 3,  /* total blocks, table blocks or root block          */
     BULGEFS_BAD_ROOT        = 4,  /* self entry or chain of the root directory         */
@@ -77,7 +80,8 @@ enum bulgefs_number {
     BULGEFS_DIRECTORY_FULL  = 13, /* create: no free slot                              */
     BULGEFS_VOLUME_FULL     = 14, /* fewer free blocks than needed                     */
     BULGEFS_JOURNAL_FULL    = 15, /* the record does not fit into the journal          */
-    BULGEFS_NOTHING_TO_UNDO = 16  /* undo: the journal holds no record                 */
+    BULGEFS_NOTHING_TO_UNDO = 16, /* undo: the journal holds no record                 */
+    BULGEFS_BAD_TABLE_SIZE  = 21  /* entry_count is not the number of blocks           */
 };
 
 /* Sixteen bytes, handed over by value. */
@@ -155,7 +159,7 @@ bulgefs_part bulgefs_look_in_place(const uint8_t *image, size_t image_len,
 
 /*
  * Makes an empty journal of the whole buffer and writes every byte of it.
- * Refusals: BULGEFS_BAD_JOURNAL (length outside 5 to 4,194,304).
+ * Refusals: BULGEFS_BAD_JOURNAL (length outside 5 to 67,108,864).
  */
 uint32_t bulgefs_journal_start(uint8_t *journal, size_t journal_len);
 
@@ -208,6 +212,23 @@ bulgefs_changed bulgefs_delete(uint8_t *image, size_t image_len,
  */
 bulgefs_changed bulgefs_undo(uint8_t *image, size_t image_len,
                              uint8_t *journal, size_t journal_len);
+
+/*
+ * The chain table as numbers: entry b stands at entries[b], one for each of
+ * the image's n blocks (BULGEFS_BLOCK_SIZE bytes each).  A free block has 0,
+ * the last block of a chain 1, any other the number of the next block.
+ *
+ * Load gives every entry.  Store writes every entry back, takes any numbers
+ * and changes nothing else: not the counts in the header, and no data.  So
+ * load then store changes no byte, and a store of other numbers may leave an
+ * image that is not sound, and a journal that is not its own any more.
+ * Refusals: 1 to 7, BULGEFS_BAD_TABLE_SIZE (entry_count other than n).
+ */
+uint32_t bulgefs_load_table(const uint8_t *image, size_t image_len,
+                            uint32_t *entries, size_t entry_count);
+
+uint32_t bulgefs_store_table(uint8_t *image, size_t image_len,
+                             const uint32_t *entries, size_t entry_count);
 
 #ifdef __cplusplus
 }

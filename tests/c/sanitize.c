@@ -238,9 +238,34 @@ static void call_makers(const material *m)
 
     buffer journal = lend(m->journal, m->journal_len);
     uint32_t number = bulgefs_journal_start(journal.at, journal.len);
-    expect(number == (journal.len < 5 || journal.len > 4194304 ? 8 : 0), "start: number");
+    expect(number == (journal.len < 5 || journal.len > BULGEFS_MAX_JOURNAL ? 8 : 0), "start: number");
     expect(number == 0 || unchanged(&journal), "start: refused without a change");
     give_back(&journal);
+}
+
+/* The table loaded and stored back, in runs of its length and of another. */
+static void call_table(const material *m)
+{
+    static const uint32_t numbers[BULGEFS_MAX_BLOCKS + 2] = {1, 1, 3};
+    size_t n = m->image_len / 512;
+    size_t counts[] = {n > BULGEFS_MAX_BLOCKS ? BULGEFS_MAX_BLOCKS : n, n % 3, 0};
+    for (size_t i = 0; i < sizeof counts / sizeof counts[0]; i++) {
+        buffer image = lend_const(m->image, m->image_len);
+        buffer run = lend((const uint8_t *)numbers, 4 * counts[i]);
+        uint32_t number = bulgefs_load_table(image.at, image.len, (uint32_t *)(void *)run.at,
+                                             counts[i]);
+        expect(number <= 7 || number == BULGEFS_BAD_TABLE_SIZE, "load: number");
+        expect(unchanged(&image), "load: the image stays");
+        expect(number == 0 || unchanged(&run), "load: refused without a change");
+        give_back(&image);
+        image = lend(m->image, m->image_len);
+        uint32_t stored = bulgefs_store_table(image.at, image.len, (uint32_t *)(void *)run.at,
+                                              counts[i]);
+        expect(stored == number, "store: the load's number");
+        expect(unchanged(&image), "load and store: the image stays");
+        give_back(&image);
+        give_back(&run);
+    }
 }
 
 static void call_all(const material *m)
@@ -249,6 +274,7 @@ static void call_all(const material *m)
         call_looks(m);
         call_changes(m);
         call_makers(m);
+        call_table(m);
     }
 }
 
@@ -445,10 +471,10 @@ static void full_name(void)
 /* The largest image and the longest journal. */
 static void largest(void)
 {
-    size_t image_len = 4096 * 512, journal_len = 4194304;
+    size_t image_len = BULGEFS_MAX_BLOCKS * 512, journal_len = BULGEFS_MAX_JOURNAL;
     uint8_t *image = must_have(calloc(image_len + 1, 1));
     uint8_t *journal = must_have(calloc(journal_len + 1, 1));
-    fill_volume(image, 4096, journal, journal_len);
+    fill_volume(image, BULGEFS_MAX_BLOCKS, journal, journal_len);
     for (size_t more = 0; more < 2; more++) {
         material m = {image, journal, (const uint8_t *)"f5", image, image_len + more,
                       journal_len, 2, 4096, 1000};

@@ -1,10 +1,11 @@
-// The C entry points: numbers and byte buffers only. Each call says, field by field, what the call below it says; include/bulgefs.h documents them
+// The C entry points: numbers, byte buffers and runs of 32-bit numbers only. Each call says, field by field, what the call below it says; include/bulgefs.h documents them
 // for C. Nothing is asked of the caller but buffers that do not overlap.
 ghost use mathlib.Core.Path.{_≡_};
 ghost use Rattle.layout.specs.Check.{check};
 ghost use Rattle.layout.specs.Looks.{LookupAnswer, ReadAnswer, Extent, lookup, read, extentOf};
 ghost use Rattle.volume.specs.Change.{Change as ChangeAsked, create, write, delete, slotGiven};
 ghost use Rattle.volume.specs.Format.{formatRefusal, formatted};
+ghost use Rattle.chain_table.specs.Transfer.{loadTable, storeTable};
 ghost use Rattle.journal.specs.Journal.{startRefusal, afterStart};
 ghost use Rattle.journal.specs.Answers.{changedAnswer};
 ghost use Rattle.journal.specs.Run.{State, state, changed, undone, changeAnswer, afterChange, undoAnswer, afterUndo};
@@ -228,4 +229,20 @@ pub extern "C" fn bulgefs_undo(image: &mut [u8], journal: &mut [u8]) -> Changed
             size: 0,
         },
     }
+}
+
+#[no_mangle]
+pub extern "C" fn bulgefs_load_table(image: &[u8], entries: &mut [u32]) -> u32
+    ensures number { λ r. ⌜ r ≡ loadTable (now (image .entry)) (now (entries .entry)) .number ⌝ }
+    ensures entries { λ _. ⌜ now (entries .exit) ≡ loadTable (now (image .entry)) (now (entries .entry)) .numbers ⌝ }
+{
+    chain_table::transfer::load_table(image, entries)
+}
+
+#[no_mangle]
+pub extern "C" fn bulgefs_store_table(image: &mut [u8], entries: &[u32]) -> u32
+    ensures number { λ r. ⌜ r ≡ storeTable (now (image .entry)) (now (entries .entry)) .number ⌝ }
+    ensures image { λ _. ⌜ now (image .exit) ≡ storeTable (now (image .entry)) (now (entries .entry)) .image ⌝ }
+{
+    chain_table::transfer::store_table(image, entries)
 }

@@ -1,22 +1,64 @@
 // Recording a change before it is made: its named blocks are marked, and their bytes saved.
 ghost use mathlib.Core.Path.{_≡_};
+ghost use Prim.Native.Nat.{_≤_};
+ghost use lib.ListN.{length};
+ghost use Rattle.layout.specs.Limits.{smallBlocks};
+ghost use Rattle.layout.specs.Bytes.{zeros};
+ghost use Rattle.layout.specs.Geometry.{blockCount};
 ghost use Rattle.volume.specs.Change.{refusal};
 ghost use Rattle.volume.specs.Asked.{asked};
 ghost use Rattle.journal.specs.Run.{recordOf, state};
 ghost use Rattle.journal.specs.Walks.Changes.{Ready, Recorded};
 use super::recording::record_marked;
+use layout::limits::SMALL_BLOCKS;
+use volume::change::Change;
+
+// Records an accepted change, with marks for all blocks, none marked; gives the length of its record, or 0 if the journal has no room for it.
+fn record_with(
+    image: &[u8],
+    journal: &mut [u8],
+    what: Change,
+    name: &[u8],
+    bytes: &[u8],
+    marks: &mut [u8],
+) -> u32
+    requires { ⌜ (Ready (now image) (now journal)) × (refusal (now image) (asked what (now name) (now bytes)) ≡ 0) × (blockCount (now image) ≤ length (now marks)) × (now marks ≡ zeros (length (now marks))) ⌝ }
+    ensures { λ r. ⌜ Recorded (now (journal .entry)) (recordOf (state (now (image .entry)) (now (journal .entry))) (asked what (now (name .entry)) (now (bytes .entry)))) r (now (journal .exit)) ⌝ }
+{
+    volume::change::mark_named(image, what, name, bytes, marks);
+    record_marked(image, journal, marks)
+}
+
+// The same of a small volume.
+fn record_small(image: &[u8], journal: &mut [u8], what: Change, name: &[u8], bytes: &[u8]) -> u32
+    requires { ⌜ (Ready (now image) (now journal)) × (refusal (now image) (asked what (now name) (now bytes)) ≡ 0) × (blockCount (now image) ≤ smallBlocks) ⌝ }
+    ensures { λ r. ⌜ Recorded (now (journal .entry)) (recordOf (state (now (image .entry)) (now (journal .entry))) (asked what (now (name .entry)) (now (bytes .entry)))) r (now (journal .exit)) ⌝ }
+{
+    let mut marks = layout::table::few_marks();
+    record_with(image, journal, what, name, bytes, &mut marks)
+}
+
+// The same of any volume.
+fn record_large(image: &[u8], journal: &mut [u8], what: Change, name: &[u8], bytes: &[u8]) -> u32
+    requires { ⌜ (Ready (now image) (now journal)) × (refusal (now image) (asked what (now name) (now bytes)) ≡ 0) ⌝ }
+    ensures { λ r. ⌜ Recorded (now (journal .entry)) (recordOf (state (now (image .entry)) (now (journal .entry))) (asked what (now (name .entry)) (now (bytes .entry)))) r (now (journal .exit)) ⌝ }
+{
+    let mut marks = layout::table::no_marks();
+    record_with(image, journal, what, name, bytes, &mut marks)
+}
 
 pub fn record_change(
     image: &[u8],
     journal: &mut [u8],
-    what: volume::change::Change,
+    what: Change,
     name: &[u8],
     bytes: &[u8],
 ) -> u32
     requires { ⌜ (Ready (now image) (now journal)) × (refusal (now image) (asked what (now name) (now bytes)) ≡ 0) ⌝ }
     ensures { λ r. ⌜ Recorded (now (journal .entry)) (recordOf (state (now (image .entry)) (now (journal .entry))) (asked what (now (name .entry)) (now (bytes .entry)))) r (now (journal .exit)) ⌝ }
 {
-    let mut marks = layout::table::no_marks();
-    volume::change::mark_named(image, what, name, bytes, &mut marks);
-    record_marked(image, journal, &marks)
+    if image.len() / 512 <= SMALL_BLOCKS {
+        return record_small(image, journal, what, name, bytes);
+    }
+    record_large(image, journal, what, name, bytes)
 }

@@ -6,13 +6,14 @@ ghost use lib.ListN.{length};
 ghost use Rattle.layout.specs.Limits.{maxBlocks, maxJournal};
 ghost use Rattle.layout.specs.Lists.{joined};
 ghost use Rattle.layout.specs.Bytes.{bytes4, block, splice};
+ghost use Rattle.layout.specs.Geometry.{blockCount};
 ghost use Rattle.journal.specs.Journal.{used, recordBytes, added};
 ghost use Rattle.journal.specs.Walks.Saves.{Marks, markedFrom};
 ghost use Rattle.journal.specs.Walks.Changes.{Ready, Recorded, recordMarked};
 
 // The length of the record of the marked blocks below n.
 fn record_size(marks: &[u8], n: usize) -> usize
-    requires { ⌜ (length (now marks) ≡ maxBlocks) × (n ≤ maxBlocks) ⌝ }
+    requires { ⌜ (n ≤ length (now marks)) × (n ≤ maxBlocks) ⌝ }
     ensures { λ r. ⌜ r ≡ 4 + 516 * length (markedFrom (now (marks .entry)) 0 n) ⌝ }
 {
     let mut size: usize = 4;
@@ -69,7 +70,7 @@ fn add_record(image: &[u8], journal: &mut [u8], marks: &[u8], n: usize, size: us
 
 // Adds the record of the marked blocks; gives its length, or 0 if the journal has no room for it.
 pub fn record_marked(image: &[u8], journal: &mut [u8], marks: &[u8]) -> u32
-    requires { ⌜ (Ready (now image) (now journal)) × (length (now marks) ≡ maxBlocks) ⌝ }
+    requires { ⌜ (Ready (now image) (now journal)) × (blockCount (now image) ≤ length (now marks)) ⌝ }
     ensures { λ r. ⌜ Recorded (now (journal .entry)) (recordMarked (now (image .entry)) (now (marks .entry))) r (now (journal .exit)) ⌝ }
 {
     let n = image.len() / 512;

@@ -7,6 +7,7 @@ pub mod Names
 pub mod Chains
 pub mod Tables
 pub mod Counts
+pub mod Values
 pub mod Sound
 pub mod Entries
 pub mod Files

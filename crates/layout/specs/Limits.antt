@@ -1,12 +1,16 @@
--- The limits of document 01, each named once.
+-- The limits of document 01, each named once, as document 02 amends them.
 use Prim.Native.Nat.{ℕ, _*_}
 
--- "An image is 512·n bytes, 3 ≤ n ≤ 4,096."
+-- "An image is 512·n bytes, 3 ≤ n"; 02, L8: "Raise n to 65,536"
 abbrev pub minBlocks : ℕ
 minBlocks = 3
 
 abbrev pub maxBlocks : ℕ
-maxBlocks = 4096
+maxBlocks = 65536
+
+-- a volume of at most this many blocks is checked and changed with marks of its own size (no limit of the papers)
+abbrev pub smallBlocks : ℕ
+smallBlocks = 4096
 
 -- "size_blocks d with 1 ≤ d ≤ 64"
 abbrev pub maxDirectory : ℕ
@@ -24,12 +28,12 @@ maxName = 80
 abbrev pub maxData : ℕ
 maxData = 4096
 
--- "It is 5 to 4,194,304 bytes": the journal
+-- the journal: "It is 5 to" (02, L8) "67,108,864 bytes"
 abbrev pub minJournal : ℕ
 minJournal = 5
 
 abbrev pub maxJournal : ℕ
-maxJournal = 4194304
+maxJournal = 67108864
 
 -- "The lister reads up to 65,536 bytes from standard input"
 abbrev pub maxListed : ℕ

@@ -2,13 +2,16 @@
 ghost use Prim.Native.Nat.{_+_, _-_, _*_, _/_, _≤_, _<_};
 ghost use mathlib.Core.Path.{_≡_};
 ghost use lib.ListN.{length};
-ghost use Rattle.layout.specs.Limits.{maxBlocks};
+ghost use Rattle.layout.specs.Limits.{maxBlocks, smallBlocks};
+ghost use Rattle.layout.specs.Bytes.{zeros};
+ghost use Rattle.layout.specs.Geometry.{tableBlocks};
 ghost use Rattle.layout.specs.Table.{next, chain};
 ghost use Rattle.layout.specs.Check.{check, stage1, stage2, stage7};
 ghost use Rattle.layout.specs.Walks.Shapes.{Shape, Room, DirectoryAt};
 ghost use Rattle.layout.specs.Walks.Stages.{headerOk, countsOk, followTable, headStage, filesStage, bodyStage, RootMarked};
 use super::limits::MAX_BLOCKS;
 use super::limits::MIN_BLOCKS;
+use super::limits::SMALL_BLOCKS;
 use super::number::get32;
 
 // Stage 1: the length.
@@ -123,19 +126,36 @@ fn files(image: &[u8], n: usize, d: usize, marks: &mut [u8]) -> u32
     0
 }
 
-// Stages 4 to 7.
-fn body(image: &[u8], n: usize) -> u32
-    requires { ⌜ Shape (now image) n ⌝ }
+// Stages 4 to 7, with marks for all entries of the table, none marked.
+fn body(image: &[u8], n: usize, marks: &mut [u8]) -> u32
+    requires { ⌜ (Shape (now image) n) × (128 * tableBlocks n ≤ length (now marks)) × (now marks ≡ zeros (length (now marks))) ⌝ }
     ensures { λ r. ⌜ r ≡ bodyStage (now (image .entry)) ⌝ }
 {
     let t = super::geometry::table_blocks(n);
     let root = t + 1;
-    let mut marks = super::table::no_marks();
-    if !super::directory::directory_ok(image, t, n, root, root, &mut marks) {
+    if !super::directory::directory_ok(image, t, n, root, root, marks) {
         return 4;
     }
     let d = super::directory::number_at(image, root, 0, 12);
-    files(image, n, d, &mut marks)
+    files(image, n, d, marks)
+}
+
+// The same of a small volume.
+fn small_body(image: &[u8], n: usize) -> u32
+    requires { ⌜ (Shape (now image) n) × (n ≤ smallBlocks) ⌝ }
+    ensures { λ r. ⌜ r ≡ bodyStage (now (image .entry)) ⌝ }
+{
+    let mut marks = super::table::few_marks();
+    body(image, n, &mut marks)
+}
+
+// The same of any volume.
+fn large_body(image: &[u8], n: usize) -> u32
+    requires { ⌜ Shape (now image) n ⌝ }
+    ensures { λ r. ⌜ r ≡ bodyStage (now (image .entry)) ⌝ }
+{
+    let mut marks = super::table::no_marks();
+    body(image, n, &mut marks)
 }
 
 // The check: 0, or the number of the first stage that is not met.
@@ -147,5 +167,8 @@ pub fn check(image: &[u8]) -> u32
         return h;
     }
     let n = image.len() / 512;
-    body(image, n)
+    if n <= SMALL_BLOCKS {
+        return small_body(image, n);
+    }
+    large_body(image, n)
 }

@@ -1,9 +1,12 @@
 // The limits, each named once, of the crates above too. The definitions have them in specs/Limits.antt.
 
-// An image has 3 to 4,096 blocks.
+// An image has 3 to 65,536 blocks.
 pub const MIN_BLOCKS: usize = 3;
 
-pub const MAX_BLOCKS: usize = 4096;
+pub const MAX_BLOCKS: usize = 65536;
+
+// A volume of at most so many blocks has marks of that size: clearing more would cost it more than all else.
+pub const SMALL_BLOCKS: usize = 4096;
 
 // A directory has 1 to 64 blocks.
 pub const MAX_DIRECTORY: u32 = 64;
@@ -19,7 +22,7 @@ pub const NAME_FIELD: usize = 80;
 // One write takes at most 4,096 bytes of data.
 pub const MAX_DATA: usize = 4096;
 
-// A journal has 5 to 4,194,304 bytes.
+// A journal has 5 to 67,108,864 bytes.
 pub const MIN_JOURNAL: usize = 5;
 
-pub const MAX_JOURNAL: usize = 4194304;
+pub const MAX_JOURNAL: usize = 67108864;

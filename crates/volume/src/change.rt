@@ -1,8 +1,9 @@
 // A change as one value, for the journal above: its refusal, its named blocks as marks and the change itself, on an image that the caller has
 // checked. The name and the data stand beside it.
 ghost use mathlib.Core.Path.{_≡_};
+ghost use Prim.Native.Nat.{_≤_};
 ghost use lib.ListN.{length};
-ghost use Rattle.layout.specs.Limits.{maxBlocks};
+ghost use Rattle.layout.specs.Geometry.{blockCount};
 ghost use Rattle.layout.specs.Check.{check};
 ghost use Rattle.volume.specs.Change.{refusal, after, named, slotGiven};
 ghost use Rattle.volume.specs.Asked.{asked};
@@ -44,7 +45,7 @@ pub fn refusal(image: &[u8], what: Change, name: &[u8], bytes: &[u8]) -> u32
 
 // Marks the blocks that an accepted change names.
 pub fn mark_named(image: &[u8], what: Change, name: &[u8], bytes: &[u8], marks: &mut [u8])
-    requires { ⌜ (check (now image) ≡ 0) × (refusal (now image) (asked what (now name) (now bytes)) ≡ 0) × (length (now marks) ≡ maxBlocks) ⌝ }
+    requires { ⌜ (check (now image) ≡ 0) × (refusal (now image) (asked what (now name) (now bytes)) ≡ 0) × (blockCount (now image) ≤ length (now marks)) ⌝ }
     ensures { λ _. ⌜ now (marks .exit) ≡ marked (now (marks .entry)) (named (now (image .entry)) (asked what (now (name .entry)) (now (bytes .entry)))) ⌝ }
 {
     match what {

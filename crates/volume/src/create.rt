@@ -1,7 +1,8 @@
 // Create, on an image that the caller has checked.
 ghost use mathlib.Core.Path.{_≡_};
+ghost use Prim.Native.Nat.{_≤_};
 ghost use lib.ListN.{length};
-ghost use Rattle.layout.specs.Limits.{maxBlocks};
+ghost use Rattle.layout.specs.Geometry.{blockCount};
 ghost use Rattle.layout.specs.Directory.{freeSlot, root};
 ghost use Rattle.layout.specs.Check.{check};
 ghost use Rattle.volume.specs.Create.{createRefusal, createSlot, createImage, createNamed};
@@ -32,7 +33,7 @@ pub fn create_refusal(image: &[u8], name: &[u8], kind: u8) -> u32
 
 // Marks the block that create changes.
 pub fn create_named(image: &[u8], marks: &mut [u8])
-    requires { ⌜ (check (now image) ≡ 0) × (freeSlot (now image) (root (now image)) ≡ 0 → ⊥) × (length (now marks) ≡ maxBlocks) ⌝ }
+    requires { ⌜ (check (now image) ≡ 0) × (freeSlot (now image) (root (now image)) ≡ 0 → ⊥) × (blockCount (now image) ≤ length (now marks)) ⌝ }
     ensures { λ _. ⌜ now (marks .exit) ≡ marked (now (marks .entry)) (createNamed (now (image .entry))) ⌝ }
 {
     let f = layout::root::free_slot(image);

@@ -1,7 +1,8 @@
 // Delete, on an image that the caller has checked.
 ghost use mathlib.Core.Path.{_≡_};
+ghost use Prim.Native.Nat.{_≤_};
 ghost use lib.ListN.{length};
-ghost use Rattle.layout.specs.Limits.{maxBlocks};
+ghost use Rattle.layout.specs.Geometry.{blockCount};
 ghost use Rattle.layout.specs.Check.{check};
 ghost use Rattle.layout.specs.Looks.{nameRefusal, entryOf};
 ghost use Rattle.volume.specs.Delete.{deleteAt, deleteNamed};
@@ -18,7 +19,7 @@ pub fn delete_refusal(image: &[u8], name: &[u8]) -> u32
 
 // Marks the blocks that an accepted delete names.
 pub fn delete_named(image: &[u8], name: &[u8], marks: &mut [u8])
-    requires { ⌜ (check (now image) ≡ 0) × (nameRefusal (now image) (now name) ≡ 0) × (length (now marks) ≡ maxBlocks) ⌝ }
+    requires { ⌜ (check (now image) ≡ 0) × (nameRefusal (now image) (now name) ≡ 0) × (blockCount (now image) ≤ length (now marks)) ⌝ }
     ensures { λ _. ⌜ now (marks .exit) ≡ marked (now (marks .entry)) (deleteNamed (now (image .entry)) (entryOf (now (image .entry)) (now (name .entry)))) ⌝ }
 {
     let f = super::file::locate(image, name);

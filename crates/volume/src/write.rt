@@ -3,9 +3,9 @@ ghost use mathlib.Core.Path.{_≡_};
 ghost use mathlib.Core.List.{_++_};
 ghost use Prim.Native.Nat.{_+_, _-_, _*_, _≤_, _<_, max};
 ghost use lib.ListN.{length, getD, take};
-ghost use Rattle.layout.specs.Limits.{maxBlocks, maxData};
+ghost use Rattle.layout.specs.Limits.{maxData};
 ghost use Rattle.layout.specs.Lists.{lastOr};
-ghost use Rattle.layout.specs.Geometry.{tableBlocks, blocksFor};
+ghost use Rattle.layout.specs.Geometry.{tableBlocks, blockCount, blocksFor};
 ghost use Rattle.layout.specs.Table.{next, chain, freeBlocks};
 ghost use Rattle.layout.specs.Check.{check};
 ghost use Rattle.layout.specs.Looks.{entryOf};
@@ -138,7 +138,7 @@ fn mark_written(
     count: usize,
     marks: &mut [u8],
 )
-    requires { ⌜ (ChainBelow (now image) n first k) × (count ≤ maxData) × (length (now marks) ≡ maxBlocks) ⌝ }
+    requires { ⌜ (ChainBelow (now image) n first k) × (count ≤ maxData) × (n ≤ length (now marks)) ⌝ }
     ensures { λ _. ⌜ now (marks .exit) ≡ marked (now (marks .entry)) (written (chain (next (now (image .entry))) first k) offset count) ⌝ }
 {
     if count == 0 {
@@ -157,7 +157,7 @@ fn mark_written(
 
 // Marks the blocks that an accepted write names. Every block that is taken holds a written byte.
 pub fn write_named(image: &[u8], name: &[u8], offset: usize, count: usize, marks: &mut [u8])
-    requires { ⌜ (check (now image) ≡ 0) × (writeRefusal (now image) (now name) offset count ≡ 0) × (length (now marks) ≡ maxBlocks) ⌝ }
+    requires { ⌜ (check (now image) ≡ 0) × (writeRefusal (now image) (now name) offset count ≡ 0) × (blockCount (now image) ≤ length (now marks)) ⌝ }
     ensures { λ _. ⌜ now (marks .exit) ≡ marked (now (marks .entry)) (writeNamed (now (image .entry)) (entryOf (now (image .entry)) (now (name .entry))) offset count) ⌝ }
 {
     let f = super::file::locate(image, name);

@@ -74,7 +74,7 @@ fn free_slot(image: &[u8]) -> Option<usize> {
 fn outside(rng: &mut Rng, image: &[u8]) -> u32 {
     let (n, t) = n_t(image);
     let any = rng.next() as u32 | 0x8000_0000;
-    rng.pick(&[n as u32, n as u32 + 1, t as u32, 1.max(t as u32 / 2), 4096, any, u32::MAX]).max(1)
+    rng.pick(&[n as u32, n as u32 + 1, t as u32, 1.max(t as u32 / 2), 4096.max(n as u32), 65536, any, u32::MAX]).max(1)
 }
 
 /// A value that is not 1 although one of its bytes may be.
@@ -123,7 +123,12 @@ const LENGTH: &[Clause] = &[
     Clause { stage: 1, what: "a byte less", make: |_, i| { i.pop(); Some(()) } },
     Clause { stage: 1, what: "a byte more", make: |r, i| { i.push(r.byte()); Some(()) } },
     Clause { stage: 1, what: "half a block more", make: |_, i| { i.resize(i.len() + 256, 0); Some(()) } },
-    Clause { stage: 1, what: "4,097 blocks", make: |_, i| { i.resize(4097 * 512, 0); Some(()) } },
+    // A large image: a caller that does not insist mostly does without it.
+    Clause { stage: 1, what: "65,537 blocks", make: |r, i| {
+        if !r.once_in(8) { return None; }
+        i.resize((MAX_BLOCKS + 1) * 512, 0);
+        Some(())
+    } },
 ];
 
 #[rustfmt::skip]
@@ -378,7 +383,7 @@ const CHAINS: &[Clause] = &[
     } },
     Clause { stage: 6, what: "huge size", make: |r, i| {
         let f = file_with_blocks(r, i)?;
-        resize(i, &f, r.pick(&[u32::MAX, u32::MAX - 511, 0x8000_0000, 4096 * 512, 4097 * 512]));
+        resize(i, &f, r.pick(&[u32::MAX, u32::MAX - 511, 0x8000_0000, 4096 * 512, 65536 * 512, 65537 * 512]));
         Some(())
     } },
     Clause { stage: 6, what: "size in blocks right in its low bits", make: |r, i| {
@@ -391,7 +396,7 @@ const CHAINS: &[Clause] = &[
         let f = file_with_blocks(r, i)?;
         let last = last_of(i, &f);
         set_entry(i, last, f.first);
-        resize(i, &f, r.pick(&[u32::MAX, 4096 * 512]));
+        resize(i, &f, r.pick(&[u32::MAX, 4096 * 512, 65536 * 512]));
         Some(())
     } },
     Clause { stage: 6, what: "two files on one chain", make: |r, i| {

@@ -84,4 +84,10 @@ extern "C" {
 
     pub fn bulgefs_undo(image: *mut u8, image_len: usize,
                         journal: *mut u8, journal_len: usize) -> Changed;
+
+    pub fn bulgefs_load_table(image: *const u8, image_len: usize,
+                              entries: *mut u32, entry_count: usize) -> u32;
+
+    pub fn bulgefs_store_table(image: *mut u8, image_len: usize,
+                               entries: *const u32, entry_count: usize) -> u32;
 }

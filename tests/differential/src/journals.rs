@@ -1,7 +1,7 @@
 //! Journals of every kind, and every way of not being well formed.
 
 use crate::rng::Rng;
-use reference::journal::{HEAD, MAX_LENGTH, SAVED, VERSION};
+use reference::journal::{HEAD, SAVED, VERSION};
 use reference::layout::{block_count, put_number, BLOCK};
 
 /// One record; the saved bytes are the image's, or random.
@@ -113,15 +113,6 @@ pub const FAULTS: &[Fault] = &[
     Fault {
         what: "length 1 to 4",
         make: |rng, _| vec![VERSION, 0, 0, 5][..rng.between(1, 4)].to_vec(),
-    },
-    Fault {
-        what: "length 4,194,305",
-        make: |_, _| {
-            let mut journal = vec![0; MAX_LENGTH + 1];
-            journal[0] = VERSION;
-            journal[4] = HEAD as u8;
-            journal
-        },
     },
     Fault {
         what: "version",
@@ -284,7 +275,7 @@ pub const FAULTS: &[Fault] = &[
         what: "number above n",
         make: |rng, image| {
             let n = block_count(image) as u32;
-            let number = rng.pick(&[n + 1, 4096, 0x0001_0000, 0x0100_0000, 0x8000_0000, u32::MAX]);
+            let number = rng.pick(&[n + 1, 4096.max(n), 0x0001_0000, 0x0100_0000, 0x8000_0000, u32::MAX]);
             let bad = record_of(rng, &[number.max(n)]);
             ending_in(rng, image, bad)
         },

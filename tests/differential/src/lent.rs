@@ -32,6 +32,14 @@ impl Lent {
         Lent { bytes, at, len: content.len() }
     }
 
+    /// A guarded copy of numbers, as this machine holds them, aligned for them.
+    pub fn numbers(numbers: &[u32]) -> Lent {
+        let bytes: Vec<u8> = numbers.iter().flat_map(|x| x.to_ne_bytes()).collect();
+        let lent = (0..4).map(|shift| Lent::new(&bytes, shift));
+        let aligned = lent.into_iter().find(|l| l.bytes[l.at..].as_ptr() as usize % 4 == 0);
+        aligned.expect("one of four places is aligned")
+    }
+
     /// Puts other content of the same length at the same place.
     pub fn put(&mut self, content: &[u8]) {
         self.bytes[self.at..self.at + self.len].copy_from_slice(content);

@@ -30,6 +30,17 @@ pub fn start(journal: &mut Lent) -> u32 {
     unsafe { ffi::bulgefs_journal_start(journal.mut_ptr(), journal.len()) }
 }
 
+/// The numbers are lent as their bytes, at a place that is aligned for them.
+pub fn load_table(image: &Lent, numbers: &mut Lent) -> u32 {
+    let (entries, count) = (numbers.mut_ptr().cast(), numbers.len() / 4);
+    unsafe { ffi::bulgefs_load_table(image.ptr(), image.len(), entries, count) }
+}
+
+pub fn store_table(image: &mut Lent, numbers: &Lent) -> u32 {
+    let (entries, count) = (numbers.ptr().cast(), numbers.len() / 4);
+    unsafe { ffi::bulgefs_store_table(image.mut_ptr(), image.len(), entries, count) }
+}
+
 /// An image and a journal that are lent together.
 pub struct Pair {
     pub image: Lent,

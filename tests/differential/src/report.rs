@@ -12,11 +12,13 @@ pub enum Entry {
     Write,
     Delete,
     Undo,
+    LoadTable,
+    StoreTable,
 }
 
 /// Every entry point, and the numbers that it can answer. Look in place has
 /// no number; its row counts what look up would have answered.
-const ENTRIES: [(Entry, &str, &[u32]); 10] = [
+const ENTRIES: [(Entry, &str, &[u32]); 12] = [
     (Entry::Check, "check", &[0, 1, 2, 3, 4, 5, 6, 7]),
     (Entry::Format, "format", &[0, 1, 9, 14]),
     (Entry::Lookup, "lookup", &[0, 1, 2, 3, 4, 5, 6, 7, 9, 10]),
@@ -27,9 +29,11 @@ const ENTRIES: [(Entry, &str, &[u32]); 10] = [
     (Entry::Write, "write", &[0, 1, 2, 3, 4, 5, 6, 7, 8, 9, 10, 12, 14, 15]),
     (Entry::Delete, "delete", &[0, 1, 2, 3, 4, 5, 6, 7, 8, 9, 10, 15]),
     (Entry::Undo, "undo", &[0, 1, 2, 3, 4, 5, 6, 7, 8, 16]),
+    (Entry::LoadTable, "load_table", &[0, 1, 2, 3, 4, 5, 6, 7, 21]),
+    (Entry::StoreTable, "store_table", &[0, 1, 2, 3, 4, 5, 6, 7, 21]),
 ];
 
-const NUMBERS: usize = 17;
+const NUMBERS: usize = 22;
 const SHOWN_FAILURES: u64 = 20;
 
 pub struct Report {

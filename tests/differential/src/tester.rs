@@ -120,6 +120,36 @@ impl Tester {
         self.report.call(Entry::Start, number, troubles);
     }
 
+    pub fn load_table(&mut self, image: &[u8], numbers: &[u32]) {
+        let (lent, mut lent_numbers) = (self.lend(image), Lent::numbers(numbers));
+        let got = library::load_table(&lent, &mut lent_numbers);
+        let result = reference::load_table(image, numbers.len());
+        let number = number_of(&result);
+        let after = result.unwrap_or_else(|_| numbers.to_vec());
+        let troubles = [
+            unequal(got, number),
+            lent.trouble("image", image),
+            lent_numbers.trouble("numbers", Lent::numbers(&after).content()),
+        ];
+        self.report.call(Entry::LoadTable, number, troubles);
+    }
+
+    /// Gives the image after the store.
+    pub fn store_table(&mut self, image: &[u8], numbers: &[u32]) -> Vec<u8> {
+        let (mut lent, lent_numbers) = (self.lend(image), Lent::numbers(numbers));
+        let got = library::store_table(&mut lent, &lent_numbers);
+        let result = reference::store_table(image, numbers);
+        let number = number_of(&result);
+        let after = result.unwrap_or_else(|_| image.to_vec());
+        let troubles = [
+            unequal(got, number),
+            lent.trouble("image", &after),
+            lent_numbers.trouble("numbers", Lent::numbers(numbers).content()),
+        ];
+        self.report.call(Entry::StoreTable, number, troubles);
+        lent.content().to_vec()
+    }
+
     /// Create, write or delete. Gives the reference's number.
     pub fn change(&mut self, state: &State, change: &Change) -> u32 {
         let mut pair = self.lend_pair(state);

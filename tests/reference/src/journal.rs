@@ -8,7 +8,7 @@ use std::collections::BTreeSet;
 use std::ops::Range;
 
 pub const MIN_LENGTH: usize = 5;
-pub const MAX_LENGTH: usize = 4_194_304;
+pub const MAX_LENGTH: usize = 67_108_864;
 /// Version byte and used length.
 pub const HEAD: usize = 5;
 pub const VERSION: u8 = 1;

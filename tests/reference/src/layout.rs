@@ -2,7 +2,7 @@
 
 pub const BLOCK: usize = 512;
 pub const MIN_BLOCKS: usize = 3;
-pub const MAX_BLOCKS: usize = 4096;
+pub const MAX_BLOCKS: usize = 65536;
 pub const MAX_ROOT_BLOCKS: usize = 64;
 pub const ENTRIES_PER_TABLE_BLOCK: usize = 128;
 pub const SLOTS_PER_BLOCK: usize = 4;

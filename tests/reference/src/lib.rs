@@ -10,6 +10,7 @@ pub mod journal;
 pub mod layout;
 pub mod listing;
 pub mod replay;
+pub mod table;
 pub mod volume;
 pub mod worked;
 
@@ -17,7 +18,8 @@ pub use check::check;
 pub use journal::{apply, start, undo, Applied, State, Undone};
 pub use listing::list;
 pub use replay::{Answer, Call, Replay};
+pub use table::{load_table, store_table};
 pub use volume::{format, look_in_place, lookup, read, Change, Create, Delete, Found, Write};
 
-/// A refusal number, 1 to 16.
+/// A refusal number, 1 to 16 or 21.
 pub type Refusal = u32;

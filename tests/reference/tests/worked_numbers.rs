@@ -36,7 +36,7 @@ fn two_blocks_are_too_few() {
 
 #[test]
 fn table_sizes() {
-    assert_eq!([128, 129, 4096].map(table_blocks), [1, 2, 32]);
+    assert_eq!([128, 129, 4096, 65536].map(table_blocks), [1, 2, 32, 512]);
 }
 
 #[test]

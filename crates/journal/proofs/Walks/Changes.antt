@@ -1,6 +1,6 @@
 -- The journaled calls, step by step over any change: the refusals in their order, the record, and the change.
 use Prim.Native.Nat.{ℕ, zero, suc, _+_, _*_, _≤_, _<_}
-use mathlib.Core.Path.{_≡_, refl, sym, subst, _∙_}
+use mathlib.Core.Path.{_≡_, refl, sym, ap, subst, _∙_}
 use mathlib.Core.Bool.{Bool, true, false}
 use mathlib.Core.List.{List}
 use native.Mathlib.Nat.{suc-ne-zero, sub-zero}
@@ -108,7 +108,7 @@ module _ (c : Change) (s j : List ℕ) where
           go (suc k) e = absurd (h (room (suc k) e .0))
 
 -- the marked blocks, recorded
-pub marks-ready : (s j m : List ℕ) → Ready s j → length m ≡ 4096 → Marks s m (blockCount s)
+pub marks-ready : (s j m : List ℕ) → Ready s j → blockCount s ≤ length m → Marks s m (blockCount s)
 marks-ready s j m w k = let z = sound s (w .sound) in record { whole = z .whole; blocks = z .most; marks = k }
 
 module _ (s j m : List ℕ) (w : Ready s j) where
@@ -131,10 +131,10 @@ module _ (s j m : List ℕ) (w : Ready s j) where
       record { length-given = rw (long size e, f); journal-after = rw (long size e, f) is }
 
 -- recording the blocks that were marked as named is recording the change
-pub recorded-named : (s j m none : List ℕ) (c : Change) → Ready s j → none ≡ zeros 4096 → m ≡ marked none (named s c)
+pub recorded-named : (s j m none : List ℕ) (c : Change) → Ready s j → none ≡ zeros (length none) → blockCount s ≤ length none → m ≡ marked none (named s c)
     → (size : ℕ) (new : List ℕ) → Recorded j (recordMarked s m) size new → Recorded j (recordOf (state s j) c) size new
 unfolding recordOf
-recorded-named s j m none c w z e size new r =
-    let marks : m ≡ marked (zeros 4096) (named s c) = e ∙ rw z in
-    let blocks : markedFrom m 0 (blockCount s) ≡ ascending (blockCount s) (named s c) = rw marks (marked-ascending (blockCount s) (named s c) (sound s (w .sound) .most)) in
+recorded-named s j m none c w z room e size new r =
+    let marks : m ≡ marked (zeros (length none)) (named s c) = e ∙ ap (λ (x : List ℕ). marked x (named s c)) z in
+    let blocks : markedFrom m 0 (blockCount s) ≡ ascending (blockCount s) (named s c) = rw marks (marked-ascending (blockCount s) (length none) (named s c) room) in
     subst (λ (bs : List ℕ). Recorded j (recordBytes s bs) size new) blocks r

@@ -37,11 +37,11 @@ pub marked-few : (m : List ℕ) (n : ℕ) → length (markedFrom m 0 n) ≤ n
 unfolding markedFrom
 marked-few m n = omega (arith, select-split (λ x. eqb (getD m x 0) 0) n 0)
 
-pub marked-ascending : (n : ℕ) (bs : List ℕ) → n ≤ 4096 → markedFrom (marked (zeros 4096) bs) 0 n ≡ ascending n bs
+pub marked-ascending : (n k : ℕ) (bs : List ℕ) → n ≤ k → markedFrom (marked (zeros k) bs) 0 n ≡ ascending n bs
 unfolding markedFrom ascending
-marked-ascending n bs h =
-    select-same (λ b. has eqb b bs) (λ b. not (eqb (getD (marked (zeros 4096) bs) b 0) 0)) n 0
-    (λ x a g. rw (marked-at bs (zeros 4096) x (rw length-zeros (omega arith)), getD-zeros 4096 x) (as-test (has eqb x bs)))
+marked-ascending n k bs h =
+    select-same (λ b. has eqb b bs) (λ b. not (eqb (getD (marked (zeros k) bs) b 0) 0)) n 0
+    (λ x a g. rw (marked-at bs (zeros k) x (rw length-zeros (omega arith)), getD-zeros k x) (as-test (has eqb x bs)))
   where
     as-test : (t : Bool) → not (eqb (cond t 1 0) 0) ≡ t
     as-test true = refl

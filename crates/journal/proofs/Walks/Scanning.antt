@@ -111,6 +111,6 @@ head-facts j t =
       eqb-true _ _ (b .0),
     )
 
-pub head-rest : (j : List ℕ) → 5 ≤ length j → length j ≤ 4194304 → getD j 0 0 ≡ 1 → 5 ≤ used j → headOk j ≡ leb (used j) (length j)
+pub head-rest : (j : List ℕ) → 5 ≤ length j → length j ≤ maxJournal → getD j 0 0 ≡ 1 → 5 ≤ used j → headOk j ≡ leb (used j) (length j)
 unfolding headOk
-head-rest j a b c d = rw (le-leb 5 (length j) a, le-leb (length j) 4194304 b, eq-eqb (getD j 0 0) 1 c, le-leb 5 (used j) d)
+head-rest j a b c d = rw (le-leb 5 (length j) a, le-leb (length j) maxJournal b, eq-eqb (getD j 0 0) 1 c, le-leb 5 (used j) d)

@@ -8,19 +8,20 @@ use borrow.Author.Tests.{le-leb, lt-leb}
 use lib.Dec.{leb}
 use lib.ListN.{length, set, replicate}
 use Rattle.layout.specs.Bytes.{bytes4, zeros, splice}
+use Rattle.layout.specs.Limits.{maxJournal}
 use Rattle.journal.specs.Journal.{started, startRefusal}
 
 pub start-short : (j : List ℕ) → length j < 5 → startRefusal j ≡ 8
 unfolding startRefusal
 start-short j h = rw (lt-leb 5 (length j) h)
 
-pub start-long : (j : List ℕ) → 4194304 < length j → startRefusal j ≡ 8
+pub start-long : (j : List ℕ) → maxJournal < length j → startRefusal j ≡ 8
 unfolding startRefusal
-start-long j h = rw (lt-leb (length j) 4194304 h, and-false (leb 5 (length j)))
+start-long j h = rw (lt-leb (length j) maxJournal h, and-false (leb 5 (length j)))
 
-pub start-fits : (j : List ℕ) → 5 ≤ length j → length j ≤ 4194304 → startRefusal j ≡ 0
+pub start-fits : (j : List ℕ) → 5 ≤ length j → length j ≤ maxJournal → startRefusal j ≡ 0
 unfolding startRefusal
-start-fits j h g = rw (le-leb 5 (length j) h, le-leb (length j) 4194304 g)
+start-fits j h g = rw (le-leb 5 (length j) h, le-leb (length j) maxJournal g)
 
 stored : (r : ℕ) → splice (set (replicate (suc (suc (suc (suc (suc r))))) 0) 0 1) 1 (bytes4 5) ≡ 1 ∷ (bytes4 5 ++ zeros r)
 unfolding splice bytes4 zeros

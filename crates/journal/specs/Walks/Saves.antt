@@ -16,4 +16,4 @@ markedFrom m a k = select (λ b. not (eqb (getD m b 0) 0)) (interval a k)
 pub record Marks (s m : List ℕ) (n : ℕ) : Type 0 where
   pub whole : length s ≡ 512 * n
   pub blocks : n ≤ maxBlocks
-  pub marks : length m ≡ maxBlocks
+  pub marks : n ≤ length m

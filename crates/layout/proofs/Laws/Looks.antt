@@ -10,6 +10,7 @@ use lib.Dec.{eqb}
 use lib.ListN.{length, getD, drop}
 use borrow.Author.Tests.{le-ltb, lt-ltb, eqb-false, not-true}
 use Rattle.layout.specs.Bytes.{part}
+use Rattle.layout.specs.Limits.{maxBlocks}
 use Rattle.layout.specs.Directory.{sizeOf, blocksOf, goodName, fileSlot, root, fileBlocks, content}
 use Rattle.layout.specs.Check.{check}
 use Rattle.layout.specs.Looks.{nameRefusal, entryOf, lookupRefusal, readRefusal, read, extentOf, lookInPlace, ReadAnswer}
@@ -111,10 +112,10 @@ module _ (s name : List ℕ) (i : ℕ) where
       rw (extent-found ok h)
       (content-part s (sound s (lookup-sound s name ok)) (entryOf s name) (lookup-file s name ok) i (min 512 (sizeOf s (entryOf s name) - 512 * i)) h (omega arith) (omega arith))
 
-  pub extent-small : extentOf s name i .start + extentOf s name i .size ≤ 2097152
+  pub extent-small : extentOf s name i .start + extentOf s name i .size ≤ 512 * maxBlocks
   extent-small = go (ℕ-discrete (lookupRefusal s name) 0)
     where
-      go : Dec (lookupRefusal s name ≡ 0) → extentOf s name i .start + extentOf s name i .size ≤ 2097152
+      go : Dec (lookupRefusal s name ≡ 0) → extentOf s name i .start + extentOf s name i .size ≤ 512 * maxBlocks
       go (yes e) = let S = sound s (lookup-sound s name e) in omega (arith, extent-inside, S .whole, S .most)
       go (no e) = rw (extent-refused e) (omega arith)
 

@@ -9,6 +9,7 @@ use lib.ListN.{length, getD, take, drop, length-drop, length-take}
 use borrow.Author.Tests.{eq-eqb, le-leb, lt-leb, ne-eqb}
 use Rattle.layout.specs.Refusals.{require}
 use Rattle.layout.specs.Bytes.{be32, part, splice}
+use Rattle.layout.specs.Limits.{maxBlocks}
 use Rattle.layout.specs.Geometry.{blockCount, blocksFor}
 use Rattle.layout.specs.Table.{next, chain, chainOk}
 use Rattle.layout.specs.Directory.{slotAt, firstBlock, sizeOf, blocksOf, goodName, fileSlot, root, fileBlocks, content}
@@ -116,7 +117,7 @@ module _ {s name : List ℕ} {number slot b first size blocks : ℕ} (o : Opens 
     pub opened-chain : ChainBelow s (blockCount s) first blocks
     opened-chain = located-below loc (lookup-name s name accepted) (lookup-sound s name accepted)
 
-    pub opened-small : (blocks ≤ 4096) × (size ≤ 2097152)
+    pub opened-small : (blocks ≤ maxBlocks) × (size ≤ 512 * maxBlocks)
     opened-small =
         let c = chainOk-split (next s) (blockCount s) first blocks (located-ok loc (lookup-name s name accepted) (lookup-sound s name accepted)) in
         let r = opened-chain .shape in

@@ -7,7 +7,7 @@ use native.Mathlib.Omega.{arith}
 use lib.Dec.{eqb, leb}
 use lib.ListN.{length, getD}
 use borrow.Author.Tests.{leb-true}
-use Rattle.layout.specs.Limits.{maxBlocks, maxDirectory}
+use Rattle.layout.specs.Limits.{maxDirectory}
 use Rattle.layout.specs.Lists.{within, interval, every, has, distinct, select, joined}
 use Rattle.layout.specs.Bytes.{be32, zeros}
 use Rattle.layout.specs.Geometry.{blockCount, tableBlocks, rootBlock}
@@ -17,6 +17,7 @@ use Rattle.layout.specs.Check.{directoryOk, stage4, entriesOk, stage5, f
 use Rattle.layout.specs.Walks.Chains.{Walk, walked, follow, followAll, allOnes, restFree}
 use Rattle.layout.specs.Walks.Entries.{selfOk}
 use Rattle.layout.specs.Walks.Shapes.{Shape, Room, DirectoryAt}
+use Rattle.layout.specs.Walks.Slots.{entryAt}
 use Rattle.layout.specs.Walks.Stages.{followFiles, followDirectory, followTable, RootMarked}
 use Rattle.layout.proofs.Laws.Bytes.{length-zeros}
 use Rattle.layout.proofs.Laws.Chains.{length-chain, chain-below}
@@ -108,16 +109,16 @@ followTable-tied s n b d m h some ok once g =
     go false e = rw e (none all (distinct eqb os) (ones && rest) (sym (tied .ok) ∙ e))
 
 -- the root directory, when no block was marked before
-module _ (s : List ℕ) (n : ℕ) (shape : Shape s n) where
+module _ (s : List ℕ) (n : ℕ) (shape : Shape s n) (size : ℕ) (room : n ≤ size) where
   abbrev m₀ : List ℕ
-  m₀ = zeros maxBlocks
+  m₀ = zeros size
 
   fresh : Marked m₀ []
   unfolding zeros
-  fresh = marked-none maxBlocks
+  fresh = marked-none size
 
   tied : (b d : ℕ) → Tied (follow (next s) n d b m₀) (chainOk (next s) n b d && distinct eqb (chain (next s) b d)) (chain (next s) b d) (length m₀)
-  tied b d = follow-tied (next s) n d b m₀ [] (omega (arith, length-zeros maxBlocks)) fresh refl
+  tied b d = follow-tied (next s) n d b m₀ [] (omega (arith, length-zeros size)) fresh refl
 
   stage4-walk : followDirectory s n (rootBlock n) (rootBlock n) m₀ .ok ≡ stage4 s
   unfolding followDirectory stage4
@@ -129,8 +130,24 @@ module _ (s : List ℕ) (n : ℕ) (shape : Shape s n) where
       ∙ sym (directory-parts s n b b)
       ∙ ap (λ (k : ℕ). directoryOk s k (rootBlock k) (rootBlock k)) (sym z)
 
-  pub stage4-walked : (r : Bool) (m₁ : List ℕ) → walked r m₁ ≡ followDirectory s n (rootBlock n) (rootBlock n) m₀ → r ≡ stage4 s
+  stage4-walked : (r : Bool) (m₁ : List ℕ) → walked r m₁ ≡ followDirectory s n (rootBlock n) (rootBlock n) m₀ → r ≡ stage4 s
   stage4-walked r m₁ e = ap (λ (w : Walk). w .ok) e ∙ stage4-walk
+
+-- the same with marks that are all 0, and what it leaves for the files
+pub stage4-marks : {s : List ℕ} {n : ℕ} {r : Bool} {m₀ m₁ : List ℕ} → walked r m₁ ≡ followDirectory s n (rootBlock n) (rootBlock n) m₀ → Shape s n
+    → 128 * tableBlocks n ≤ length m₀ → m₀ ≡ zeros (length m₀) → r ≡ stage4 s
+stage4-marks {s} {n} {r} {m₀} {m₁} e shape room fresh =
+    stage4-walked s n shape (length m₀) (omega arith) r m₁ (e ∙ ap (followDirectory s n (rootBlock n) (rootBlock n)) fresh)
+
+pub root-marked : {s : List ℕ} {n d : ℕ} {m₀ m₁ : List ℕ} → walked true m₁ ≡ followDirectory s n (rootBlock n) (rootBlock n) m₀ → d ≡ be32 s (entryAt (rootBlock n) 0 + 12)
+    → Shape s n → 128 * tableBlocks n ≤ length m₀ → m₀ ≡ zeros (length m₀) → length m₁ ≡ length m₀ → RootMarked s n d m₁
+root-marked {s} {n} {d} {m₀} {m₁} e count shape room fresh kept =
+    record {
+      shape = shape;
+      room = omega arith;
+      marked = e ∙ ap (followDirectory s n (rootBlock n) (rootBlock n)) (fresh ∙ ap zeros (sym kept));
+      size = count;
+    }
 
 -- what the walk of the root says
 module _ (s : List ℕ) (n d : ℕ) (m₁ : List ℕ) (given : RootMarked s n d m₁) where
@@ -139,7 +156,7 @@ module _ (s : List ℕ) (n d : ℕ) (m₁ : List ℕ) (given : RootMarked s n d 
 
   record Root : Type 0 where
     self : selfOk s (512 * rootBlock n) (rootBlock n) (rootBlock n) ≡ true
-    chased : walked true m₁ ≡ follow (next s) n d (rootBlock n) (zeros maxBlocks)
+    chased : walked true m₁ ≡ follow (next s) n d (rootBlock n) (zeros (length m₁))
 
   rooted : Root
   unfolding followDirectory
@@ -149,9 +166,12 @@ module _ (s : List ℕ) (n d : ℕ) (m₁ : List ℕ) (given : RootMarked s n d 
       go true q = record { self = q; chased = rw (q, ← count) at (given .marked) }
       go false q = absurd (false≢true (sym (ap (λ (w : Walk). w .ok) (rw q at (given .marked)))))
 
-  tie : Tied (follow (next s) n d (rootBlock n) (zeros maxBlocks)) (chainOk (next s) n (rootBlock n) d && distinct eqb (chain (next s) (rootBlock n) d))
-      (chain (next s) (rootBlock n) d) (length (zeros maxBlocks))
-  tie = tied s n (given .shape) (rootBlock n) d
+  long : n ≤ length m₁
+  long = omega (arith, given .room)
+
+  tie : Tied (follow (next s) n d (rootBlock n) (zeros (length m₁))) (chainOk (next s) n (rootBlock n) d && distinct eqb (chain (next s) (rootBlock n) d))
+      (chain (next s) (rootBlock n) d) (length (zeros (length m₁)))
+  tie = tied s n (given .shape) (length m₁) long (rootBlock n) d
 
   right : (chainOk (next s) n (rootBlock n) d ≡ true) × (distinct eqb (chain (next s) (rootBlock n) d) ≡ true)
   right = and-split (chainOk (next s) n (rootBlock n) d) _ (sym (tie .ok) ∙ sym (ap (λ (w : Walk). w .ok) (rooted .chased)))
@@ -159,11 +179,8 @@ module _ (s : List ℕ) (n d : ℕ) (m₁ : List ℕ) (given : RootMarked s n d 
   marked : Marked m₁ (chain (next s) (rootBlock n) d)
   marked = rw (← rooted .chased) at (tie .marks) refl
 
-  long : length m₁ ≡ maxBlocks
-  long = ap (λ (w : Walk). length (w .marks)) (rooted .chased) ∙ tie .sized ∙ length-zeros maxBlocks
-
   pub root-room : Room s (tableBlocks n) n m₁
-  root-room = record { shape = given .shape; table = refl; marks = long }
+  root-room = record { shape = given .shape; table = refl; marks = given .room }
 
   limits : (1 ≤ d) × (d ≤ maxDirectory)
   unfolding selfOk

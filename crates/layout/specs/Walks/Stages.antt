@@ -1,10 +1,10 @@
 -- The stages of the check, as the code takes them: chains with marks, the header by itself, and the stages in parts.
-use Prim.Native.Nat.{ℕ, _+_, _-_, _*_}
+use Prim.Native.Nat.{ℕ, _+_, _-_, _*_, _≤_}
 use mathlib.Core.Bool.{Bool, true, false, cond, _&&_}
 use mathlib.Core.List.{List}
 use mathlib.Core.Path.{_≡_}
 use lib.Dec.{eqb}
-use Rattle.layout.specs.Limits.{maxBlocks}
+use lib.ListN.{length}
 use Rattle.layout.specs.Lists.{interval, select, joined}
 use Rattle.layout.specs.Refusals.{require}
 use Rattle.layout.specs.Bytes.{be32, zeros}
@@ -54,5 +54,6 @@ bodyStage s = require (stage4 s) 4 (filesStage s)
 -- m marks the blocks of the root, which are d; none was marked before
 pub record RootMarked (s : List ℕ) (n d : ℕ) (m : List ℕ) : Type 0 where
   pub shape : Shape s n
-  pub marked : walked true m ≡ followDirectory s n (rootBlock n) (rootBlock n) (zeros maxBlocks)
+  pub room : 128 * tableBlocks n ≤ length m
+  pub marked : walked true m ≡ followDirectory s n (rootBlock n) (rootBlock n) (zeros (length m))
   pub size : d ≡ be32 s (entryAt (rootBlock n) 0 + 12)

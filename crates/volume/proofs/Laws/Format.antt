@@ -11,6 +11,7 @@ use lib.Seq.{ext-getD, getD-append-add}
 use lib.Dec.{eqb, leb}
 use Rattle.layout.specs.Lists.{within, interval, joined}
 use Rattle.layout.specs.Bytes.{be32, bytes4, zeros, splice}
+use Rattle.layout.specs.Limits.{maxBlocks}
 use Rattle.layout.specs.Geometry.{signature, blockCount, tableBlocks, rootBlock}
 use Rattle.layout.specs.Table.{next, chain, occupied}
 use Rattle.layout.specs.Directory.{slotAt, typeOf, selfOf, parentOf, blocksOf, padded, root}
@@ -62,7 +63,7 @@ module _ (n d : ℕ) (d₁ : 1 ≤ d) where
       from-root (d - 1) ∙ (let e : d - 1 ≡ length (interval (r + 1) (d - 1)) + 0 = omega (arith, length-interval (r + 1) (d - 1)) in
       ap (λ (i : ℕ). getD (interval (r + 1) (d - 1) ++ (1 ∷ [])) i 0) e ∙ getD-append-add (interval (r + 1) (d - 1)) (1 ∷ []) 0 0)
 
-module _ (n d : ℕ) (uuid name : List ℕ) (time : ℕ) (n₁ : 3 ≤ n) (n₂ : n ≤ 4096) (d₁ : 1 ≤ d) (d₂ : d ≤ 64) (room : rootBlock n + d ≤ n)
+module _ (n d : ℕ) (uuid name : List ℕ) (time : ℕ) (n₁ : 3 ≤ n) (n₂ : n ≤ maxBlocks) (d₁ : 1 ≤ d) (d₂ : d ≤ 64) (room : rootBlock n + d ≤ n)
     (uuid-16 : length uuid ≡ 16) (name-128 : length name ≡ 128)
   where
     abbrev blank : List ℕ

@@ -8,7 +8,7 @@ use native.Mathlib.Omega.{arith}
 use lib.Seq.{take-nil, drop-nil}
 use lib.Dec.{eqb}
 use lib.ListN.{length, getD, drop, length-drop, length-append, take}
-use Rattle.layout.specs.Bytes.{splice, be32, bytes4, zeros, part, bytes8}
+use Rattle.layout.specs.Bytes.{splice, be32, bytes4, zeros, bytes8}
 use Rattle.layout.specs.Table.{setNext, tableBlockOf}
 use Rattle.layout.specs.Lists.{has, lastOr}
 use Rattle.layout.specs.Geometry.{blocksFor, tableBlocks, blockCount}

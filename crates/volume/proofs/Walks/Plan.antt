@@ -1,11 +1,12 @@
 -- What a write finds out on a sound image before it changes a byte.
-use Prim.Native.Nat.{ℕ, zero, suc, _+_, _-_, _≤_, _<_, max}
+use Prim.Native.Nat.{ℕ, zero, suc, _+_, _-_, _*_, _≤_, _<_, max}
 use mathlib.Core.Path.{_≡_, refl, ap, _∙_}
 use mathlib.Core.List.{List, _++_}
 use mathlib.Core.Logic.{⊎-elim}
 use native.Mathlib.Omega.{arith}
 use lib.ListN.{length, getD, take}
 use Rattle.layout.specs.Lists.{lastOr}
+use Rattle.layout.specs.Limits.{maxBlocks, maxData}
 use Rattle.layout.specs.Geometry.{blockCount, blocksFor}
 use Rattle.layout.specs.Table.{next, chain, freeBlocks}
 use Rattle.layout.specs.Directory.{fileSlot, root, fileBlocks}
@@ -66,7 +67,7 @@ module _ (s name : List ℕ) (offset count : ℕ) (ok : check s ≡ 0) (r : writ
 
   -- a file that was opened
   module _ {slot b first size blocks : ℕ} (o : Located s name slot b first size blocks) where
-    pub plan-sizes : (offset ≤ size) × (size ≤ 2097152) × (count ≤ 4096) × (blocks ≡ blocksFor size)
+    pub plan-sizes : (offset ≤ size) × (size ≤ 512 * maxBlocks) × (count ≤ maxData) × (blocks ≡ blocksFor size)
     plan-sizes =
         let g = name-given s name offset count r in
         let z = blocks-for o g ok in

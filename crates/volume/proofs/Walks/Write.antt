@@ -8,6 +8,7 @@ use lib.Dec.{eqb, leb}
 use borrow.Author.Tests.{le-leb, lt-leb}
 use Rattle.layout.specs.Refusals.{require, firstOf}
 use Rattle.layout.specs.Bytes.{be32}
+use Rattle.layout.specs.Limits.{maxBlocks, maxData}
 use Rattle.layout.specs.Geometry.{blockCount, blocksFor}
 use Rattle.layout.specs.Table.{next}
 use Rattle.layout.specs.Directory.{goodName, fileSlot, root}
@@ -25,14 +26,14 @@ use Rattle.layout.proofs.Laws.Owners.{free-count}
 use Rattle.layout.proofs.Laws.Sound.{sound}
 
 module _ (s name : List ℕ) (offset count : ℕ) where
-  pub data-long : 4096 < count → 9 ≡ writeRefusal s name offset count
+  pub data-long : maxData < count → 9 ≡ writeRefusal s name offset count
   unfolding writeRefusal
-  data-long h = rw (lt-leb count 4096 h, and-false (goodName name))
+  data-long h = rw (lt-leb count maxData h, and-false (goodName name))
 
-  module _ (few : count ≤ 4096) where
+  module _ (few : count ≤ maxData) where
     by-name : writeRefusal s name offset count ≡ firstOf (nameRefusal s name) (writeAtRefusal s (entryOf s name) offset count)
     unfolding writeRefusal nameRefusal
-    by-name = rw (le-leb count 4096 few) (go (goodName name) (not (eqb (fileSlot s (root s) name) 0)) (writeAtRefusal s (entryOf s name) offset count))
+    by-name = rw (le-leb count maxData few) (go (goodName name) (not (eqb (fileSlot s (root s) name) 0)) (writeAtRefusal s (entryOf s name) offset count))
       where
         go : (a b : Bool) (x : ℕ) → require (a && true) 9 (require b 10 x) ≡ firstOf (require a 9 (require b 10 0)) x
         go true true x = refl
@@ -66,7 +67,7 @@ module _ {s name : List ℕ} {slot b first size blocks : ℕ} (o : Located s nam
   pub blocks-for : blocks ≡ blocksFor size
   blocks-for = o .count ∙ name-file s name z ok .blocks ∙ ap blocksFor (sym (o .bytes))
 
-  pub blocks-most : blocks ≤ 4096
+  pub blocks-most : blocks ≤ maxBlocks
   blocks-most =
       let h = sound-shape s ok in
       omega (arith, chain-most (next s) (blockCount s) first blocks (chainOk-split (next s) (blockCount s) first blocks (located-ok o z ok)) (h .low), h .high)

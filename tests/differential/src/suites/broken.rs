@@ -35,10 +35,14 @@ pub fn clauses(rng: &mut Rng, _: u64, t: &mut Tester) {
     }
 }
 
-/// The same on images of the greatest lengths, where a clause has three tries.
+/// The same on images of the greatest lengths, and of those where the library
+/// changes from small volumes to large ones. A clause has three tries.
 pub fn largest(rng: &mut Rng, round: u64, t: &mut Tester) {
-    let n = MAX_BLOCKS - round as usize % 2;
-    for clause in damage::clauses() {
+    for (i, clause) in damage::clauses().enumerate() {
+        let n = match (i as u64 + round) % 16 {
+            0 => MAX_BLOCKS - round as usize % 2,
+            _ => rng.pick(&[4095, 4096, 4097, 4225]),
+        };
         let _ = (0..3).any(|_| damaged(rng, t, clause, n));
     }
 }

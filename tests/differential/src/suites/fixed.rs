@@ -14,7 +14,7 @@ use reference::State;
 /// reference to them; here the library follows the same steps.
 pub fn numbers(_: &mut Rng, _: u64, t: &mut Tester) {
     let name = [b'v'; 128];
-    for (n, d) in [(3, 1), (3, 2), (2, 1), (128, 1), (129, 1), (4096, 64), (16, 2)] {
+    for (n, d) in [(3, 1), (3, 2), (2, 1), (128, 1), (129, 1), (4096, 64), (16, 2), (65_535, 64), (65_536, 64), (65_537, 64)] {
         t.report.about(format!("format n {n} d {d}"));
         t.format(&vec![0xEE; 512 * n], d, 7, [3; 16], &name);
     }
@@ -48,7 +48,7 @@ pub fn numbers(_: &mut Rng, _: u64, t: &mut Tester) {
 
 /// Lengths at their edges.
 pub fn edges(rng: &mut Rng, _: u64, t: &mut Tester) {
-    for len in [0, 1, 4, 5, 6, 4095, MAX_LENGTH - 1, MAX_LENGTH, MAX_LENGTH + 1, 5_000_000] {
+    for len in [0, 1, 4, 5, 6, 4095, 4_194_305, MAX_LENGTH - 1, MAX_LENGTH, MAX_LENGTH + 1] {
         t.report.about(format!("journal of {len} bytes"));
         let journal = rng.bytes(len);
         t.start(&journal);
@@ -61,7 +61,8 @@ pub fn edges(rng: &mut Rng, _: u64, t: &mut Tester) {
     largest_record(rng, t);
     widest_changes(rng, t);
     largest_file(rng, t);
-    for len in [0, 1, 511, 512, 1024, 1535, 1536, 1537, 2_097_152, 2_097_153, 2_097_664] {
+    let most = 512 * MAX_BLOCKS;
+    for len in [0, 1, 511, 512, 1024, 1535, 1536, 1537, 2_097_152, most, most + 1, most + 512] {
         t.report.about(format!("image of {len} bytes"));
         let image = rng.bytes(len);
         t.format(&image, 1, 1, [9; 16], &[0; 128]);
@@ -131,7 +132,7 @@ fn largest_record(rng: &mut Rng, t: &mut Tester) {
     let image = build(rng, MAX_BLOCKS, MAX_ROOT_BLOCKS, Fill::Slots);
     let numbers: Vec<u32> = (0..MAX_BLOCKS as u32).collect();
     let record = journals::record_of(rng, &numbers);
-    for wrong in [None, Some(1), Some(3000), Some(MAX_BLOCKS - 1)] {
+    for wrong in [None, Some(1), Some(30_000), Some(MAX_BLOCKS - 1)] {
         t.report.about(format!("a record of all blocks, wrong {wrong:?}"));
         let mut record = record.clone();
         if let Some(i) = wrong {
@@ -164,13 +165,14 @@ fn nearly_full(rng: &mut Rng) -> Vec<u8> {
 /// more, and a delete with entries in every table block.
 fn widest_changes(rng: &mut Rng, t: &mut Tester) {
     let image = nearly_full(rng);
-    let state = State { image, journal: reference::start(40_000).unwrap() };
+    let state = State { image, journal: reference::start(400_000).unwrap() };
     let data = rng.bytes(MAX_DATA);
     let near_end = u64::from(files(&state.image)[1].blocks) * 512 - MAX_DATA as u64;
     for (change, blocks) in [
         (write(b"small", 1, &data), 1 + 1 + 9 + 9),
         (write(b"large", near_end, &data), 1 + 8),
-        (delete(b"large"), 1 + 1 + 32),
+        // The entries of the first four table blocks are those of header, table and root.
+        (delete(b"large"), 1 + 1 + 508),
     ] {
         t.report.about(format!("a change of {blocks} blocks"));
         t.change(&state, &change);

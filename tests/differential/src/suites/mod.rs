@@ -9,6 +9,7 @@ mod order;
 mod runs;
 mod scripts;
 mod sound;
+mod tables;
 
 use crate::rng::Rng;
 use crate::tester::Tester;
@@ -35,6 +36,8 @@ pub const SUITES: &[Suite] = &[
     Suite { name: "double", rounds: |n| 2 * n, run: broken::two_clauses },
     Suite { name: "noise", rounds: |n| 5 * n, run: broken::noise },
     Suite { name: "journals", rounds: |n| n.div_ceil(4), run: broken::journals },
+    Suite { name: "tables", rounds: |n| n, run: tables::run },
+    Suite { name: "tables_largest", rounds: |_| 1, run: tables::largest },
     Suite { name: "order", rounds: |n| n.div_ceil(10), run: order::all },
     Suite { name: "kept", rounds: |n| n.div_ceil(5), run: kept::run },
     Suite { name: "runs", rounds: |n| n, run: runs::run },

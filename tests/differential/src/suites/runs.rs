@@ -46,11 +46,11 @@ pub fn run(rng: &mut Rng, round: u64, t: &mut Tester) {
 
 /// A few runs on the largest images and journals.
 pub fn large(rng: &mut Rng, _: u64, t: &mut Tester) {
-    let n = rng.pick(&[1024, 4095, 4096]);
+    let n = rng.pick(&[1024, 4095, 4096, 4097, 20_000]);
     let d = rng.pick(&[1, 8, 64]);
     let fill = rng.pick(&[Fill::Some, Fill::Slots]);
     let image = build(rng, n, d, fill);
-    let length = rng.pick(&[200_000, 4_194_304]);
+    let length = rng.pick(&[200_000, 5_000_000]);
     play(rng, t, image, length, &MIXES[0], 40);
 }
 

@@ -4,13 +4,14 @@ use Prim.Native.Nat.{_≤_, _-_}
 use native.Mathlib.Nat.{sub-zero}
 use native.Mathlib.Omega.{arith}
 use borrow.Author.Needs.{needs}
+use Rattle.layout.specs.Limits.{maxBlocks}
 use Rattle.journal.specs.Walks.Scanning.{blocksRise}
 use Rattle.journal.proofs.scan.blocks_rise.Statement.{statement}
 use Rattle.journal.proofs.scan.blocks_rise.Tie as tie
 use Rattle.journal.proofs.Walks.Scanning.{numbers-low, numbers-high, numbers-step, numbers-end}
 
 abbrev Inv-loop : tie.InvT-loop
-Inv-loop journal n at k low₀ i₀ low i = (i ≤ k) × (low ≤ 4096) × (blocksRise journal n at 0 0 k ≡ blocksRise journal n at low i (k - i))
+Inv-loop journal n at k low₀ i₀ low i = (i ≤ k) × (low ≤ maxBlocks) × (blocksRise journal n at 0 0 k ≡ blocksRise journal n at low i (k - i))
 
 abbrev μ-loop : tie.MeasureT-loop
 μ-loop journal n at k low₀ i₀ low i = k - i

@@ -4,7 +4,6 @@ use mathlib.Core.Path.{_≡_, refl, sym, _∙_}
 use native.Mathlib.Omega.{arith}
 use lib.ListN.{length}
 use borrow.Author.Tests.{not-true, not-false}
-use Rattle.layout.specs.Limits.{maxBlocks}
 use Rattle.layout.specs.Table.{next, chain}
 use Rattle.layout.specs.Walks.Slots.{Place, entryAt}
 use Rattle.layout.specs.Walks.Stages.{followFiles}
@@ -14,7 +13,7 @@ use Rattle.layout.proofs.directory.follow_files.Tie as tie
 
 abbrev Inv-loop : tie.InvT-loop
 Inv-loop image t n first d marks₀ b₀ k₀ left₀ marks b k left =
-    (length marks ≡ maxBlocks) × (Place (chain (next image) first d) d b k left) ×
+    (length marks ≡ length marks₀) × (Place (chain (next image) first d) d b k left) ×
     (followFiles image n (chain (next image) first d) 1 (4 * d - 2) marks₀ ≡ followFiles image n (chain (next image) first d) k left marks)
 
 abbrev μ-loop : tie.MeasureT-loop
@@ -34,7 +33,7 @@ follow-slot-requires : tie.Need-follow-slot-requires Inv-loop μ-loop
 follow-slot-requires c κs =
     let l = c .before .before .loop in
     let p = c .before .before .before .before .before .pre in
-    (record { shape = p .0 .shape; table = p .0 .table; marks = l .inv .0 }, place-below _ _ _ _ _ _ (p .1 .blocks) (l .inv .1))
+    (record { shape = p .0 .shape; table = p .0 .table; marks = omega (arith, l .inv .0, p .0 .marks) }, place-below _ _ _ _ _ _ (p .1 .blocks) (l .inv .1))
 
 same-length : tie.Need-same-length Inv-loop μ-loop
 same-length c = omega arith

@@ -1,0 +1,52 @@
+-- A change of the table made in the bytes and in the numbers: the numbers stay those of the image. All rest on one entry set in both.
+use Prim.Native.Nat.{ℕ, zero, suc, _+_, _*_, _≤_, _<_}
+use mathlib.Core.List.{List}
+use mathlib.Core.Path.{_≡_, sym, _∙_}
+use native.Mathlib.Decide.{ℕ-discrete}
+use native.Mathlib.Omega.{arith}
+use lib.ListN.{length, set, length-set}
+use lib.Seq.{getD-set-same, getD-set-other}
+use Rattle.layout.specs.Bytes.{zeros, splice}
+use Rattle.layout.specs.Geometry.{tableBlocks, rootBlock}
+use Rattle.layout.specs.Table.{next, setNext}
+use Rattle.volume.specs.Entries.{setOccupied, linked, taken, freed}
+use Rattle.layout.proofs.Laws.Bytes.{length-zeros}
+use Rattle.layout.proofs.Laws.Frames.{same-below, before-next, set-next-length, set-next-at, set-next-other}
+use Rattle.volume.proofs.Laws.Table.{set-occupied-next, linked-length, cleared-length}
+use Rattle.chain_table.specs.Numbers.{valueIn, Held, linkedIn, takenIn, freedIn}
+
+-- bytes that leave the entries below n
+pub held-still : {s s′ xs : List ℕ} {n : ℕ} → Held s xs n → ((b : ℕ) → b < n → next s′ b ≡ next s b) → Held s′ xs n
+held-still h f = record { size = h .size; same = λ b l. h .same b l ∙ sym (f b l) }
+
+module _ {s xs : List ℕ} {n : ℕ} (held : Held s xs n) (fits : 512 + 4 * n ≤ length s) where
+  pub held-set : (b x : ℕ) → b < n → x < 0x100000000 → Held (setNext s b x) (set xs b x) n
+  held-set b x h small = record { size = length-set xs b x ∙ held .size; same = λ c l. go c l (ℕ-discrete c b) }
+    where
+      go : (c : ℕ) → c < n → Dec (c ≡ b) → valueIn (set xs b x) c ≡ next (setNext s b x) c
+      go c l (yes e) = rw e (getD-set-same xs b x 0 (omega (arith, held .size)) ∙ sym (set-next-at s b x (omega arith) small))
+      go c l (no ne) = getD-set-other xs b c x 0 ne ∙ held .same c l ∙ sym (set-next-other s b x (omega arith) c ne)
+
+  pub held-link : (last b : ℕ) → last < n → b < 0x100000000 → Held (linked s last b) (linkedIn xs last b) n
+  unfolding linked linkedIn
+  held-link zero b h small = held
+  held-link (suc last) b h small = held-set (suc last) b h small
+
+  held-counts : (u : ℕ) → Held (setOccupied s n u) xs n
+  held-counts u = held-still held (λ b h. set-occupied-next s n u (omega arith) b)
+
+pub held-free : {s xs : List ℕ} {n : ℕ} (b : ℕ) → Held s xs n → 512 + 4 * n ≤ length s → b < n → Held (freed s n b) (freedIn xs b) n
+unfolding freed freedIn
+held-free {s} b held fits h = held-counts (held-set held fits b 0 h (omega arith)) (omega (arith, set-next-length s b 0 (omega arith))) _
+
+-- a block that is taken is zeroed, and lies above the table
+pub held-take : {s xs : List ℕ} {n : ℕ} (last b : ℕ) → Held s xs n → length s ≡ 512 * n → 3 ≤ n → last < n → tableBlocks n < b → b < n → b < 0x100000000
+    → Held (taken s n last b) (takenIn xs last b) n
+unfolding taken takenIn
+held-take {s} {xs} {n} last b held whole low l t h small =
+    let z : List ℕ = splice s (512 * b) (zeros 512) in
+    let k : length z ≡ 512 * n = cleared-length n low s last b whole l h in
+    let i : length (setNext z b 1) ≡ 512 * n = set-next-length z b 1 (omega arith) ∙ k in
+    let zeroed : Held z xs n = held-still held (λ c g. before-next s z n (same-below s (512 * b) (zeros 512) (omega (arith, length-zeros 512)) 0 (512 * rootBlock n) (omega arith)) c (omega arith)) in
+    let ended : Held (setNext z b 1) (set xs b 1) n = held-set zeroed (omega arith) b 1 h (omega arith) in
+    held-counts (held-link ended (omega arith) last b l small) (omega (arith, linked-length (setNext z b 1) b last (omega arith))) _

@@ -1,0 +1,96 @@
+-- What is promised of the table held as numbers (02, L8): load then store changes no byte; each question and change on the numbers gives what the
+-- byte form gives, over any n.
+use Prim.Native.Nat.{ℕ, _+_, _*_, _≤_, _<_}
+use mathlib.Core.List.{List}
+use mathlib.Core.Logic.{_⊎_, inl, inr}
+use mathlib.Core.Path.{_≡_, ap}
+use native.Mathlib.Decide.{ℕ-discrete}
+use native.Mathlib.Omega.{arith}
+use lib.ListN.{length, getD, set}
+use Rattle.layout.specs.Lists.{lastOr}
+use Rattle.layout.specs.Geometry.{blockCount, tableBlocks}
+use Rattle.layout.specs.Table.{next, setNext, chain, endsAfter, occupied}
+use Rattle.layout.specs.Walks.Chains.{allOnes, restFree}
+use Rattle.layout.proofs.Laws.Tests.{accept-refused}
+use Rattle.volume.specs.Entries.{linked, taken, freed}
+use Rattle.chain_table.specs.Numbers.{valueIn, entriesOf, Held, lowestFree, linkedIn, takenIn, freedIn}
+use Rattle.chain_table.specs.Transfer.{tableRefusal, loadTable, storeTable}
+use Rattle.chain_table.specs.Runs.{TableRunTheorem}
+use Rattle.layout.proofs.Laws.Values.{chain-same, ends-same, occupied-agree, ones-same, restFree-same}
+use Rattle.chain_table.proofs.Laws.Values.{lowest-same}
+use Rattle.chain_table.proofs.Laws.Numbers.{held-entries}
+use Rattle.chain_table.proofs.Laws.Looks.{store-looks as looks}
+use Rattle.chain_table.proofs.Laws.Runs.{every-table-run as every-run}
+use Rattle.chain_table.proofs.Laws.Changes.{held-set, held-link, held-take, held-free}
+
+-- an accepted load gives the entries of the image
+pub load-held : (s xs : List ℕ) → loadTable s xs .number ≡ 0 → Held s (loadTable s xs .numbers) (blockCount s)
+unfolding loadTable
+load-held s xs e = rw e (held-entries s (blockCount s))
+
+-- a store of the image's own numbers only looks, and so does one that is refused
+pub store-looks : (s xs : List ℕ) → ((i : ℕ) → getD s i 0 < 256) → Held s xs (blockCount s) ⊎ (tableRefusal s (length xs) ≡ 0 → ⊥) → storeTable s xs .image ≡ s
+store-looks = looks
+
+-- a refused load leaves the numbers, with which the store is refused too
+load-refused : (s xs : List ℕ) → ((i : ℕ) → getD s i 0 < 256) → (loadTable s xs .number ≡ 0 → ⊥) → storeTable s (loadTable s xs .numbers) .image ≡ s
+unfolding loadTable
+load-refused s xs bytes e =
+    rw (accept-refused (tableRefusal s (length xs)) (entriesOf (next s) (blockCount s)) xs e) (store-looks s xs bytes (inr e))
+
+-- LOAD THEN STORE changes no byte, of a sound image and of any other
+pub load-store : (s xs : List ℕ) → ((i : ℕ) → getD s i 0 < 256) → storeTable s (loadTable s xs .numbers) .image ≡ s
+load-store s xs bytes = go (ℕ-discrete (loadTable s xs .number) 0)
+  where
+    go : Dec (loadTable s xs .number ≡ 0) → storeTable s (loadTable s xs .numbers) .image ≡ s
+    go (yes e) = store-looks s (loadTable s xs .numbers) bytes (inl (load-held s xs e))
+    go (no e) = load-refused s xs bytes e
+
+-- IN A RUN a load, and a store of the image's own numbers or a refused one, is a call that only looks: image, whole journal and every answer are the replay's
+pub every-table-run : TableRunTheorem
+every-table-run = every-run
+
+-- EVERY QUESTION on the numbers gives what the bytes give
+module _ {s xs : List ℕ} {n : ℕ} (held : Held s xs n) where
+  pub value-same : (b : ℕ) → b < n → valueIn xs b ≡ next s b
+  value-same = held .same
+
+  -- of a chain whose blocks are below n, as all of a sound image are
+  module _ (b k : ℕ) (below : (i : ℕ) → i < k → getD (chain (next s) b k) i 0 < n) where
+    pub chain-of-numbers : chain (valueIn xs) b k ≡ chain (next s) b k
+    chain-of-numbers = chain-same (valueIn xs) (next s) n (held .same) b k below
+
+    pub nth-of-numbers : (i : ℕ) → getD (chain (valueIn xs) b k) i 0 ≡ getD (chain (next s) b k) i 0
+    nth-of-numbers i = ap (λ (bs : List ℕ). getD bs i 0) chain-of-numbers
+
+    pub last-of-numbers : lastOr 0 (chain (valueIn xs) b k) ≡ lastOr 0 (chain (next s) b k)
+    last-of-numbers = ap (lastOr 0) chain-of-numbers
+
+  pub ends-of-numbers : (b k : ℕ) → endsAfter (valueIn xs) n b k ≡ endsAfter (next s) n b k
+  ends-of-numbers b k = ends-same (valueIn xs) (next s) n (held .same) k b
+
+  pub occupied-of-numbers : occupied (valueIn xs) n ≡ occupied (next s) n
+  occupied-of-numbers = occupied-agree (valueIn xs) (next s) n (held .same)
+
+  pub lowest-of-numbers : (a : ℕ) → lowestFree (valueIn xs) a n ≡ lowestFree (next s) a n
+  lowest-of-numbers = lowest-same (valueIn xs) (next s) n (held .same)
+
+  pub ones-of-numbers : (a k : ℕ) → a + k ≤ n → allOnes (valueIn xs) a k ≡ allOnes (next s) a k
+  ones-of-numbers = ones-same (valueIn xs) (next s) n (held .same)
+
+  pub rest-of-numbers : (m : List ℕ) (a k : ℕ) → a + k ≤ n → restFree (valueIn xs) m a k ≡ restFree (next s) m a k
+  rest-of-numbers = restFree-same (valueIn xs) (next s) n (held .same)
+
+-- EVERY CHANGE on the numbers leaves those of the bytes that are changed alike
+module _ {s xs : List ℕ} {n : ℕ} (held : Held s xs n) (whole : length s ≡ 512 * n) (low : 3 ≤ n) where
+  pub set-of-numbers : (b x : ℕ) → b < n → x < 0x100000000 → Held (setNext s b x) (set xs b x) n
+  set-of-numbers = held-set held (omega arith)
+
+  pub link-of-numbers : (last b : ℕ) → last < n → b < 0x100000000 → Held (linked s last b) (linkedIn xs last b) n
+  link-of-numbers = held-link held (omega arith)
+
+  pub take-of-numbers : (last b : ℕ) → last < n → tableBlocks n < b → b < n → b < 0x100000000 → Held (taken s n last b) (takenIn xs last b) n
+  take-of-numbers last b = held-take last b held whole low
+
+  pub free-of-numbers : (b : ℕ) → b < n → Held (freed s n b) (freedIn xs b) n
+  free-of-numbers b = held-free b held (omega arith)

@@ -1,0 +1,131 @@
+/*
+ * Measures how much stack the calls take: each runs on a stack of its own that
+ * was painted before, and what is not painted any more was used.  The header
+ * states the most; a call above it fails.
+ */
+#define _XOPEN_SOURCE 700
+
+#include "bulgefs.h"
+
+#include <stdio.h>
+#include <stdlib.h>
+#include <string.h>
+#include <ucontext.h>
+
+enum { STACK = 1024 * 1024, PAINT = 0xA5, LARGE = 65536, SMALL = 4096 };
+
+static uint8_t *stack, *image, *journal;
+static size_t image_len, journal_len = 1 << 20;
+static uint32_t *entries;
+static ucontext_t here, there;
+static unsigned long passed, failed;
+static uint32_t number;
+
+static const uint8_t name[] = "f";
+static const uint8_t data[4096] = {1};
+
+static void check(void) { number = bulgefs_check(image, image_len); }
+static void lookup(void) { number = bulgefs_lookup(image, image_len, name, 1).number; }
+static void start(void) { number = bulgefs_journal_start(journal, journal_len); }
+static void undo(void) { number = bulgefs_undo(image, image_len, journal, journal_len).number; }
+static void load(void) { number = bulgefs_load_table(image, image_len, entries, image_len / 512); }
+static void store(void)
+{
+    number = bulgefs_store_table(image, image_len, entries, image_len / 512);
+}
+
+static void format(void)
+{
+    static const uint8_t volume_name[128] = "stack";
+    bulgefs_uuid uuid = {{0}};
+    number = bulgefs_format(image, image_len, 64, 1, uuid, volume_name, 128);
+}
+
+static void create(void)
+{
+    number = bulgefs_create(image, image_len, journal, journal_len, name, 1, 0x60, 0, 0, 0, 0, 1)
+                 .number;
+}
+
+static void write_data(void)
+{
+    number = bulgefs_write(image, image_len, journal, journal_len, name, 1, 0, data, 4096, 2)
+                 .number;
+}
+
+static void read_data(void)
+{
+    static uint8_t buffer[4096];
+    number = bulgefs_read(image, image_len, name, 1, 0, buffer, 4096).number;
+}
+
+static void look(void)
+{
+    number = bulgefs_look_in_place(image, image_len, name, 1, 0).length == 512 ? 0 : 99;
+}
+
+static void delete(void)
+{
+    number = bulgefs_delete(image, image_len, journal, journal_len, name, 1).number;
+}
+
+static const struct {
+    const char *what;
+    void (*make)(void);
+} calls[] = {
+    {"format", format}, {"journal_start", start}, {"create", create}, {"write", write_data},
+    {"check", check},   {"lookup", lookup},       {"read", read_data}, {"look_in_place", look},
+    {"load_table", load}, {"store_table", store}, {"delete", delete}, {"undo", undo},
+};
+
+/* The bytes of stack that a call takes. */
+static size_t used_by(void (*make)(void))
+{
+    memset(stack, PAINT, STACK);
+    getcontext(&there);
+    there.uc_stack.ss_sp = stack;
+    there.uc_stack.ss_size = STACK;
+    there.uc_link = &here;
+    makecontext(&there, make, 0);
+    swapcontext(&here, &there);
+    size_t clean = 0;
+    while (clean < STACK && stack[clean] == PAINT)
+        clean++;
+    return STACK - clean;
+}
+
+static void measure(size_t n)
+{
+    const size_t most = BULGEFS_STACK;
+    size_t deepest = 0;
+    image_len = n * 512;
+    for (size_t i = 0; i < sizeof calls / sizeof calls[0]; i++) {
+        size_t used = used_by(calls[i].make);
+        if (number != 0 || used > most) {
+            failed++;
+            printf("FAILED %s: number %u, %zu bytes of stack\n", calls[i].what, (unsigned)number,
+                   used);
+        } else {
+            passed++;
+        }
+        if (used > deepest)
+            deepest = used;
+    }
+    printf("%zu blocks: at most %zu bytes of stack, %zu allowed\n", n, deepest, most);
+}
+
+int main(void)
+{
+    stack = malloc(STACK);
+    image = calloc(LARGE, 512);
+    journal = calloc(journal_len, 1);
+    entries = calloc(LARGE, sizeof entries[0]);
+    if (stack == NULL || image == NULL || journal == NULL || entries == NULL) {
+        printf("out of memory\n");
+        return 2;
+    }
+    measure(SMALL);
+    measure(LARGE);
+    printf("%lu passed, %lu failed\n", passed, failed);
+    return failed == 0 ? 0 : 1;
+}
