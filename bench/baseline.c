@@ -22,36 +22,53 @@ uint32_t ENTRY(check)(const uint8_t *image, size_t image_len)
     return check(image, image_len, &v);
 }
 
-/* Weighs 9 and 10 on a sound image; on success fills the slot. */
-static uint32_t find_file(const uint8_t *image, const volume *v, const uint8_t *name,
-                          size_t name_len, uint32_t *slot)
+/*
+ * Weighs 9 and 17.  others_good says whether what else the call brings is good;
+ * own is how many of the path's names need not be directories.
+ */
+static uint32_t path_refusal(const uint8_t *path, size_t path_len, bool others_good, size_t own)
 {
-    if (!good_name(name, name_len))
+    size_t names = count_names(path, path_len);
+    if (names == 0 || !others_good)
         return BULGEFS_BAD_ARGUMENT;
-    *slot = find(image, v, name, name_len);
-    return *slot == 0 ? BULGEFS_NOT_FOUND : BULGEFS_OK;
+    return names - own > BULGEFS_MAX_LEVELS ? BULGEFS_TOO_DEEP : BULGEFS_OK;
 }
 
-/* Weighs 1 to 7, 9 and 10; on success fills the volume and the slot. */
-static uint32_t look(const uint8_t *image, size_t image_len, const uint8_t *name,
-                     size_t name_len, volume *v, uint32_t *slot)
+/* Weighs 9, 17 and 10 for a file. */
+static uint32_t find_file(const uint8_t *image, const volume *v, const uint8_t *path,
+                          size_t path_len, bool others_good, target *to)
 {
-    uint32_t number = check(image, image_len, v);
+    uint32_t number = path_refusal(path, path_len, others_good, 1);
+    if (number != BULGEFS_OK)
+        return number;
+    if (!follow(image, v, path, path_len, to) || to->slot == 0
+        || !is_file(image[slot_at(&to->home, to->slot) + TYPE]))
+        return BULGEFS_NOT_FOUND;
+    return BULGEFS_OK;
+}
+
+/* Weighs 1 to 7, 9, 17 and 10; on success gives the file's entry. */
+static uint32_t look(const uint8_t *image, size_t image_len, const uint8_t *path,
+                     size_t path_len, target *to, const uint8_t **entry)
+{
+    volume v;
+    uint32_t number = check(image, image_len, &v);
     if (number == BULGEFS_OK)
-        number = find_file(image, v, name, name_len, slot);
+        number = find_file(image, &v, path, path_len, true, to);
+    if (number == BULGEFS_OK)
+        *entry = image + slot_at(&to->home, to->slot);
     return number;
 }
 
 bulgefs_found ENTRY(lookup)(const uint8_t *image, size_t image_len,
-                            const uint8_t *name, size_t name_len)
+                            const uint8_t *path, size_t path_len)
 {
-    volume v;
-    uint32_t slot;
-    uint32_t number = look(image, image_len, name, name_len, &v, &slot);
+    target to;
+    const uint8_t *entry;
+    uint32_t number = look(image, image_len, path, path_len, &to, &entry);
     if (number != BULGEFS_OK)
         return (bulgefs_found){number, 0, 0, 0};
-    const uint8_t *entry = image + slot_at(&v, slot);
-    return (bulgefs_found){BULGEFS_OK, slot, get32(entry + SIZE), get32(entry + BLOCKS)};
+    return (bulgefs_found){BULGEFS_OK, to.slot, get32(entry + SIZE), get32(entry + BLOCKS)};
 }
 
 /* A place in a chain: a block, and an offset in it. */
@@ -91,15 +108,14 @@ static void gather(const uint8_t *image, uint32_t b, uint32_t at, uint8_t *to, s
 }
 
 bulgefs_filled ENTRY(read)(const uint8_t *image, size_t image_len,
-                           const uint8_t *name, size_t name_len,
+                           const uint8_t *path, size_t path_len,
                            uint64_t offset, uint8_t *buffer, size_t buffer_len)
 {
-    volume v;
-    uint32_t slot;
-    uint32_t number = look(image, image_len, name, name_len, &v, &slot);
+    target to;
+    const uint8_t *entry;
+    uint32_t number = look(image, image_len, path, path_len, &to, &entry);
     if (number != BULGEFS_OK)
         return (bulgefs_filled){number, 0};
-    const uint8_t *entry = image + slot_at(&v, slot);
     uint32_t size = get32(entry + SIZE);
     if (offset > size)
         return (bulgefs_filled){BULGEFS_BAD_OFFSET, 0};
@@ -111,14 +127,13 @@ bulgefs_filled ENTRY(read)(const uint8_t *image, size_t image_len,
 }
 
 bulgefs_part ENTRY(look_in_place)(const uint8_t *image, size_t image_len,
-                                  const uint8_t *name, size_t name_len, uint64_t index)
+                                  const uint8_t *path, size_t path_len, uint64_t index)
 {
-    volume v;
+    target to;
+    const uint8_t *entry;
     bulgefs_part part = {0, 0};
-    uint32_t slot;
-    if (look(image, image_len, name, name_len, &v, &slot) != BULGEFS_OK)
+    if (look(image, image_len, path, path_len, &to, &entry) != BULGEFS_OK)
         return part;
-    const uint8_t *entry = image + slot_at(&v, slot);
     if (index >= get32(entry + BLOCKS))
         return part;
     uint32_t b = get32(entry + FIRST);
@@ -132,6 +147,20 @@ bulgefs_part ENTRY(look_in_place)(const uint8_t *image, size_t image_len,
 
 /* ---- entry points that change ---- */
 
+/* Puts self entry and end type of an empty directory, all zeros so far. */
+static void put_directory(uint8_t *image, uint32_t first, uint32_t parent, uint32_t last,
+                          uint32_t d, uint64_t time)
+{
+    uint8_t *self = image + (size_t)first * BLOCK;
+    self[TYPE] = TYPE_SELF;
+    put32(self + SELF_BLOCK, first);
+    put32(self + SELF_PARENT, parent);
+    put32(self + BLOCKS, d);
+    put64(self + CREATED, time);
+    put64(self + MODIFIED, time);
+    image[(size_t)last * BLOCK + 3 * SLOT + TYPE] = TYPE_END;
+}
+
 uint32_t ENTRY(format)(uint8_t *image, size_t image_len, uint32_t root_blocks, uint64_t time,
                        bulgefs_uuid uuid, const uint8_t *volume_name, size_t volume_name_len)
 {
@@ -139,7 +168,7 @@ uint32_t ENTRY(format)(uint8_t *image, size_t image_len, uint32_t root_blocks, u
     if (!good_length(image_len))
         return BULGEFS_BAD_LENGTH;
     set_geometry(&v, image_len);
-    if (root_blocks < BULGEFS_MIN_ROOT_BLOCKS || root_blocks > BULGEFS_MAX_ROOT_BLOCKS
+    if (root_blocks < BULGEFS_MIN_DIRECTORY_BLOCKS || root_blocks > BULGEFS_MAX_DIRECTORY_BLOCKS
         || volume_name_len != BULGEFS_VOLUME_NAME_SIZE)
         return BULGEFS_BAD_ARGUMENT;
     uint32_t root = v.t + 1;
@@ -159,14 +188,7 @@ uint32_t ENTRY(format)(uint8_t *image, size_t image_len, uint32_t root_blocks, u
     for (uint32_t b = 0; b < occupied; b++)
         set_next(image, b, b < root || b + 1 == occupied ? 1 : b + 1);
 
-    uint8_t *self = image + (size_t)root * BLOCK;
-    self[TYPE] = TYPE_SELF;
-    put32(self + SELF_BLOCK, root);
-    put32(self + SELF_PARENT, root);
-    put32(self + BLOCKS, root_blocks);
-    put64(self + CREATED, time);
-    put64(self + MODIFIED, time);
-    image[(size_t)occupied * BLOCK - SLOT + TYPE] = TYPE_END;
+    put_directory(image, root, root, occupied - 1, root_blocks, time);
     return BULGEFS_OK;
 }
 
@@ -180,32 +202,29 @@ uint32_t ENTRY(journal_start)(uint8_t *journal, size_t journal_len)
     return BULGEFS_OK;
 }
 
-bulgefs_created ENTRY(create)(uint8_t *image, size_t image_len,
-                              uint8_t *journal, size_t journal_len,
-                              const uint8_t *name, size_t name_len,
-                              uint8_t type, uint8_t user, uint8_t group,
-                              uint8_t permissions, uint32_t flags, uint64_t time)
+/* Weighs 10, 11 and 13 for something new; on success fills its slot. */
+static uint32_t find_room(const uint8_t *image, const volume *v, const uint8_t *path,
+                          size_t path_len, target *to)
 {
-    volume v;
-    uint32_t number = check_both(image, image_len, journal, journal_len, &v);
-    if (number != BULGEFS_OK)
-        return (bulgefs_created){number, 0, 0};
-    if (!good_name(name, name_len) || !is_file(type))
-        return (bulgefs_created){BULGEFS_BAD_ARGUMENT, 0, 0};
-    if (find(image, &v, name, name_len) != 0)
-        return (bulgefs_created){BULGEFS_NAME_TAKEN, 0, 0};
-    uint32_t end = slot_count(&v) - 1;
-    uint32_t slot = 1;
-    while (slot < end && image[slot_at(&v, slot) + TYPE] != TYPE_FREE)
-        slot++;
-    if (slot == end)
-        return (bulgefs_created){BULGEFS_DIRECTORY_FULL, 0, 0};
-    block_set named = {{0}};
-    add(&named, v.root[slot / 4]);
-    uint32_t record = save(image, v.n, &named, journal, journal_len);
-    if (record == 0)
-        return (bulgefs_created){BULGEFS_JOURNAL_FULL, 0, 0};
-    uint8_t *entry = image + slot_at(&v, slot);
+    if (!follow(image, v, path, path_len, to))
+        return BULGEFS_NOT_FOUND;
+    if (to->slot != 0)
+        return BULGEFS_NAME_TAKEN;
+    to->slot = 1;
+    while (to->slot < end_slot(&to->home) && image[slot_at(&to->home, to->slot) + TYPE] != TYPE_FREE)
+        to->slot++;
+    return to->slot == end_slot(&to->home) ? BULGEFS_DIRECTORY_FULL : BULGEFS_OK;
+}
+
+static uint32_t block_of(const target *to)
+{
+    return to->home.blocks[to->slot / 4];
+}
+
+static uint8_t *put_entry(uint8_t *image, const target *to, uint8_t type, uint8_t user,
+                          uint8_t group, uint8_t permissions, uint32_t flags, uint64_t time)
+{
+    uint8_t *entry = image + slot_at(&to->home, to->slot);
     memset(entry, 0, SLOT);
     entry[TYPE] = type;
     entry[USER] = user;
@@ -214,8 +233,32 @@ bulgefs_created ENTRY(create)(uint8_t *image, size_t image_len,
     put64(entry + CREATED, time);
     put64(entry + MODIFIED, time);
     put32(entry + FLAGS, flags);
-    memcpy(entry + NAME, name, name_len);
-    return (bulgefs_created){BULGEFS_OK, slot, record};
+    memcpy(entry + NAME, to->name, to->name_len);
+    return entry;
+}
+
+bulgefs_created ENTRY(create)(uint8_t *image, size_t image_len,
+                              uint8_t *journal, size_t journal_len,
+                              const uint8_t *path, size_t path_len,
+                              uint8_t type, uint8_t user, uint8_t group,
+                              uint8_t permissions, uint32_t flags, uint64_t time)
+{
+    volume v;
+    target to;
+    uint32_t number = check_both(image, image_len, journal, journal_len, &v);
+    if (number == BULGEFS_OK)
+        number = path_refusal(path, path_len, is_file(type), 1);
+    if (number == BULGEFS_OK)
+        number = find_room(image, &v, path, path_len, &to);
+    if (number != BULGEFS_OK)
+        return (bulgefs_created){number, 0, 0};
+    block_set named = {{0}};
+    add(&named, block_of(&to));
+    uint32_t record = save(image, v.n, &named, journal, journal_len);
+    if (record == 0)
+        return (bulgefs_created){BULGEFS_JOURNAL_FULL, 0, 0};
+    put_entry(image, &to, type, user, group, permissions, flags, time);
+    return (bulgefs_created){BULGEFS_OK, to.slot, record};
 }
 
 /* Adds by (which may wrap to a negative step) to occupied, and takes it off free. */
@@ -261,7 +304,7 @@ static void scatter(uint8_t *image, uint32_t b, uint32_t at, const uint8_t *data
     }
 }
 
-/* What a write is about to do. */
+/* What a write, or a new directory, is about to do. */
 typedef struct {
     uint32_t offset, end;       /* the written bytes                    */
     uint32_t blocks, last;      /* the file's blocks and its last block */
@@ -298,20 +341,18 @@ static void name_taken(const plan *p, block_set *named)
 
 bulgefs_changed ENTRY(write)(uint8_t *image, size_t image_len,
                              uint8_t *journal, size_t journal_len,
-                             const uint8_t *name, size_t name_len,
+                             const uint8_t *path, size_t path_len,
                              uint64_t offset, const uint8_t *data, size_t data_len,
                              uint64_t time)
 {
     volume v;
-    uint32_t slot;
+    target to;
     uint32_t number = check_both(image, image_len, journal, journal_len, &v);
-    if (number == BULGEFS_OK && data_len > BULGEFS_MAX_DATA)
-        number = BULGEFS_BAD_ARGUMENT;
     if (number == BULGEFS_OK)
-        number = find_file(image, &v, name, name_len, &slot);
+        number = find_file(image, &v, path, path_len, data_len <= BULGEFS_MAX_DATA, &to);
     if (number != BULGEFS_OK)
         return (bulgefs_changed){number, 0};
-    uint8_t *entry = image + slot_at(&v, slot);
+    uint8_t *entry = image + slot_at(&to.home, to.slot);
     uint32_t size = get32(entry + SIZE);
     if (offset > size)
         return (bulgefs_changed){BULGEFS_BAD_OFFSET, 0};
@@ -326,7 +367,7 @@ bulgefs_changed ENTRY(write)(uint8_t *image, size_t image_len,
     lowest_free(image, p.count, p.taken);
 
     block_set named = {{0}};
-    add(&named, v.root[slot / 4]);
+    add(&named, block_of(&to));
     name_written(image, entry, &p, &named);
     name_taken(&p, &named);
     uint32_t record = save(image, v.n, &named, journal, journal_len);
@@ -340,26 +381,19 @@ bulgefs_changed ENTRY(write)(uint8_t *image, size_t image_len,
     return (bulgefs_changed){BULGEFS_OK, record};
 }
 
-bulgefs_changed ENTRY(delete)(uint8_t *image, size_t image_len,
-                              uint8_t *journal, size_t journal_len,
-                              const uint8_t *name, size_t name_len)
+/* Removes a file or an empty directory.  Weighs 15. */
+static bulgefs_changed release(uint8_t *image, const volume *v, uint8_t *journal,
+                               size_t journal_len, const target *to)
 {
-    volume v;
-    uint32_t slot;
-    uint32_t number = check_both(image, image_len, journal, journal_len, &v);
-    if (number == BULGEFS_OK)
-        number = find_file(image, &v, name, name_len, &slot);
-    if (number != BULGEFS_OK)
-        return (bulgefs_changed){number, 0};
-    uint8_t *entry = image + slot_at(&v, slot);
+    uint8_t *entry = image + slot_at(&to->home, to->slot);
     uint32_t blocks = get32(entry + BLOCKS);
     block_set named = {{0}};
-    add(&named, v.root[slot / 4]);
+    add(&named, block_of(to));
     if (blocks > 0)
         add(&named, 0);
     for (uint32_t i = 0, b = get32(entry + FIRST); i < blocks; i++, b = next_of(image, b))
         add(&named, table_block(b));
-    uint32_t record = save(image, v.n, &named, journal, journal_len);
+    uint32_t record = save(image, v->n, &named, journal, journal_len);
     if (record == 0)
         return (bulgefs_changed){BULGEFS_JOURNAL_FULL, 0};
     uint32_t b = get32(entry + FIRST);
@@ -371,6 +405,91 @@ bulgefs_changed ENTRY(delete)(uint8_t *image, size_t image_len,
     count_blocks(image, 0u - blocks);
     memset(entry, 0, SLOT);
     return (bulgefs_changed){BULGEFS_OK, record};
+}
+
+bulgefs_changed ENTRY(delete)(uint8_t *image, size_t image_len,
+                              uint8_t *journal, size_t journal_len,
+                              const uint8_t *path, size_t path_len)
+{
+    volume v;
+    target to;
+    uint32_t number = check_both(image, image_len, journal, journal_len, &v);
+    if (number == BULGEFS_OK)
+        number = find_file(image, &v, path, path_len, true, &to);
+    if (number != BULGEFS_OK)
+        return (bulgefs_changed){number, 0};
+    return release(image, &v, journal, journal_len, &to);
+}
+
+/* ---- entry points for directories ---- */
+
+bulgefs_created ENTRY(create_directory)(uint8_t *image, size_t image_len,
+                                        uint8_t *journal, size_t journal_len,
+                                        const uint8_t *path, size_t path_len,
+                                        uint8_t type, uint8_t user, uint8_t group,
+                                        uint8_t permissions, uint32_t flags,
+                                        uint32_t blocks, uint64_t time)
+{
+    volume v;
+    target to;
+    bool good = is_directory(type) && blocks >= BULGEFS_MIN_DIRECTORY_BLOCKS
+        && blocks <= BULGEFS_MAX_DIRECTORY_BLOCKS;
+    uint32_t number = check_both(image, image_len, journal, journal_len, &v);
+    if (number == BULGEFS_OK)
+        number = path_refusal(path, path_len, good, 0);
+    if (number == BULGEFS_OK)
+        number = find_room(image, &v, path, path_len, &to);
+    if (number == BULGEFS_OK && blocks > get32(image + FREE))
+        number = BULGEFS_VOLUME_FULL;
+    if (number != BULGEFS_OK)
+        return (bulgefs_created){number, 0, 0};
+    plan p = {0, 0, 0, 0, blocks, {0}};
+    lowest_free(image, p.count, p.taken);
+    block_set named = {{0}};
+    add(&named, block_of(&to));
+    name_taken(&p, &named);
+    uint32_t record = save(image, v.n, &named, journal, journal_len);
+    if (record == 0)
+        return (bulgefs_created){BULGEFS_JOURNAL_FULL, 0, 0};
+    uint8_t *entry = put_entry(image, &to, type, user, group, permissions, flags, time);
+    grow(image, entry, 0, p.taken, p.count);
+    put_directory(image, p.taken[0], to.home.blocks[0], p.taken[blocks - 1], blocks, time);
+    memcpy(image + (size_t)p.taken[0] * BLOCK + NAME, to.name, to.name_len);
+    return (bulgefs_created){BULGEFS_OK, to.slot, record};
+}
+
+/* Weighs 9, 17, 10 and 18 for a directory that is to go. */
+static uint32_t find_empty(const uint8_t *image, const volume *v, const uint8_t *path,
+                           size_t path_len, target *to)
+{
+    directory dir;
+    uint32_t number = path_refusal(path, path_len, true, 0);
+    if (number != BULGEFS_OK)
+        return number;
+    if (!follow(image, v, path, path_len, to) || to->slot == 0)
+        return BULGEFS_NOT_FOUND;
+    const uint8_t *entry = image + slot_at(&to->home, to->slot);
+    if (!is_directory(entry[TYPE]))
+        return BULGEFS_NOT_FOUND;
+    open_directory(image, get32(entry + FIRST), &dir);
+    for (uint32_t s = 1; s < end_slot(&dir); s++)
+        if (image[slot_at(&dir, s) + TYPE] != TYPE_FREE)
+            return BULGEFS_NOT_EMPTY;
+    return BULGEFS_OK;
+}
+
+bulgefs_changed ENTRY(delete_directory)(uint8_t *image, size_t image_len,
+                                        uint8_t *journal, size_t journal_len,
+                                        const uint8_t *path, size_t path_len)
+{
+    volume v;
+    target to;
+    uint32_t number = check_both(image, image_len, journal, journal_len, &v);
+    if (number == BULGEFS_OK)
+        number = find_empty(image, &v, path, path_len, &to);
+    if (number != BULGEFS_OK)
+        return (bulgefs_changed){number, 0};
+    return release(image, &v, journal, journal_len, &to);
 }
 
 bulgefs_changed ENTRY(undo)(uint8_t *image, size_t image_len,

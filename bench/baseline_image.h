@@ -1,6 +1,6 @@
 /*
  * The baseline's view of an image and a journal: numbers, the table, the
- * directory, the check, and the journal's records.  Part of baseline.c alone.
+ * directories, paths, the check, and the journal's records.  Part of baseline.c alone.
  */
 #ifndef BASELINE_IMAGE_H
 #define BASELINE_IMAGE_H
@@ -31,8 +31,8 @@ enum {
 
     TYPE_FREE = 0x00, TYPE_SELF = 0x01, TYPE_END = 0xFF,
 
-    /* A write touches at most 9 blocks of a file and takes at most 8. */
-    MAX_TAKEN = 9
+    /* A write takes at most 8 blocks, a new directory as many as it may have. */
+    MAX_TAKEN = BULGEFS_MAX_DIRECTORY_BLOCKS
 };
 
 static const uint8_t signature[12] = {'B', 'u', 'l', 'g', 'e', 'F', 'S', '!', 0, 1, 0, 0};
@@ -40,11 +40,14 @@ static const uint8_t signature[12] = {'B', 'u', 'l', 'g', 'e', 'F', 'S', '!', 0,
 /* One flag per block of the largest image. */
 typedef struct { uint8_t bits[BULGEFS_MAX_BLOCKS / 8]; } block_set;
 
-/* What the check finds out about an image. */
+/* The blocks of an image, and those of its table. */
+typedef struct { uint32_t n, t; } volume;
+
+/* A directory: its blocks in chain order. */
 typedef struct {
-    uint32_t n, t, d;
-    uint32_t root[BULGEFS_MAX_ROOT_BLOCKS];
-} volume;
+    uint32_t d;
+    uint32_t blocks[BULGEFS_MAX_DIRECTORY_BLOCKS];
+} directory;
 
 /* ---- numbers and sets ---- */
 
@@ -116,16 +119,24 @@ static bool walk(const uint8_t *image, const volume *v, uint32_t first, uint32_t
     return count == 0 || b == 1;
 }
 
-/* ---- the directory ---- */
+/* ---- directories ---- */
 
-static uint32_t slot_count(const volume *v)
+/* Fills in the directory that starts with block first.  Its chain is right. */
+static void open_directory(const uint8_t *image, uint32_t first, directory *dir)
 {
-    return BULGEFS_SLOTS_PER_BLOCK * v->d;
+    dir->d = get32(image + (size_t)first * BLOCK + BLOCKS);
+    for (uint32_t i = 0, b = first; i < dir->d; i++, b = next_of(image, b))
+        dir->blocks[i] = b;
 }
 
-static size_t slot_at(const volume *v, uint32_t slot)
+static uint32_t end_slot(const directory *dir)
 {
-    return (size_t)v->root[slot / 4] * BLOCK + slot % 4 * SLOT;
+    return BULGEFS_SLOTS_PER_BLOCK * dir->d - 1;
+}
+
+static size_t slot_at(const directory *dir, uint32_t slot)
+{
+    return (size_t)dir->blocks[slot / 4] * BLOCK + slot % 4 * SLOT;
 }
 
 static bool is_file(uint8_t type)
@@ -133,9 +144,9 @@ static bool is_file(uint8_t type)
     return type >= BULGEFS_MIN_FILE_TYPE && type <= BULGEFS_MAX_FILE_TYPE;
 }
 
-static bool good_name(const uint8_t *name, size_t len)
+static bool is_directory(uint8_t type)
 {
-    return len >= 1 && len <= BULGEFS_MAX_NAME && memchr(name, 0, len) == NULL;
+    return type >= BULGEFS_MIN_DIRECTORY_TYPE && type <= BULGEFS_MAX_DIRECTORY_TYPE;
 }
 
 static bool good_name_field(const uint8_t *field)
@@ -143,86 +154,165 @@ static bool good_name_field(const uint8_t *field)
     size_t len = 0;
     while (len < NAME_FIELD && field[len] != 0)
         len++;
-    if (len == 0)
+    if (len == 0 || memchr(field, '/', len) != NULL)
         return false;
     while (len < NAME_FIELD && field[len] == 0)
         len++;
     return len == NAME_FIELD;
 }
 
-/* The file of a good name; 0, the self entry's slot, if there is none. */
-static uint32_t find(const uint8_t *image, const volume *v, const uint8_t *name, size_t len)
+/* The slot of a good name; 0, the self entry's slot, if there is none. */
+static uint32_t find(const uint8_t *image, const directory *dir, const uint8_t *name, size_t len)
 {
     uint8_t field[NAME_FIELD] = {0};
     memcpy(field, name, len);
-    for (uint32_t s = 1; s + 1 < slot_count(v); s++) {
-        const uint8_t *slot = image + slot_at(v, s);
+    for (uint32_t s = 1; s < end_slot(dir); s++) {
+        const uint8_t *slot = image + slot_at(dir, s);
         if (slot[TYPE] != TYPE_FREE && memcmp(slot + NAME, field, NAME_FIELD) == 0)
             return s;
     }
     return 0;
 }
 
-/* ---- the check ---- */
+/* ---- paths ---- */
 
-static bool good_root(const uint8_t *image, volume *v, block_set *seen)
+/* The number of names in a path; 0 if it is none. */
+static size_t count_names(const uint8_t *path, size_t len)
 {
-    uint32_t first = v->t + 1;
-    const uint8_t *self = image + (size_t)first * BLOCK;
-    v->d = get32(self + BLOCKS);
-    if (self[TYPE] != TYPE_SELF || get32(self + SELF_BLOCK) != first
-        || get32(self + SELF_PARENT) != first || v->d < BULGEFS_MIN_ROOT_BLOCKS
-        || v->d > BULGEFS_MAX_ROOT_BLOCKS || !walk(image, v, first, v->d, seen))
-        return false;
-    for (uint32_t i = 0, b = first; i < v->d; i++, b = next_of(image, b))
-        v->root[i] = b;
-    return true;
+    size_t names = 0, at = 0;
+    while (at < len) {
+        size_t start = at + 1, end = start;
+        while (end < len && path[end] != '/')
+            end++;
+        if (path[at] != '/' || end == start || end - start > BULGEFS_MAX_NAME
+            || memchr(path + start, 0, end - start) != NULL)
+            return 0;
+        names++;
+        at = end;
+    }
+    return names;
 }
 
-static bool good_file(const uint8_t *slot)
+/* Where a path leads: its last name, the directory for it, and its slot or 0. */
+typedef struct {
+    directory home;
+    const uint8_t *name;
+    size_t name_len;
+    uint32_t slot;
+} target;
+
+/* Follows a good path.  False if it goes through a file or a missing part. */
+static bool follow(const uint8_t *image, const volume *v, const uint8_t *path, size_t len,
+                   target *to)
+{
+    uint32_t first = v->t + 1;
+    for (;;) {
+        const uint8_t *slash = memchr(path + 1, '/', len - 1);
+        to->name = path + 1;
+        to->name_len = slash == NULL ? len - 1 : (size_t)(slash - path) - 1;
+        open_directory(image, first, &to->home);
+        to->slot = find(image, &to->home, to->name, to->name_len);
+        if (slash == NULL)
+            return true;
+        const uint8_t *entry = image + slot_at(&to->home, to->slot);
+        if (to->slot == 0 || !is_directory(entry[TYPE]))
+            return false;
+        first = get32(entry + FIRST);
+        len -= (size_t)(slash - path);
+        path = slash;
+    }
+}
+
+/* ---- the check ---- */
+
+/* What a directory must say of itself: its entry has it, of the root the rules. */
+typedef struct {
+    uint32_t first, parent, d;
+    const uint8_t *name;        /* its field; NULL for the root */
+} expected;
+
+static bool good_self(const uint8_t *image, const volume *v, const expected *e, block_set *seen)
+{
+    if (e->first <= v->t || e->first >= v->n)
+        return false;
+    const uint8_t *self = image + (size_t)e->first * BLOCK;
+    return self[TYPE] == TYPE_SELF && get32(self + SELF_BLOCK) == e->first
+        && get32(self + SELF_PARENT) == e->parent && get32(self + BLOCKS) == e->d
+        && e->d >= BULGEFS_MIN_DIRECTORY_BLOCKS && e->d <= BULGEFS_MAX_DIRECTORY_BLOCKS
+        && (e->name == NULL || memcmp(self + NAME, e->name, NAME_FIELD) == 0)
+        && walk(image, v, e->first, e->d, seen);
+}
+
+static bool good_entry(const uint8_t *slot)
 {
     uint32_t size = get32(slot + SIZE);
-    return good_name_field(slot + NAME)
-        && get32(slot + ATTRIBUTE_BLOCK) == 0 && get32(slot + ATTRIBUTE_SIZE) == 0
-        && get32(slot + BLOCKS) == blocks_for(size)
+    if (!good_name_field(slot + NAME) || get32(slot + ATTRIBUTE_BLOCK) != 0
+        || get32(slot + ATTRIBUTE_SIZE) != 0)
+        return false;
+    if (is_directory(slot[TYPE]))
+        return size == 0;
+    return is_file(slot[TYPE]) && get32(slot + BLOCKS) == blocks_for(size)
         && (get32(slot + FIRST) == 0) == (size == 0);
 }
 
-static bool name_is_new(const uint8_t *image, const volume *v, uint32_t slot)
+static bool name_is_new(const uint8_t *image, const directory *dir, uint32_t slot)
 {
-    const uint8_t *name = image + slot_at(v, slot) + NAME;
+    const uint8_t *name = image + slot_at(dir, slot) + NAME;
     for (uint32_t s = 1; s < slot; s++) {
-        const uint8_t *other = image + slot_at(v, s);
+        const uint8_t *other = image + slot_at(dir, s);
         if (other[TYPE] != TYPE_FREE && memcmp(other + NAME, name, NAME_FIELD) == 0)
             return false;
     }
     return true;
 }
 
-static bool good_directory(const uint8_t *image, const volume *v)
+/* Stages 4 and 5 of a directory and all below it: the first fault met. */
+static uint32_t check_directory(const uint8_t *image, const volume *v, const expected *e,
+                                uint32_t level, block_set *seen)
 {
-    uint32_t end = slot_count(v) - 1;
-    if (image[slot_at(v, end) + TYPE] != TYPE_END)
-        return false;
-    for (uint32_t s = 1; s < end; s++) {
-        const uint8_t *slot = image + slot_at(v, s);
+    directory dir;
+    if (level > BULGEFS_MAX_LEVELS || !good_self(image, v, e, seen))
+        return BULGEFS_BAD_SELF;
+    open_directory(image, e->first, &dir);
+    if (image[slot_at(&dir, end_slot(&dir)) + TYPE] != TYPE_END)
+        return BULGEFS_BAD_SLOT;
+    for (uint32_t s = 1; s < end_slot(&dir); s++) {
+        const uint8_t *slot = image + slot_at(&dir, s);
         if (slot[TYPE] == TYPE_FREE)
             continue;
-        if (!is_file(slot[TYPE]) || !good_file(slot) || !name_is_new(image, v, s))
+        if (!good_entry(slot) || !name_is_new(image, &dir, s))
+            return BULGEFS_BAD_SLOT;
+        if (is_directory(slot[TYPE])) {
+            expected child = {get32(slot + FIRST), e->first, get32(slot + BLOCKS), slot + NAME};
+            uint32_t number = check_directory(image, v, &child, level + 1, seen);
+            if (number != BULGEFS_OK)
+                return number;
+        }
+    }
+    return BULGEFS_OK;
+}
+
+/* The chains of all files in a directory and below it. */
+static bool good_files(const uint8_t *image, const volume *v, uint32_t first, block_set *seen)
+{
+    directory dir;
+    open_directory(image, first, &dir);
+    for (uint32_t s = 1; s < end_slot(&dir); s++) {
+        const uint8_t *slot = image + slot_at(&dir, s);
+        uint32_t start = get32(slot + FIRST);
+        if (is_directory(slot[TYPE]) && !good_files(image, v, start, seen))
+            return false;
+        if (is_file(slot[TYPE]) && !walk(image, v, start, get32(slot + BLOCKS), seen))
             return false;
     }
     return true;
 }
 
-/* seen holds the root's blocks when this is called. */
+/* seen holds the blocks of all directories when this is called. */
 static bool good_table(const uint8_t *image, const volume *v, block_set *seen)
 {
-    for (uint32_t s = 1; s + 1 < slot_count(v); s++) {
-        const uint8_t *slot = image + slot_at(v, s);
-        if (slot[TYPE] != TYPE_FREE
-            && !walk(image, v, get32(slot + FIRST), get32(slot + BLOCKS), seen))
-            return false;
-    }
+    if (!good_files(image, v, v->t + 1, seen))
+        return false;
     for (uint32_t b = 0; b < v->t * ENTRIES; b++) {
         uint32_t value = next_of(image, b);
         if (b <= v->t ? value != 1 : value != 0 && (b >= v->n || !has(seen, b)))
@@ -262,10 +352,11 @@ static uint32_t check(const uint8_t *image, size_t len, volume *v)
     if (get32(image + TOTAL) != v->n || get32(image + TABLE) != v->t
         || get32(image + ROOT) != v->t + 1)
         return BULGEFS_BAD_GEOMETRY;
-    if (!good_root(image, v, &seen))
-        return BULGEFS_BAD_ROOT;
-    if (!good_directory(image, v))
-        return BULGEFS_BAD_DIRECTORY;
+    uint32_t first = v->t + 1;
+    expected root = {first, first, get32(image + (size_t)first * BLOCK + BLOCKS), NULL};
+    uint32_t number = check_directory(image, v, &root, 0, &seen);
+    if (number != BULGEFS_OK)
+        return number;
     if (!good_table(image, v, &seen))
         return BULGEFS_BAD_CHAINS;
     if (!good_counts(image, v))

@@ -1,8 +1,9 @@
 /*
  * Times the library beside the plain C baseline, in one run, and prints a
  * Markdown table: microseconds per call, their ratio, and how much longer a
- * call takes when the number of blocks doubles.  Before it times a volume it
- * makes the calls on both sides, which must agree in every byte.
+ * call takes when the number of blocks doubles.  900 files lie in 9 folders.
+ * Before it times a volume it makes the calls on both sides, which must agree
+ * in every byte.
  *
  * The baseline is baseline.c compiled with -DBULGEFS_PREFIX=baseline_.
  */
@@ -23,6 +24,11 @@ bulgefs_filled baseline_read(const uint8_t *, size_t, const uint8_t *, size_t, u
 bulgefs_changed baseline_write(uint8_t *, size_t, uint8_t *, size_t, const uint8_t *, size_t,
                                uint64_t, const uint8_t *, size_t, uint64_t);
 bulgefs_changed baseline_delete(uint8_t *, size_t, uint8_t *, size_t, const uint8_t *, size_t);
+bulgefs_created baseline_create_directory(uint8_t *, size_t, uint8_t *, size_t, const uint8_t *,
+                                          size_t, uint8_t, uint8_t, uint8_t, uint8_t, uint32_t,
+                                          uint32_t, uint64_t);
+bulgefs_changed baseline_delete_directory(uint8_t *, size_t, uint8_t *, size_t, const uint8_t *,
+                                          size_t);
 bulgefs_changed baseline_undo(uint8_t *, size_t, uint8_t *, size_t);
 
 /* The calls of one side. */
@@ -34,25 +40,33 @@ typedef struct {
     bulgefs_changed (*write)(uint8_t *, size_t, uint8_t *, size_t, const uint8_t *, size_t,
                              uint64_t, const uint8_t *, size_t, uint64_t);
     bulgefs_changed (*delete)(uint8_t *, size_t, uint8_t *, size_t, const uint8_t *, size_t);
+    bulgefs_created (*create_directory)(uint8_t *, size_t, uint8_t *, size_t, const uint8_t *,
+                                        size_t, uint8_t, uint8_t, uint8_t, uint8_t, uint32_t,
+                                        uint32_t, uint64_t);
+    bulgefs_changed (*delete_directory)(uint8_t *, size_t, uint8_t *, size_t, const uint8_t *,
+                                        size_t);
     bulgefs_changed (*undo)(uint8_t *, size_t, uint8_t *, size_t);
 } side;
 
 enum { OURS, BASELINE, SIDES };
 
 static const side sides[SIDES] = {
-    {bulgefs_check, bulgefs_lookup, bulgefs_read, bulgefs_write, bulgefs_delete, bulgefs_undo},
+    {bulgefs_check, bulgefs_lookup, bulgefs_read, bulgefs_write, bulgefs_delete,
+     bulgefs_create_directory, bulgefs_delete_directory, bulgefs_undo},
     {baseline_check, baseline_lookup, baseline_read, baseline_write, baseline_delete,
-     baseline_undo},
+     baseline_create_directory, baseline_delete_directory, baseline_undo},
 };
 
-enum { CHECK, LOOKUP, READ, WRITE, DELETE, UNDO, CALLS };
+enum { CHECK, LOOKUP, READ, WRITE, DELETE, CREATE_DIRECTORY, DELETE_DIRECTORY, UNDO, CALLS };
 
 static const char *const call_names[CALLS] = {"check", "lookup", "read", "write", "delete",
-                                              "undo"};
+                                              "create directory", "delete directory", "undo"};
 
 static const uint32_t block_counts[] = {16, 256, 1024, 4096};
-static const uint32_t file_counts[] = {10, 100, 250};
-enum { NS = 4, FILES = 3, SAMPLES = 9, SAMPLE_NS = 3000000, JOURNAL = 65536, DATA = 1000 };
+/* The last lie in folders, a hundred in each; all others in the root. */
+static const uint32_t file_counts[] = {10, 100, 250, 900};
+enum { IN_FOLDER = 100, FOLDER_BLOCKS = 26 };
+enum { NS = 4, FILES = 4, SAMPLES = 9, SAMPLE_NS = 3000000, JOURNAL = 65536, DATA = 1000 };
 
 static uint8_t image[4096 * 512], journal[JOURNAL], data[DATA], buffer[4096];
 static size_t image_len;
@@ -75,36 +89,65 @@ static void require(uint32_t number, const char *what)
     }
 }
 
-static size_t file_name(uint32_t i, uint8_t *name)
+/* How many folders hold so many files: none if the root does. */
+static uint32_t folder_count(uint32_t files)
 {
-    return (size_t)snprintf((char *)name, 80, "settings of serial number %06u", (unsigned)i);
+    return files > 250 ? files / IN_FOLDER : 0;
+}
+
+static size_t folder_path(uint32_t i, uint8_t *path)
+{
+    return (size_t)snprintf((char *)path, 160, "/venue number %06u", (unsigned)i);
+}
+
+/* The path of file i of so many. */
+static size_t file_path(uint32_t i, uint32_t files, uint8_t *path)
+{
+    size_t len = folder_count(files) > 0 ? folder_path(i / IN_FOLDER, path) : 0;
+    return len + (size_t)snprintf((char *)path + len, 80, "/settings of serial number %06u",
+                                  (unsigned)i);
+}
+
+static void make_folders(uint32_t count)
+{
+    for (uint32_t i = 0; i < count; i++) {
+        uint8_t path[160];
+        size_t len = folder_path(i, path);
+        require(bulgefs_journal_start(journal, JOURNAL), "start");
+        require(bulgefs_create_directory(image, image_len, journal, JOURNAL, path, len, 0x20, 0,
+                                         0, 0, 0, FOLDER_BLOCKS, 1).number,
+                "create directory");
+    }
 }
 
 /*
  * A volume of n blocks and so many files.  Every second file has a block, as
- * long as some stay free; the last file has a few.  Gives 0 if they do not fit.
+ * long as some stay free; the last file has a few.  One slot of the root stays
+ * free.  Gives 0 if they do not fit.
  */
 static int make_volume(uint32_t n, uint32_t files)
 {
     static const uint8_t volume_name[128] = "bench";
     bulgefs_uuid uuid = {{0}};
-    uint32_t root = (files + 2 + 3) / 4;
-    uint32_t used = (n + 127) / 128 + 1 + root;
+    uint32_t folders = folder_count(files);
+    uint32_t root = ((folders > 0 ? folders : files) + 1 + 2 + 3) / 4;
+    uint32_t used = (n + 127) / 128 + 1 + root + folders * FOLDER_BLOCKS;
     if (used + 8 > n)
         return 0;
     uint32_t spare = n - used - 8;
     image_len = (size_t)n * 512;
     require(bulgefs_format(image, image_len, root, 1, uuid, volume_name, 128), "format");
+    make_folders(folders);
     for (uint32_t i = 0; i < files; i++) {
-        uint8_t name[80];
-        size_t len = file_name(i, name);
+        uint8_t path[160];
+        size_t len = file_path(i, files, path);
         size_t size = i + 1 == files ? DATA + 500 : i % 2 == 0 && spare > 0 ? 100 : 0;
         spare -= size == 100;
         require(bulgefs_journal_start(journal, JOURNAL), "start");
-        require(bulgefs_create(image, image_len, journal, JOURNAL, name, len, 0x60, 0, 0, 0, 0,
+        require(bulgefs_create(image, image_len, journal, JOURNAL, path, len, 0x60, 0, 0, 0, 0,
                                1).number,
                 "create");
-        require(bulgefs_write(image, image_len, journal, JOURNAL, name, len, 0, buffer, size,
+        require(bulgefs_write(image, image_len, journal, JOURNAL, path, len, 0, buffer, size,
                               2).number,
                 "write");
     }
@@ -112,23 +155,35 @@ static int make_volume(uint32_t n, uint32_t files)
     return 1;
 }
 
+static const uint8_t new_folder[] = "/one more venue";
+enum { NEW_FOLDER = sizeof new_folder - 1, NEW_BLOCKS = 2 };
+
 /* Makes every call once and adds the time of each. */
-static void make_calls(const side *s, const uint8_t *name, size_t len, double *sum)
+static void make_calls(const side *s, const uint8_t *path, size_t len, double *sum)
 {
-    double t[7];
+    double t[10];
     t[0] = now();
     uint32_t number = s->check(image, image_len);
     t[1] = now();
-    number |= s->lookup(image, image_len, name, len).number;
+    number |= s->lookup(image, image_len, path, len).number;
     t[2] = now();
-    number |= s->read(image, image_len, name, len, 0, buffer, sizeof buffer).number;
+    number |= s->read(image, image_len, path, len, 0, buffer, sizeof buffer).number;
     t[3] = now();
-    number |= s->write(image, image_len, journal, JOURNAL, name, len, 1000, data, DATA, 3).number;
+    number |= s->write(image, image_len, journal, JOURNAL, path, len, 1000, data, DATA, 3).number;
     t[4] = now();
     number |= s->undo(image, image_len, journal, JOURNAL).number;
     t[5] = now();
-    number |= s->delete(image, image_len, journal, JOURNAL, name, len).number;
+    number |= s->delete(image, image_len, journal, JOURNAL, path, len).number;
     t[6] = now();
+    number |= s->undo(image, image_len, journal, JOURNAL).number;
+    t[7] = now();
+    number |= s->create_directory(image, image_len, journal, JOURNAL, new_folder, NEW_FOLDER,
+                                  0x20, 0, 0, 0, 0, NEW_BLOCKS, 4).number;
+    t[8] = now();
+    number |= s->delete_directory(image, image_len, journal, JOURNAL, new_folder,
+                                  NEW_FOLDER).number;
+    t[9] = now();
+    number |= s->undo(image, image_len, journal, JOURNAL).number;
     number |= s->undo(image, image_len, journal, JOURNAL).number;
     require(number, "a timed call");
     sum[CHECK] += t[1] - t[0];
@@ -137,27 +192,35 @@ static void make_calls(const side *s, const uint8_t *name, size_t len, double *s
     sum[WRITE] += t[4] - t[3];
     sum[UNDO] += t[5] - t[4];
     sum[DELETE] += t[6] - t[5];
+    sum[CREATE_DIRECTORY] += t[8] - t[7];
+    sum[DELETE_DIRECTORY] += t[9] - t[8];
 }
 
 /* Ends the program if the two sides differ in an answer, the image or the journal. */
-static void compare_sides(const uint8_t *name, size_t len)
+static void compare_sides(const uint8_t *path, size_t len)
 {
     static uint8_t images[SIDES][sizeof image], journals[SIDES][JOURNAL], buffers[SIDES][4096];
     bulgefs_found found[SIDES];
-    bulgefs_changed changed[SIDES][4];
+    bulgefs_created created[SIDES];
+    bulgefs_changed changed[SIDES][5];
     for (int s = 0; s < SIDES; s++) {
         uint8_t *i = images[s], *j = journals[s];
         memcpy(i, image, image_len);
         memcpy(j, journal, JOURNAL);
         require(sides[s].check(i, image_len), "check");
-        found[s] = sides[s].lookup(i, image_len, name, len);
-        sides[s].read(i, image_len, name, len, 0, buffers[s], sizeof buffers[s]);
-        changed[s][0] = sides[s].write(i, image_len, j, JOURNAL, name, len, 1000, data, DATA, 3);
-        changed[s][1] = sides[s].write(i, image_len, j, JOURNAL, name, len, 2000, data, 1, 4);
+        found[s] = sides[s].lookup(i, image_len, path, len);
+        sides[s].read(i, image_len, path, len, 0, buffers[s], sizeof buffers[s]);
+        changed[s][0] = sides[s].write(i, image_len, j, JOURNAL, path, len, 1000, data, DATA, 3);
+        changed[s][1] = sides[s].write(i, image_len, j, JOURNAL, path, len, 2000, data, 1, 4);
         changed[s][2] = sides[s].undo(i, image_len, j, JOURNAL);
-        changed[s][3] = sides[s].delete(i, image_len, j, JOURNAL, name, len);
+        changed[s][3] = sides[s].delete(i, image_len, j, JOURNAL, path, len);
+        created[s] = sides[s].create_directory(i, image_len, j, JOURNAL, new_folder, NEW_FOLDER,
+                                               0x20, 1, 2, 3, 4, NEW_BLOCKS, 5);
+        changed[s][4] = sides[s].delete_directory(i, image_len, j, JOURNAL, new_folder,
+                                                  NEW_FOLDER);
     }
     if (memcmp(&found[OURS], &found[BASELINE], sizeof found[OURS]) != 0
+        || memcmp(&created[OURS], &created[BASELINE], sizeof created[OURS]) != 0
         || memcmp(changed[OURS], changed[BASELINE], sizeof changed[OURS]) != 0
         || memcmp(buffers[OURS], buffers[BASELINE], sizeof buffers[OURS]) != 0
         || memcmp(images[OURS], images[BASELINE], image_len) != 0
@@ -177,18 +240,19 @@ static int ascending(const void *a, const void *b)
 static void measure(uint32_t n_index, uint32_t file_index)
 {
     double samples[SIDES][CALLS][SAMPLES];
-    uint8_t name[80];
-    if (!make_volume(block_counts[n_index], file_counts[file_index]))
+    uint32_t files = file_counts[file_index];
+    uint8_t path[160];
+    if (!make_volume(block_counts[n_index], files))
         return;
-    size_t len = file_name(file_counts[file_index] - 1, name);
-    compare_sides(name, len);
+    size_t len = file_path(files - 1, files, path);
+    compare_sides(path, len);
     for (int i = 0; i < SAMPLES; i++) {
         for (int s = 0; s < SIDES; s++) {
             double sum[CALLS] = {0};
             double begin = now();
             int calls = 0;
             for (; calls < 3 || now() - begin < SAMPLE_NS * 1e-9; calls++)
-                make_calls(&sides[s], name, len, sum);
+                make_calls(&sides[s], path, len, sum);
             for (int c = 0; c < CALLS; c++)
                 samples[s][c][i] = sum[c] / calls;
         }

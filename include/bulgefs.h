@@ -2,9 +2,9 @@
  * bulgefs.h - a verified settings volume (BulgeFS 0.1.0.0) with an undo journal.
  *
  * A volume is one run of bytes, the image: 512 * n bytes with n from 3 to
- * 65,536, holding one directory of named files.  A journal is a second run of
- * bytes.  Every accepted change adds one record to it, and bulgefs_undo takes
- * the last change back, byte for byte.
+ * 65,536, holding named files in a tree of directories.  A journal is a second
+ * run of bytes.  Every accepted change adds one record to it, and bulgefs_undo
+ * takes the last change back, byte for byte.
  *
  * The library keeps nothing between calls: no handles, no allocation, no
  * input or output, no global state.  A call takes at most BULGEFS_STACK bytes
@@ -23,8 +23,9 @@
  * Answers
  *   Every call but bulgefs_look_in_place answers a number: 0 (BULGEFS_OK) if
  *   the call was accepted, otherwise one of the refusals below.  If several
- *   refusals apply, the lowest is given.  A refused call changes no byte of
- *   any buffer, and all other fields of its answer are 0.
+ *   refusals apply, the first in this order is given: 1 to 9, 17, 10 to 12,
+ *   18, 13 to 16.  A refused call changes no byte of any buffer, and all other
+ *   fields of its answer are 0.
  */
 #ifndef BULGEFS_H
 #define BULGEFS_H
@@ -40,21 +41,28 @@ extern "C" {
 #define BULGEFS_BLOCK_SIZE         512u      /* bytes in a block                       */
 #define BULGEFS_MIN_BLOCKS         3u        /* blocks in the smallest image           */
 #define BULGEFS_MAX_BLOCKS         65536u    /* blocks in the largest image            */
-#define BULGEFS_MIN_ROOT_BLOCKS    1u        /* blocks of the smallest root directory  */
-#define BULGEFS_MAX_ROOT_BLOCKS    64u       /* blocks of the largest root directory   */
+#define BULGEFS_MIN_DIRECTORY_BLOCKS 1u      /* blocks of the smallest directory       */
+#define BULGEFS_MAX_DIRECTORY_BLOCKS 64u     /* blocks of the largest directory        */
 #define BULGEFS_SLOTS_PER_BLOCK    4u        /* directory slots in a block             */
-#define BULGEFS_MAX_NAME           80u       /* bytes in the longest file name         */
+#define BULGEFS_MAX_LEVELS         8u        /* levels of directories below the root   */
+#define BULGEFS_MAX_NAME           80u       /* bytes in the longest name              */
 #define BULGEFS_VOLUME_NAME_SIZE   128u      /* bytes of a volume name, always         */
 #define BULGEFS_MAX_DATA           4096u     /* bytes that one write accepts           */
+#define BULGEFS_MIN_DIRECTORY_TYPE 0x20u     /* lowest type of a directory             */
+#define BULGEFS_MAX_DIRECTORY_TYPE 0x5Fu     /* highest type of a directory            */
 #define BULGEFS_MIN_FILE_TYPE      0x60u     /* lowest type of a file                  */
 #define BULGEFS_MAX_FILE_TYPE      0x9Fu     /* highest type of a file                 */
 #define BULGEFS_MIN_JOURNAL        5u        /* bytes in the smallest journal          */
 #define BULGEFS_MAX_JOURNAL        67108864u /* bytes in the largest journal           */
-#define BULGEFS_STACK              147456u   /* bytes of stack that a call takes       */
+#define BULGEFS_STACK              262144u   /* bytes of stack that suffice for a call */
+
+/* The longest path of a file: each of its names after a '/'. */
+#define BULGEFS_MAX_PATH           ((BULGEFS_MAX_LEVELS + 1u) * (BULGEFS_MAX_NAME + 1u))
 
 /*
  * Length of a journal record that saves k blocks.  A create saves 1 block, a
- * write at most 20, a delete at most 510.
+ * write at most 20, a delete at most 510, that of a directory 66; a new
+ * directory at most 130.
  */
 #define BULGEFS_RECORD_SIZE(k)     (4u + 516u * (k))
 
@@ -66,28 +74,30 @@ enum bulgefs_number {
     BULGEFS_BAD_LENGTH      = 1,  /* length is not 512 * n with n from 3 to 65,536     */
     BULGEFS_BAD_SIGNATURE   = 2,  /* signature or version                              */
     BULGEFS_BAD_GEOMETRY    = 3,  /* total blocks, table blocks or root block          */
-    BULGEFS_BAD_ROOT        = 4,  /* self entry or chain of the root directory         */
-    BULGEFS_BAD_DIRECTORY   = 5,  /* a slot of the root directory                      */
+    BULGEFS_BAD_SELF        = 4,  /* self entry, chain or level of a directory         */
+    BULGEFS_BAD_SLOT        = 5,  /* another slot of a directory                       */
     BULGEFS_BAD_CHAINS      = 6,  /* a file's chain, or another entry of the table     */
     BULGEFS_BAD_COUNTS      = 7,  /* the header's counts of occupied and free blocks   */
 
     /* The image is sound, but the call cannot be done. */
     BULGEFS_BAD_JOURNAL     = 8,  /* the journal is not well formed                    */
-    BULGEFS_BAD_ARGUMENT    = 9,  /* bad name or type, too much data; see each call    */
-    BULGEFS_NOT_FOUND       = 10, /* no file of that name                              */
-    BULGEFS_NAME_TAKEN      = 11, /* create: a file of that name exists                */
+    BULGEFS_BAD_ARGUMENT    = 9,  /* bad path or type, too much data; see each call    */
+    BULGEFS_NOT_FOUND       = 10, /* no such file, or no such directory                */
+    BULGEFS_NAME_TAKEN      = 11, /* creates: a file or directory of that path exists  */
     BULGEFS_BAD_OFFSET      = 12, /* offset above the file's size                      */
-    BULGEFS_DIRECTORY_FULL  = 13, /* create: no free slot                              */
+    BULGEFS_DIRECTORY_FULL  = 13, /* creates: no free slot in the directory            */
     BULGEFS_VOLUME_FULL     = 14, /* fewer free blocks than needed                     */
     BULGEFS_JOURNAL_FULL    = 15, /* the record does not fit into the journal          */
     BULGEFS_NOTHING_TO_UNDO = 16, /* undo: the journal holds no record                 */
+    BULGEFS_TOO_DEEP        = 17, /* more than 8 directories in a path; just after 9   */
+    BULGEFS_NOT_EMPTY       = 18, /* the directory to delete is not empty; after 12    */
     BULGEFS_BAD_TABLE_SIZE  = 21  /* entry_count is not the number of blocks           */
 };
 
 /* Sixteen bytes, handed over by value. */
 typedef struct { uint8_t bytes[16]; } bulgefs_uuid;
 
-/* A file: its slot in the directory, size in bytes and size in blocks. */
+/* A file: its slot in its directory, size in bytes and size in blocks. */
 typedef struct { uint32_t number, slot, size, blocks; } bulgefs_found;
 
 /* How many bytes of a buffer were filled. */
@@ -96,17 +106,24 @@ typedef struct { uint32_t number, count; } bulgefs_filled;
 /* A part of the caller's image: offset of its first byte, and its length. */
 typedef struct { uint32_t start, length; } bulgefs_part;
 
-/* A created file's slot, and the length of the record added to the journal. */
+/* The slot of what was created, and the length of the record added to the journal. */
 typedef struct { uint32_t number, slot, record; } bulgefs_created;
 
 /* The length of the record added to the journal, or taken back by an undo. */
 typedef struct { uint32_t number, record; } bulgefs_changed;
 
 /*
- * Names
- *   A file name is 1 to 80 bytes, none of them zero, handed over without a
- *   terminating zero.  Names are equal when all their bytes are.  Every call
- *   that takes a file name refuses a bad one with BULGEFS_BAD_ARGUMENT.
+ * Paths
+ *   A name is 1 to 80 bytes, none of them zero or '/'.  Names are equal when
+ *   all their bytes are.  A path is '/' and one or more names with '/' between,
+ *   as "/stage/SN4471", handed over without a terminating zero.  Every call
+ *   that takes a path refuses anything else with BULGEFS_BAD_ARGUMENT.
+ *
+ *   All names but the last are those of directories, and there may be no more
+ *   than 8 of these; in the calls for directories the last name counts too.
+ *   A path of more is refused with BULGEFS_TOO_DEEP.  A path that leads through
+ *   a file or a missing part, or to a directory where a file is wanted, or the
+ *   reverse, is refused with BULGEFS_NOT_FOUND.
  */
 
 /*
@@ -117,8 +134,9 @@ uint32_t bulgefs_check(const uint8_t *image, size_t image_len);
 
 /*
  * Makes an empty volume of the whole image and writes every byte of it.  The
- * root directory gets root_blocks blocks, room for 4 * root_blocks - 2 files.
- * time is stored as both times of the root.  The volume name is any 128 bytes.
+ * root directory gets root_blocks blocks, room for 4 * root_blocks - 2 files
+ * and directories.  time is stored as both times of the root.  The volume name
+ * is any 128 bytes.
  * Refusals: BULGEFS_BAD_LENGTH; BULGEFS_BAD_ARGUMENT (root_blocks outside 1
  * to 64, volume_name_len other than 128); BULGEFS_VOLUME_FULL (header, table
  * and root do not fit into the image).
@@ -129,20 +147,20 @@ uint32_t bulgefs_format(uint8_t *image, size_t image_len,
 
 /*
  * Finds a file.
- * Refusals: 1 to 7, BULGEFS_BAD_ARGUMENT, BULGEFS_NOT_FOUND.
+ * Refusals: 1 to 7, BULGEFS_BAD_ARGUMENT, BULGEFS_TOO_DEEP, BULGEFS_NOT_FOUND.
  */
 bulgefs_found bulgefs_lookup(const uint8_t *image, size_t image_len,
-                             const uint8_t *name, size_t name_len);
+                             const uint8_t *path, size_t path_len);
 
 /*
  * Copies a file's bytes from offset on into the buffer: as many as there are
  * and fit, and answers how many.  The rest of the buffer stays as it is.
  * Reading at offset = size is accepted and gives 0 bytes.
- * Refusals: 1 to 7, BULGEFS_BAD_ARGUMENT, BULGEFS_NOT_FOUND,
+ * Refusals: 1 to 7, BULGEFS_BAD_ARGUMENT, BULGEFS_TOO_DEEP, BULGEFS_NOT_FOUND,
  * BULGEFS_BAD_OFFSET.
  */
 bulgefs_filled bulgefs_read(const uint8_t *image, size_t image_len,
-                            const uint8_t *name, size_t name_len,
+                            const uint8_t *path, size_t path_len,
                             uint64_t offset, uint8_t *buffer, size_t buffer_len);
 
 /*
@@ -150,11 +168,11 @@ bulgefs_filled bulgefs_read(const uint8_t *image, size_t image_len,
  * bytes of the file from 512 * index on are those from image[start] on, until
  * the image is changed.  index counts from 0; the last block is cut at the
  * file's end.  The part is empty, start and length 0, exactly if the image is
- * not sound, the name is bad or not found, or index is not below the file's
- * blocks; bulgefs_lookup tells which.
+ * not sound, the path is bad, too deep or not found, or index is not below the
+ * file's blocks; bulgefs_lookup tells which.
  */
 bulgefs_part bulgefs_look_in_place(const uint8_t *image, size_t image_len,
-                                   const uint8_t *name, size_t name_len,
+                                   const uint8_t *path, size_t path_len,
                                    uint64_t index);
 
 /*
@@ -164,16 +182,16 @@ bulgefs_part bulgefs_look_in_place(const uint8_t *image, size_t image_len,
 uint32_t bulgefs_journal_start(uint8_t *journal, size_t journal_len);
 
 /*
- * Creates an empty file in the lowest free slot.  time becomes both times of
- * the file.  Users, groups, permissions, flags and times are stored as given
- * and never enforced.
+ * Creates an empty file in the lowest free slot of its directory, which must
+ * exist.  time becomes both times of the file.  Users, groups, permissions,
+ * flags and times are stored as given and never enforced.
  * Refusals: 1 to 7, BULGEFS_BAD_JOURNAL, BULGEFS_BAD_ARGUMENT (also for a
- * type outside 0x60 to 0x9F), BULGEFS_NAME_TAKEN, BULGEFS_DIRECTORY_FULL,
- * BULGEFS_JOURNAL_FULL.
+ * type outside 0x60 to 0x9F), BULGEFS_TOO_DEEP, BULGEFS_NOT_FOUND,
+ * BULGEFS_NAME_TAKEN, BULGEFS_DIRECTORY_FULL, BULGEFS_JOURNAL_FULL.
  */
 bulgefs_created bulgefs_create(uint8_t *image, size_t image_len,
                                uint8_t *journal, size_t journal_len,
-                               const uint8_t *name, size_t name_len,
+                               const uint8_t *path, size_t path_len,
                                uint8_t type, uint8_t user, uint8_t group,
                                uint8_t permissions, uint32_t flags, uint64_t time);
 
@@ -182,23 +200,52 @@ bulgefs_created bulgefs_create(uint8_t *image, size_t image_len,
  * its end, and never shrinks.  The modified time becomes time.  A write of no
  * bytes is a change too: it sets the time and adds a record.
  * Refusals: 1 to 7, BULGEFS_BAD_JOURNAL, BULGEFS_BAD_ARGUMENT (also for
- * data_len above 4,096), BULGEFS_NOT_FOUND, BULGEFS_BAD_OFFSET,
- * BULGEFS_VOLUME_FULL, BULGEFS_JOURNAL_FULL.
+ * data_len above 4,096), BULGEFS_TOO_DEEP, BULGEFS_NOT_FOUND,
+ * BULGEFS_BAD_OFFSET, BULGEFS_VOLUME_FULL, BULGEFS_JOURNAL_FULL.
  */
 bulgefs_changed bulgefs_write(uint8_t *image, size_t image_len,
                               uint8_t *journal, size_t journal_len,
-                              const uint8_t *name, size_t name_len,
+                              const uint8_t *path, size_t path_len,
                               uint64_t offset, const uint8_t *data, size_t data_len,
                               uint64_t time);
 
 /*
  * Deletes a file and frees its blocks.  The freed blocks keep their bytes.
  * Refusals: 1 to 7, BULGEFS_BAD_JOURNAL, BULGEFS_BAD_ARGUMENT,
- * BULGEFS_NOT_FOUND, BULGEFS_JOURNAL_FULL.
+ * BULGEFS_TOO_DEEP, BULGEFS_NOT_FOUND, BULGEFS_JOURNAL_FULL.
  */
 bulgefs_changed bulgefs_delete(uint8_t *image, size_t image_len,
                                uint8_t *journal, size_t journal_len,
-                               const uint8_t *name, size_t name_len);
+                               const uint8_t *path, size_t path_len);
+
+/*
+ * Creates an empty directory of so many blocks, with room for 4 * blocks - 2
+ * files and directories, in the lowest free slot of the directory above it.
+ * What is given is stored in its entry as by bulgefs_create; time is also
+ * stored as both times of its self entry.  The times of the directory above
+ * stay.
+ * Refusals: 1 to 7, BULGEFS_BAD_JOURNAL, BULGEFS_BAD_ARGUMENT (also for a
+ * type outside 0x20 to 0x5F, or blocks outside 1 to 64), BULGEFS_TOO_DEEP,
+ * BULGEFS_NOT_FOUND, BULGEFS_NAME_TAKEN, BULGEFS_DIRECTORY_FULL,
+ * BULGEFS_VOLUME_FULL, BULGEFS_JOURNAL_FULL.
+ */
+bulgefs_created bulgefs_create_directory(uint8_t *image, size_t image_len,
+                                         uint8_t *journal, size_t journal_len,
+                                         const uint8_t *path, size_t path_len,
+                                         uint8_t type, uint8_t user, uint8_t group,
+                                         uint8_t permissions, uint32_t flags,
+                                         uint32_t blocks, uint64_t time);
+
+/*
+ * Deletes a directory that holds no file and no directory, and frees its
+ * blocks, which keep their bytes.
+ * Refusals: 1 to 7, BULGEFS_BAD_JOURNAL, BULGEFS_BAD_ARGUMENT,
+ * BULGEFS_TOO_DEEP, BULGEFS_NOT_FOUND, BULGEFS_NOT_EMPTY,
+ * BULGEFS_JOURNAL_FULL.
+ */
+bulgefs_changed bulgefs_delete_directory(uint8_t *image, size_t image_len,
+                                         uint8_t *journal, size_t journal_len,
+                                         const uint8_t *path, size_t path_len);
 
 /*
  * Takes the last change back: puts the blocks of the journal's last record

@@ -127,44 +127,45 @@ static void give_back(buffer *b)
 
 /* What a case lends to the calls. */
 typedef struct {
-    const uint8_t *image, *journal, *name, *data;
-    size_t image_len, journal_len, name_len, data_len;
+    const uint8_t *image, *journal, *path, *data;
+    size_t image_len, journal_len, path_len, data_len;
     uint64_t offset;
 } material;
 
 /* Numbers that a call can answer, one bit each. */
 #define STAGES     0xFEu
 #define BIT(n)     (1u << (n))
-#define MAY(set, n) ((n) <= 16 && ((set) | 1u) >> (n) & 1u)
+#define PATH       (BIT(9) | BIT(10) | BIT(17))
+#define MAY(set, n) ((n) <= 18 && ((set) | 1u) >> (n) & 1u)
 
 static void call_looks(const material *m)
 {
     buffer image = lend_const(m->image, m->image_len);
-    buffer name = lend_const(m->name, m->name_len);
+    buffer path = lend_const(m->path, m->path_len);
     buffer into = lend(m->data, m->data_len);
 
     uint32_t number = bulgefs_check(image.at, image.len);
     expect(MAY(STAGES, number), "check: number");
 
-    bulgefs_found f = bulgefs_lookup(image.at, image.len, name.at, name.len);
-    expect(MAY(STAGES | BIT(9) | BIT(10), f.number), "lookup: number");
+    bulgefs_found f = bulgefs_lookup(image.at, image.len, path.at, path.len);
+    expect(MAY(STAGES | PATH, f.number), "lookup: number");
     expect(number == 0 || f.number == number, "lookup: stage");
     expect(f.number == 0 || (f.slot | f.size | f.blocks) == 0, "lookup: zeros");
 
-    bulgefs_part part = bulgefs_look_in_place(image.at, image.len, name.at, name.len, m->offset);
+    bulgefs_part part = bulgefs_look_in_place(image.at, image.len, path.at, path.len, m->offset);
     expect((part.length > 0) == (f.number == 0 && m->offset < f.blocks), "look_in_place: part");
     expect((uint64_t)part.start + part.length <= image.len, "look_in_place: inside the image");
 
-    bulgefs_filled r = bulgefs_read(image.at, image.len, name.at, name.len, m->offset,
+    bulgefs_filled r = bulgefs_read(image.at, image.len, path.at, path.len, m->offset,
                                     into.at, into.len);
     expect(f.number != 0 ? r.number == f.number : r.number == (m->offset > f.size ? 12 : 0),
            "read: number");
     expect(r.count <= into.len && (r.number == 0 || r.count == 0), "read: count");
     expect(r.number == 0 || unchanged(&into), "read: refused without a change");
 
-    expect(unchanged(&image) && unchanged(&name), "looks: nothing changed");
+    expect(unchanged(&image) && unchanged(&path), "looks: nothing changed");
     give_back(&image);
-    give_back(&name);
+    give_back(&path);
     give_back(&into);
 }
 
@@ -178,40 +179,68 @@ static void settle(buffer *image, buffer *journal, uint32_t number, uint32_t res
     give_back(journal);
 }
 
-static void call_changes(const material *m)
+static void call_file_changes(const material *m, const buffer *path)
 {
-    const uint32_t common = STAGES | BIT(8) | BIT(15);
-    buffer name = lend_const(m->name, m->name_len);
+    const uint32_t common = STAGES | BIT(8) | BIT(15) | PATH;
     buffer data = lend_const(m->data, m->data_len);
 
     buffer image = lend(m->image, m->image_len);
     buffer journal = lend(m->journal, m->journal_len);
-    bulgefs_created c = bulgefs_create(image.at, image.len, journal.at, journal.len, name.at,
-                                       name.len, 0x60, 1, 2, 3, 4, m->offset);
-    settle(&image, &journal, c.number, c.slot | c.record, common | BIT(9) | BIT(11) | BIT(13),
-           "create");
+    bulgefs_created c = bulgefs_create(image.at, image.len, journal.at, journal.len, path->at,
+                                       path->len, 0x60, 1, 2, 3, 4, m->offset);
+    settle(&image, &journal, c.number, c.slot | c.record, common | BIT(11) | BIT(13), "create");
 
     image = lend(m->image, m->image_len);
     journal = lend(m->journal, m->journal_len);
-    bulgefs_changed w = bulgefs_write(image.at, image.len, journal.at, journal.len, name.at,
-                                      name.len, m->offset, data.at, data.len, 5);
-    settle(&image, &journal, w.number, w.record,
-           common | BIT(9) | BIT(10) | BIT(12) | BIT(14), "write");
+    bulgefs_changed w = bulgefs_write(image.at, image.len, journal.at, journal.len, path->at,
+                                      path->len, m->offset, data.at, data.len, 5);
+    settle(&image, &journal, w.number, w.record, common | BIT(12) | BIT(14), "write");
 
     image = lend(m->image, m->image_len);
     journal = lend(m->journal, m->journal_len);
-    bulgefs_changed d = bulgefs_delete(image.at, image.len, journal.at, journal.len, name.at,
-                                       name.len);
-    settle(&image, &journal, d.number, d.record, common | BIT(9) | BIT(10), "delete");
+    bulgefs_changed d = bulgefs_delete(image.at, image.len, journal.at, journal.len, path->at,
+                                       path->len);
+    settle(&image, &journal, d.number, d.record, common, "delete");
+
+    expect(unchanged(&data), "changes: data stays");
+    give_back(&data);
+}
+
+static void call_directory_changes(const material *m, const buffer *path)
+{
+    const uint32_t common = STAGES | BIT(8) | BIT(15) | PATH;
+    uint32_t blocks = random_below(4) == 0 ? (uint32_t)m->offset : 1 + random_below(4);
+
+    buffer image = lend(m->image, m->image_len);
+    buffer journal = lend(m->journal, m->journal_len);
+    bulgefs_created c = bulgefs_create_directory(image.at, image.len, journal.at, journal.len,
+                                                 path->at, path->len, 0x20, 1, 2, 3, 4, blocks,
+                                                 m->offset);
+    expect(c.number != 0 || bulgefs_check(image.at, image.len) == 0, "create_directory: sound");
+    settle(&image, &journal, c.number, c.slot | c.record, common | BIT(11) | BIT(13) | BIT(14),
+           "create_directory");
 
     image = lend(m->image, m->image_len);
     journal = lend(m->journal, m->journal_len);
+    bulgefs_changed d = bulgefs_delete_directory(image.at, image.len, journal.at, journal.len,
+                                                 path->at, path->len);
+    expect(d.number != 0 || bulgefs_check(image.at, image.len) == 0, "delete_directory: sound");
+    settle(&image, &journal, d.number, d.record, common | BIT(18), "delete_directory");
+}
+
+static void call_changes(const material *m)
+{
+    buffer path = lend_const(m->path, m->path_len);
+    call_file_changes(m, &path);
+    call_directory_changes(m, &path);
+
+    buffer image = lend(m->image, m->image_len);
+    buffer journal = lend(m->journal, m->journal_len);
     bulgefs_changed u = bulgefs_undo(image.at, image.len, journal.at, journal.len);
     settle(&image, &journal, u.number, u.record, STAGES | BIT(8) | BIT(16), "undo");
 
-    expect(unchanged(&name) && unchanged(&data), "changes: name and data stay");
-    give_back(&name);
-    give_back(&data);
+    expect(unchanged(&path), "changes: the path stays");
+    give_back(&path);
 }
 
 static const uint8_t volume_name[128] = "settings";
@@ -233,7 +262,7 @@ static void call_format(const material *m, uint32_t root_blocks, const uint8_t *
 
 static void call_makers(const material *m)
 {
-    call_format(m, (uint32_t)m->offset, m->name, m->name_len);
+    call_format(m, (uint32_t)m->offset, m->path, m->path_len);
     call_format(m, 1 + random_below(4), volume_name, sizeof volume_name);
 
     buffer journal = lend(m->journal, m->journal_len);
@@ -282,7 +311,7 @@ static void call_all(const material *m)
 
 static const size_t lengths[] = {0, 1, 2, 3, 4, 5, 6, 31, 32, 79, 80, 81, 127, 128, 129, 511, 512,
                                  513, 525, 1024, 1535, 1536, 1537, 2048, 4096, 4097, 8192};
-enum { LENGTHS = sizeof lengths / sizeof lengths[0], MOST = 70000 };
+enum { LENGTHS = sizeof lengths / sizeof lengths[0], MOST = 100000 };
 
 static size_t any_length(void)
 {
@@ -298,18 +327,20 @@ static uint64_t any_offset(void)
 /* Every length of one buffer, random lengths of the others, random bytes. */
 static void random_buffers(void)
 {
-    static uint8_t image[8192], journal[8192], name[8192], data[8192];
+    static uint8_t image[8192], journal[8192], path[8192], data[8192];
     for (size_t i = 0; i < 8 * LENGTHS; i++) {
         fill_random(image, sizeof image);
         fill_random(journal, sizeof journal);
-        fill_random(name, sizeof name);
+        fill_random(path, sizeof path);
         fill_random(data, sizeof data);
-        material m = {image, journal, name, data, any_length(), any_length(), any_length(),
+        material m = {image, journal, path, data, any_length(), any_length(), any_length(),
                       any_length(), any_offset()};
-        size_t *all[] = {&m.image_len, &m.journal_len, &m.name_len, &m.data_len};
+        size_t *all[] = {&m.image_len, &m.journal_len, &m.path_len, &m.data_len};
         *all[i % 4] = lengths[i / 8];
         if (random_below(2))
             memcpy(image, "BulgeFS!\0\1\0\0", 12);
+        if (random_below(2))
+            path[0] = '/';
         call_all(&m);
     }
     material nothing = {NULL, NULL, NULL, NULL, 0, 0, 0, 0, 0};
@@ -317,19 +348,45 @@ static void random_buffers(void)
         call_all(&nothing);
 }
 
-/* A volume of n blocks with some files of many sizes, and its journal. */
+/* The path of so many folders, each in the one before, and of a file in the last. */
+static size_t file_path(uint32_t folders, uint32_t file, uint8_t *path)
+{
+    size_t len = 0;
+    for (uint32_t i = 0; i < folders; i++) {
+        path[len++] = '/';
+        path[len++] = 'd';
+    }
+    path[len++] = '/';
+    path[len++] = 'f';
+    path[len++] = (uint8_t)('0' + file);
+    return len;
+}
+
+/*
+ * A volume of n blocks with folders below one another, some files of many
+ * sizes in the root and in the folders, and its journal.
+ */
 static void fill_volume(uint8_t *image, size_t n, uint8_t *journal, size_t journal_len)
 {
     static const uint8_t data[4096] = {1, 2, 3};
     bulgefs_uuid uuid = {{0}};
     uint32_t root = n < 16 ? 1 : n < 512 ? (uint32_t)n / 8 : 64;
+    uint32_t folders = n < 16 ? 0 : n < 100 ? 2 : 8;
     expect(bulgefs_format(image, n * 512, root, 1, uuid, volume_name, 128) == 0, "fill: format");
     expect(bulgefs_journal_start(journal, journal_len) == 0, "fill: start");
-    for (uint32_t i = 0; i < 6; i++) {
-        uint8_t name[2] = {'f', (uint8_t)('0' + i)};
-        bulgefs_create(image, n * 512, journal, journal_len, name, 2, 0x60, 0, 0, 0, 0, i);
-        bulgefs_write(image, n * 512, journal, journal_len, name, 2, 0, data, i * 310, i);
+    for (uint32_t i = 0; i < 6 + folders; i++) {
+        uint8_t path[32];
+        uint32_t depth = i < 6 ? 0 : i - 5;
+        size_t len = file_path(depth, i % 6, path);
+        if (depth > 0)
+            bulgefs_create_directory(image, n * 512, journal, journal_len, path, len - 3, 0x20,
+                                     0, 0, 0, 0, 1 + i % 2, i);
+        bulgefs_create(image, n * 512, journal, journal_len, path, len, 0x60, 0, 0, 0, 0, i);
+        bulgefs_write(image, n * 512, journal, journal_len, path, len, 0, data, i * 230, i);
     }
+    uint8_t deepest[32];
+    size_t len = file_path(folders, (5 + folders) % 6, deepest);
+    expect(n < 100 || bulgefs_lookup(image, n * 512, deepest, len).number == 0, "fill: folders");
     expect(bulgefs_check(image, n * 512) == 0, "fill: sound");
 }
 
@@ -344,16 +401,19 @@ static size_t used_length(const uint8_t *journal)
     return (size_t)journal[2] << 16 | (size_t)journal[3] << 8 | journal[4];
 }
 
-/* Sound volumes, with names, data and journals of every length. */
+/* Sound volumes, with paths of one name and of many, data and journals of every length. */
 static void sound_volumes(void)
 {
-    static uint8_t image[16 * 512], journal[8192], name[8192], data[8192];
-    memset(name, 'f', sizeof name);
+    static uint8_t image[16 * 512], journal[8192], path[8192], names[8192], data[8192];
+    memset(path, 'f', sizeof path);
+    path[0] = '/';
+    for (size_t i = 0; i < sizeof names; i++)
+        names[i] = i % 2 == 0 ? '/' : 'd';
     fill_volume(image, 16, journal, sizeof journal);
     for (size_t i = 0; i < LENGTHS; i++)
         for (size_t k = 0; k < LENGTHS; k++) {
-            material m = {image, journal, name, data, sizeof image, lengths[i], lengths[k],
-                          any_length(), any_offset()};
+            material m = {image, journal, random_below(2) ? path : names, data, sizeof image,
+                          lengths[i], lengths[k], any_length(), any_offset()};
             call_all(&m);
         }
 }
@@ -370,7 +430,7 @@ static void cut_journals(void)
     size_t used = used_length(journal);
     for (size_t i = 0; i < sizeof more / sizeof more[0]; i++) {
         size_t length = used + (size_t)more[i];
-        material m = {image, journal, (const uint8_t *)"f3", image, sizeof image, length, 2, 600,
+        material m = {image, journal, (const uint8_t *)"/f3", image, sizeof image, length, 3, 600,
                       100};
         call_all(&m);
         put_number(journal + 1, (uint32_t)length);
@@ -388,7 +448,7 @@ static void damage_last_record(uint8_t *journal, size_t n)
         put_number(journal + used - 516, (uint32_t)n + more[random_below(5)]);
 }
 
-/* Leads a chain out of the image: by a table entry, or by a file's first block. */
+/* Leads a chain out of the image: by a table entry, or by an entry's first block. */
 static void damage_chain(uint8_t *image, size_t n)
 {
     static const uint32_t more[] = {0, 1, 112, 2000, 4000, 65000, 0x7FFFFFFF};
@@ -397,6 +457,17 @@ static void damage_chain(uint8_t *image, size_t n)
     size_t entry = 512 + 4 * (root + random_below((uint32_t)(n - root)));
     put_number(image + (random_below(2) && file + 8 <= n * 512 ? file + 4 : entry),
                (uint32_t)n + more[random_below(7)]);
+}
+
+/* Changes a byte that says something in a slot of a block after the table. */
+static void damage_slot(uint8_t *image, size_t n)
+{
+    static const size_t fields[] = {0, 4, 7, 11, 12, 15, 35, 39, 48, 49, 127};
+    static const uint8_t values[] = {0x00, 0x01, 0x20, 0x2F, 0x60, 0xFF};
+    size_t root = (n + 127) / 128 + 1;
+    size_t slots = 4 * (n - root);
+    size_t slot = random_below((uint32_t)(slots < 120 ? slots : 120));
+    image[root * 512 + slot * 128 + fields[random_below(11)]] = values[random_below(6)];
 }
 
 /* Good volumes, and volumes and journals with a few bytes changed. */
@@ -410,8 +481,11 @@ static void damaged_volumes(void)
         size_t journal_len = used_length(journal) + random_below(3000);
         memcpy(saved, image, n * 512);
         memcpy(saved_journal, journal, journal_len);
-        for (int round = 0; round < 60; round++) {
-            uint8_t name[2] = {'f', (uint8_t)('0' + random_below(7))};
+        for (int round = 0; round < 90; round++) {
+            uint8_t path[40];
+            size_t path_len = file_path(random_below(2) ? 0 : random_below(11), random_below(7),
+                                        path);
+            path_len -= random_below(4) == 0 && path_len > 3 ? 3 : 0;
             memcpy(image, saved, n * 512);
             memcpy(journal, saved_journal, journal_len);
             for (uint32_t k = random_below(3); k > 0; k--)
@@ -420,11 +494,13 @@ static void damaged_volumes(void)
                 image[512 + random_below((uint32_t)n * 4)] ^= (uint8_t)(1u << random_below(8));
             if (round % 3 == 2)
                 damage_chain(image, n);
+            if (round % 5 == 4)
+                damage_slot(image, n);
             if (round % 4 == 1)
                 journal[random_below(9)] ^= (uint8_t)(1u << random_below(8));
             if (round % 4 == 2)
                 damage_last_record(journal, n);
-            material m = {image, journal, name, data, n * 512, journal_len, 2,
+            material m = {image, journal, path, data, n * 512, journal_len, path_len,
                           random_below(sizeof data + 1), any_offset()};
             call_all(&m);
         }
@@ -437,30 +513,31 @@ static void damaged_volumes(void)
  */
 static void full_name(void)
 {
-    static uint8_t image[16 * 512], before[16 * 512], journal[8192], name[81], other[80], got[5];
+    static uint8_t image[16 * 512], before[16 * 512], journal[8192], path[82], other[81], got[5];
     bulgefs_uuid uuid = {{0}};
-    memset(name, 'n', sizeof name);
-    memcpy(other, name, sizeof other);
-    other[79] = 'm';
+    memset(path, 'n', sizeof path);
+    path[0] = '/';
+    memcpy(other, path, sizeof other);
+    other[80] = 'm';
     expect(bulgefs_format(image, sizeof image, 2, 1, uuid, volume_name, 128) == 0, "full: format");
     expect(bulgefs_journal_start(journal, sizeof journal) == 0, "full: start");
     memcpy(before, image, sizeof image);
-    bulgefs_created c = bulgefs_create(image, sizeof image, journal, sizeof journal, name, 80,
+    bulgefs_created c = bulgefs_create(image, sizeof image, journal, sizeof journal, path, 81,
                                        0x60, 0, 0, 0, 0, 2);
     expect(c.number == 0 && c.slot == 1 && c.record == 520, "full: create");
-    expect(bulgefs_create(image, sizeof image, journal, sizeof journal, other, 80, 0x60, 0, 0, 0,
+    expect(bulgefs_create(image, sizeof image, journal, sizeof journal, other, 81, 0x60, 0, 0, 0,
                           0, 2).slot == 2, "full: another last byte");
-    expect(bulgefs_create(image, sizeof image, journal, sizeof journal, name, 81, 0x60, 0, 0, 0,
+    expect(bulgefs_create(image, sizeof image, journal, sizeof journal, path, 82, 0x60, 0, 0, 0,
                           0, 2).number == BULGEFS_BAD_ARGUMENT, "full: one byte more");
-    bulgefs_changed w = bulgefs_write(image, sizeof image, journal, sizeof journal, name, 80, 0,
+    bulgefs_changed w = bulgefs_write(image, sizeof image, journal, sizeof journal, path, 81, 0,
                                       (const uint8_t *)"bytes", 5, 3);
     expect(w.number == 0, "full: write");
     expect(bulgefs_check(image, sizeof image) == 0, "full: sound");
-    bulgefs_found f = bulgefs_lookup(image, sizeof image, name, 80);
+    bulgefs_found f = bulgefs_lookup(image, sizeof image, path, 81);
     expect(f.number == 0 && f.slot == 1 && f.size == 5, "full: lookup");
-    expect(bulgefs_lookup(image, sizeof image, name, 79).number == BULGEFS_NOT_FOUND,
+    expect(bulgefs_lookup(image, sizeof image, path, 80).number == BULGEFS_NOT_FOUND,
            "full: one byte less");
-    bulgefs_filled r = bulgefs_read(image, sizeof image, name, 80, 0, got, sizeof got);
+    bulgefs_filled r = bulgefs_read(image, sizeof image, path, 81, 0, got, sizeof got);
     expect(r.number == 0 && r.count == 5 && memcmp(got, "bytes", 5) == 0, "full: read");
     for (int i = 0; i < 3; i++)
         expect(bulgefs_undo(image, sizeof image, journal, sizeof journal).number == 0,
@@ -476,8 +553,8 @@ static void largest(void)
     uint8_t *journal = must_have(calloc(journal_len + 1, 1));
     fill_volume(image, BULGEFS_MAX_BLOCKS, journal, journal_len);
     for (size_t more = 0; more < 2; more++) {
-        material m = {image, journal, (const uint8_t *)"f5", image, image_len + more,
-                      journal_len, 2, 4096, 1000};
+        material m = {image, journal, (const uint8_t *)"/f5", image, image_len + more,
+                      journal_len, 3, 4096, 1000};
         call_all(&m);
         m.image_len = image_len;
         m.journal_len = journal_len + more;

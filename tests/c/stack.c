@@ -21,11 +21,11 @@ static ucontext_t here, there;
 static unsigned long passed, failed;
 static uint32_t number;
 
-static const uint8_t name[] = "f";
+static const uint8_t path[] = "/f";
 static const uint8_t data[4096] = {1};
 
 static void check(void) { number = bulgefs_check(image, image_len); }
-static void lookup(void) { number = bulgefs_lookup(image, image_len, name, 1).number; }
+static void lookup(void) { number = bulgefs_lookup(image, image_len, path, 2).number; }
 static void start(void) { number = bulgefs_journal_start(journal, journal_len); }
 static void undo(void) { number = bulgefs_undo(image, image_len, journal, journal_len).number; }
 static void load(void) { number = bulgefs_load_table(image, image_len, entries, image_len / 512); }
@@ -43,30 +43,30 @@ static void format(void)
 
 static void create(void)
 {
-    number = bulgefs_create(image, image_len, journal, journal_len, name, 1, 0x60, 0, 0, 0, 0, 1)
+    number = bulgefs_create(image, image_len, journal, journal_len, path, 2, 0x60, 0, 0, 0, 0, 1)
                  .number;
 }
 
 static void write_data(void)
 {
-    number = bulgefs_write(image, image_len, journal, journal_len, name, 1, 0, data, 4096, 2)
+    number = bulgefs_write(image, image_len, journal, journal_len, path, 2, 0, data, 4096, 2)
                  .number;
 }
 
 static void read_data(void)
 {
     static uint8_t buffer[4096];
-    number = bulgefs_read(image, image_len, name, 1, 0, buffer, 4096).number;
+    number = bulgefs_read(image, image_len, path, 2, 0, buffer, 4096).number;
 }
 
 static void look(void)
 {
-    number = bulgefs_look_in_place(image, image_len, name, 1, 0).length == 512 ? 0 : 99;
+    number = bulgefs_look_in_place(image, image_len, path, 2, 0).length == 512 ? 0 : 99;
 }
 
 static void delete(void)
 {
-    number = bulgefs_delete(image, image_len, journal, journal_len, name, 1).number;
+    number = bulgefs_delete(image, image_len, journal, journal_len, path, 2).number;
 }
 
 static const struct {

@@ -3,7 +3,7 @@
 ghost use mathlib.Core.Path.{_≡_};
 ghost use Rattle.layout.specs.Check.{check};
 ghost use Rattle.layout.specs.Looks.{LookupAnswer, ReadAnswer, Extent, lookup, read, extentOf};
-ghost use Rattle.volume.specs.Change.{Change as ChangeAsked, create, write, delete, slotGiven};
+ghost use Rattle.volume.specs.Change.{Change as ChangeAsked, create, write, delete, createDirectory, deleteDirectory, slotGiven};
 ghost use Rattle.volume.specs.Format.{formatRefusal, formatted};
 ghost use Rattle.chain_table.specs.Transfer.{loadTable, storeTable};
 ghost use Rattle.journal.specs.Journal.{startRefusal, afterStart};
@@ -37,7 +37,7 @@ pub struct Part {
     pub length: u32,
 }
 
-// A created file's slot, and the length of the record added.
+// The slot of a created file or directory, and the length of the record added.
 #[repr(C)]
 pub struct Created {
     pub number: u32,
@@ -60,10 +60,10 @@ pub extern "C" fn bulgefs_check(image: &[u8]) -> u32
 }
 
 #[no_mangle]
-pub extern "C" fn bulgefs_lookup(image: &[u8], name: &[u8]) -> Found
-    ensures { λ r. ⌜ _≡_ {A = LookupAnswer} (record { number = r .number; slot = r .slot; size = r .size; blocks = r .blocks }) (lookup (now (image .entry)) (now (name .entry))) ⌝ }
+pub extern "C" fn bulgefs_lookup(image: &[u8], path: &[u8]) -> Found
+    ensures { λ r. ⌜ _≡_ {A = LookupAnswer} (record { number = r .number; slot = r .slot; size = r .size; blocks = r .blocks }) (lookup (now (image .entry)) (now (path .entry))) ⌝ }
 {
-    match layout::reading::lookup(image, name) {
+    match layout::reading::lookup(image, path) {
         layout::reading::Found::File { slot, size, blocks } => Found {
             number: 0,
             slot: slot,
@@ -80,10 +80,10 @@ pub extern "C" fn bulgefs_lookup(image: &[u8], name: &[u8]) -> Found
 }
 
 #[no_mangle]
-pub extern "C" fn bulgefs_read(image: &[u8], name: &[u8], offset: u64, buffer: &mut [u8]) -> Filled
-    ensures { λ r. ⌜ _≡_ {A = ReadAnswer} (record { number = r .number; count = r .count; buffer = now (buffer .exit) }) (read (now (image .entry)) (now (name .entry)) offset (now (buffer .entry))) ⌝ }
+pub extern "C" fn bulgefs_read(image: &[u8], path: &[u8], offset: u64, buffer: &mut [u8]) -> Filled
+    ensures { λ r. ⌜ _≡_ {A = ReadAnswer} (record { number = r .number; count = r .count; buffer = now (buffer .exit) }) (read (now (image .entry)) (now (path .entry)) offset (now (buffer .entry))) ⌝ }
 {
-    match layout::reading::read(image, name, offset as usize, buffer) {
+    match layout::reading::read(image, path, offset as usize, buffer) {
         layout::reading::Filled::Bytes(count) => Filled {
             number: 0,
             count: count as u32,
@@ -96,10 +96,10 @@ pub extern "C" fn bulgefs_read(image: &[u8], name: &[u8], offset: u64, buffer: &
 }
 
 #[no_mangle]
-pub extern "C" fn bulgefs_look_in_place(image: &[u8], name: &[u8], index: u64) -> Part
-    ensures { λ r. ⌜ _≡_ {A = Extent} (record { start = r .start; size = r .length }) (extentOf (now (image .entry)) (now (name .entry)) index) ⌝ }
+pub extern "C" fn bulgefs_look_in_place(image: &[u8], path: &[u8], index: u64) -> Part
+    ensures { λ r. ⌜ _≡_ {A = Extent} (record { start = r .start; size = r .length }) (extentOf (now (image .entry)) (now (path .entry)) index) ⌝ }
 {
-    let x = layout::reading::extent_in_place(image, name, index as usize);
+    let x = layout::reading::extent_in_place(image, path, index as usize);
     Part {
         start: x.start as u32,
         length: x.size as u32,
@@ -167,7 +167,7 @@ fn slotless(c: journal::calls::Changed) -> Changed
 pub extern "C" fn bulgefs_create(
     image: &mut [u8],
     journal: &mut [u8],
-    name: &[u8],
+    path: &[u8],
     kind: u8,
     user: u8,
     group: u8,
@@ -175,13 +175,13 @@ pub extern "C" fn bulgefs_create(
     flags: u32,
     time: u64,
 ) -> Created
-    ensures answer { λ r. ⌜ changed (r .number) (r .slot) (r .size) ≡ changeAnswer (state (now (image .entry)) (now (journal .entry))) (create (now (name .entry)) kind user group permissions flags time) ⌝ }
-    ensures state { λ _. ⌜ state (now (image .exit)) (now (journal .exit)) ≡ afterChange (state (now (image .entry)) (now (journal .entry))) (create (now (name .entry)) kind user group permissions flags time) ⌝ }
+    ensures answer { λ r. ⌜ changed (r .number) (r .slot) (r .size) ≡ changeAnswer (state (now (image .entry)) (now (journal .entry))) (create (now (path .entry)) kind user group permissions flags time) ⌝ }
+    ensures state { λ _. ⌜ state (now (image .exit)) (now (journal .exit)) ≡ afterChange (state (now (image .entry)) (now (journal .entry))) (create (now (path .entry)) kind user group permissions flags time) ⌝ }
 {
     with_slot(journal::calls::create(
         image,
         journal,
-        name,
+        path,
         kind,
         user,
         group,
@@ -195,23 +195,65 @@ pub extern "C" fn bulgefs_create(
 pub extern "C" fn bulgefs_write(
     image: &mut [u8],
     journal: &mut [u8],
-    name: &[u8],
+    path: &[u8],
     offset: u64,
     bytes: &[u8],
     time: u64,
 ) -> Changed
-    ensures answer { λ r. ⌜ changed (r .number) 0 (r .size) ≡ changeAnswer (state (now (image .entry)) (now (journal .entry))) (write (now (name .entry)) offset (now (bytes .entry)) time) ⌝ }
-    ensures state { λ _. ⌜ state (now (image .exit)) (now (journal .exit)) ≡ afterChange (state (now (image .entry)) (now (journal .entry))) (write (now (name .entry)) offset (now (bytes .entry)) time) ⌝ }
+    ensures answer { λ r. ⌜ changed (r .number) 0 (r .size) ≡ changeAnswer (state (now (image .entry)) (now (journal .entry))) (write (now (path .entry)) offset (now (bytes .entry)) time) ⌝ }
+    ensures state { λ _. ⌜ state (now (image .exit)) (now (journal .exit)) ≡ afterChange (state (now (image .entry)) (now (journal .entry))) (write (now (path .entry)) offset (now (bytes .entry)) time) ⌝ }
 {
-    slotless(journal::calls::write(image, journal, name, offset as usize, bytes, time))
+    slotless(journal::calls::write(image, journal, path, offset as usize, bytes, time))
 }
 
 #[no_mangle]
-pub extern "C" fn bulgefs_delete(image: &mut [u8], journal: &mut [u8], name: &[u8]) -> Changed
-    ensures answer { λ r. ⌜ changed (r .number) 0 (r .size) ≡ changeAnswer (state (now (image .entry)) (now (journal .entry))) (delete (now (name .entry))) ⌝ }
-    ensures state { λ _. ⌜ state (now (image .exit)) (now (journal .exit)) ≡ afterChange (state (now (image .entry)) (now (journal .entry))) (delete (now (name .entry))) ⌝ }
+pub extern "C" fn bulgefs_delete(image: &mut [u8], journal: &mut [u8], path: &[u8]) -> Changed
+    ensures answer { λ r. ⌜ changed (r .number) 0 (r .size) ≡ changeAnswer (state (now (image .entry)) (now (journal .entry))) (delete (now (path .entry))) ⌝ }
+    ensures state { λ _. ⌜ state (now (image .exit)) (now (journal .exit)) ≡ afterChange (state (now (image .entry)) (now (journal .entry))) (delete (now (path .entry))) ⌝ }
 {
-    slotless(journal::calls::delete(image, journal, name))
+    slotless(journal::calls::delete(image, journal, path))
+}
+
+#[no_mangle]
+pub extern "C" fn bulgefs_create_directory(
+    image: &mut [u8],
+    journal: &mut [u8],
+    path: &[u8],
+    kind: u8,
+    user: u8,
+    group: u8,
+    permissions: u8,
+    flags: u32,
+    blocks: u32,
+    time: u64,
+) -> Created
+    ensures answer { λ r. ⌜ changed (r .number) (r .slot) (r .size) ≡ changeAnswer (state (now (image .entry)) (now (journal .entry))) (createDirectory (now (path .entry)) kind user group permissions flags time blocks) ⌝ }
+    ensures state { λ _. ⌜ state (now (image .exit)) (now (journal .exit)) ≡ afterChange (state (now (image .entry)) (now (journal .entry))) (createDirectory (now (path .entry)) kind user group permissions flags time blocks) ⌝ }
+{
+    with_slot(journal::calls::create_directory(
+        image,
+        journal,
+        path,
+        kind,
+        user,
+        group,
+        permissions,
+        flags,
+        blocks,
+        time,
+    ))
+}
+
+#[no_mangle]
+pub extern "C" fn bulgefs_delete_directory(
+    image: &mut [u8],
+    journal: &mut [u8],
+    path: &[u8],
+) -> Changed
+    ensures answer { λ r. ⌜ changed (r .number) 0 (r .size) ≡ changeAnswer (state (now (image .entry)) (now (journal .entry))) (deleteDirectory (now (path .entry))) ⌝ }
+    ensures state { λ _. ⌜ state (now (image .exit)) (now (journal .exit)) ≡ afterChange (state (now (image .entry)) (now (journal .entry))) (deleteDirectory (now (path .entry))) ⌝ }
+{
+    slotless(journal::calls::delete_directory(image, journal, path))
 }
 
 #[no_mangle]

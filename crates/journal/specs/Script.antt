@@ -10,7 +10,7 @@ use lib.Dec.{eqb, leb}
 use Rattle.layout.specs.Lists.{within, every, joined}
 use Rattle.layout.specs.Bytes.{be32, bytes4, zeros, part, splice}
 use Rattle.layout.specs.Check.{check}
-use Rattle.volume.specs.Change.{Change, create, write, delete}
+use Rattle.volume.specs.Change.{Change, create, write, delete, createDirectory, deleteDirectory}
 use Rattle.journal.specs.Journal.{recordsFrom, started, startRefusal}
 use Rattle.journal.specs.Run.{checkImage, findFile, readFile, lookAt, Call, change, undo, look, Answer, changed, undone, checked, found, filled, shown, State, run, answers, state}
 use Rattle.journal.specs.Replay.{replayed, standing, replayAnswers}
@@ -43,16 +43,23 @@ abbrev pub Fits : List ℕ → ℕ → Type 0
 Fits s at = at + itemSize s at ≤ length s
 
 -- Ops: 1 check, 2 look up, 3 read (the data is its buffer as it is before the call), 4 look in place (the offset is its index), 5 create, 6 write,
--- 7 delete, 8 undo, which is the last.
+-- 7 delete, 8 undo, 9 create directory (its number of blocks is in the last four bytes of the offset), 10 delete directory.
 abbrev pub lastOp : ℕ
-lastOp = 8
+lastOp = 10
 
 unfoldable pub changeAt : List ℕ → ℕ → Change
 changeAt s at =
     let name = nameAt s at in
     let time = be64 s (at + 17) in
-    cond (eqb (opAt s at) 5) (create name (getD s (at + 1) 0) (getD s (at + 2) 0) (getD s (at + 3) 0) (getD s (at + 4) 0) (be32 s (at + 5)) time)
-    (cond (eqb (opAt s at) 6) (write name (be64 s (at + 9)) (dataAt s at) time) (delete name))
+    let type = getD s (at + 1) 0 in
+    let user = getD s (at + 2) 0 in
+    let group = getD s (at + 3) 0 in
+    let permissions = getD s (at + 4) 0 in
+    let flags = be32 s (at + 5) in
+    cond (eqb (opAt s at) 5) (create name type user group permissions flags time)
+    (cond (eqb (opAt s at) 6) (write name (be64 s (at + 9)) (dataAt s at) time)
+    (cond (eqb (opAt s at) 9) (createDirectory name type user group permissions flags time (be32 s (at + 13)))
+    (cond (eqb (opAt s at) 10) (deleteDirectory name) (delete name))))
 
 unfoldable pub callAt : List ℕ → ℕ → Call
 callAt s at =

@@ -1,6 +1,6 @@
 // The calls that are lent a journal. Each checks the image and scans the journal once.
 ghost use mathlib.Core.Path.{_≡_};
-ghost use Rattle.volume.specs.Change.{create, write, delete};
+ghost use Rattle.volume.specs.Change.{create, write, delete, createDirectory, deleteDirectory};
 ghost use Rattle.volume.specs.Asked.{asked};
 ghost use Rattle.journal.specs.Run.{afterUndo, undoAnswer, afterChange, changeAnswer, state};
 ghost use Rattle.journal.specs.Walks.Changes.{Inspects};
@@ -13,7 +13,7 @@ pub enum Undone {
     Refused(u32),
 }
 
-// What create, write and delete give: create's slot (0 for the others) and the length of the record added, or the number of the refusal.
+// What a change gives: the slot of a create, of a directory too (0 for the others), and the length of the record added, or the number of the refusal.
 pub enum Changed {
     Done { slot: u32, size: u32 },
     Refused(u32),
@@ -73,26 +73,26 @@ pub fn change(
     image: &mut [u8],
     journal: &mut [u8],
     what: Change,
-    name: &[u8],
+    path: &[u8],
     bytes: &[u8],
 ) -> Changed
-    ensures answer { λ r. ⌜ changedAnswer r ≡ changeAnswer (state (now (image .entry)) (now (journal .entry))) (asked what (now (name .entry)) (now (bytes .entry))) ⌝ }
-    ensures state { λ _. ⌜ state (now (image .exit)) (now (journal .exit)) ≡ afterChange (state (now (image .entry)) (now (journal .entry))) (asked what (now (name .entry)) (now (bytes .entry))) ⌝ }
+    ensures answer { λ r. ⌜ changedAnswer r ≡ changeAnswer (state (now (image .entry)) (now (journal .entry))) (asked what (now (path .entry)) (now (bytes .entry))) ⌝ }
+    ensures state { λ _. ⌜ state (now (image .exit)) (now (journal .exit)) ≡ afterChange (state (now (image .entry)) (now (journal .entry))) (asked what (now (path .entry)) (now (bytes .entry))) ⌝ }
     ensures numbered { λ r. ⌜ ChangeNumbered r ⌝ }
 {
     let unready = inspect(image, journal).number;
     if unready != 0 {
         return Changed::Refused(unready);
     }
-    let refusal = volume::change::refusal(image, what, name, bytes);
+    let refusal = volume::change::refusal(image, what, path, bytes);
     if refusal != 0 {
         return Changed::Refused(refusal);
     }
-    let size = super::naming::record_change(image, journal, what, name, bytes);
+    let size = super::naming::record_change(image, journal, what, path, bytes);
     if size == 0 {
         return Changed::Refused(15);
     }
-    let slot = volume::change::make(image, what, name, bytes);
+    let slot = volume::change::make(image, what, path, bytes);
     Changed::Done {
         slot: slot,
         size: size,
@@ -103,7 +103,7 @@ pub fn change(
 pub fn create(
     image: &mut [u8],
     journal: &mut [u8],
-    name: &[u8],
+    path: &[u8],
     kind: u8,
     user: u8,
     group: u8,
@@ -111,8 +111,8 @@ pub fn create(
     flags: u32,
     time: u64,
 ) -> Changed
-    ensures answer { λ r. ⌜ changedAnswer r ≡ changeAnswer (state (now (image .entry)) (now (journal .entry))) (create (now (name .entry)) kind user group permissions flags time) ⌝ }
-    ensures state { λ _. ⌜ state (now (image .exit)) (now (journal .exit)) ≡ afterChange (state (now (image .entry)) (now (journal .entry))) (create (now (name .entry)) kind user group permissions flags time) ⌝ }
+    ensures answer { λ r. ⌜ changedAnswer r ≡ changeAnswer (state (now (image .entry)) (now (journal .entry))) (create (now (path .entry)) kind user group permissions flags time) ⌝ }
+    ensures state { λ _. ⌜ state (now (image .exit)) (now (journal .exit)) ≡ afterChange (state (now (image .entry)) (now (journal .entry))) (create (now (path .entry)) kind user group permissions flags time) ⌝ }
     ensures numbered { λ r. ⌜ ChangeNumbered r ⌝ }
 {
     let what = Change::Create {
@@ -123,34 +123,72 @@ pub fn create(
         flags: flags,
         time: time,
     };
-    change(image, journal, what, name, b"")
+    change(image, journal, what, path, b"")
 }
 
 // Write: puts data at an offset of a file.
 pub fn write(
     image: &mut [u8],
     journal: &mut [u8],
-    name: &[u8],
+    path: &[u8],
     offset: usize,
     bytes: &[u8],
     time: u64,
 ) -> Changed
-    ensures answer { λ r. ⌜ changedAnswer r ≡ changeAnswer (state (now (image .entry)) (now (journal .entry))) (write (now (name .entry)) offset (now (bytes .entry)) time) ⌝ }
-    ensures state { λ _. ⌜ state (now (image .exit)) (now (journal .exit)) ≡ afterChange (state (now (image .entry)) (now (journal .entry))) (write (now (name .entry)) offset (now (bytes .entry)) time) ⌝ }
+    ensures answer { λ r. ⌜ changedAnswer r ≡ changeAnswer (state (now (image .entry)) (now (journal .entry))) (write (now (path .entry)) offset (now (bytes .entry)) time) ⌝ }
+    ensures state { λ _. ⌜ state (now (image .exit)) (now (journal .exit)) ≡ afterChange (state (now (image .entry)) (now (journal .entry))) (write (now (path .entry)) offset (now (bytes .entry)) time) ⌝ }
     ensures numbered { λ r. ⌜ ChangeNumbered r ⌝ }
 {
     let what = Change::Write {
         offset: offset,
         time: time,
     };
-    change(image, journal, what, name, bytes)
+    change(image, journal, what, path, bytes)
 }
 
 // Delete: frees a file's blocks and its slot.
-pub fn delete(image: &mut [u8], journal: &mut [u8], name: &[u8]) -> Changed
-    ensures answer { λ r. ⌜ changedAnswer r ≡ changeAnswer (state (now (image .entry)) (now (journal .entry))) (delete (now (name .entry))) ⌝ }
-    ensures state { λ _. ⌜ state (now (image .exit)) (now (journal .exit)) ≡ afterChange (state (now (image .entry)) (now (journal .entry))) (delete (now (name .entry))) ⌝ }
+pub fn delete(image: &mut [u8], journal: &mut [u8], path: &[u8]) -> Changed
+    ensures answer { λ r. ⌜ changedAnswer r ≡ changeAnswer (state (now (image .entry)) (now (journal .entry))) (delete (now (path .entry))) ⌝ }
+    ensures state { λ _. ⌜ state (now (image .exit)) (now (journal .exit)) ≡ afterChange (state (now (image .entry)) (now (journal .entry))) (delete (now (path .entry))) ⌝ }
     ensures numbered { λ r. ⌜ ChangeNumbered r ⌝ }
 {
-    change(image, journal, Change::Delete, name, b"")
+    change(image, journal, Change::Delete, path, b"")
+}
+
+// Create directory: a new empty directory of so many blocks, its entry in the lowest free slot.
+pub fn create_directory(
+    image: &mut [u8],
+    journal: &mut [u8],
+    path: &[u8],
+    kind: u8,
+    user: u8,
+    group: u8,
+    permissions: u8,
+    flags: u32,
+    blocks: u32,
+    time: u64,
+) -> Changed
+    ensures answer { λ r. ⌜ changedAnswer r ≡ changeAnswer (state (now (image .entry)) (now (journal .entry))) (createDirectory (now (path .entry)) kind user group permissions flags time blocks) ⌝ }
+    ensures state { λ _. ⌜ state (now (image .exit)) (now (journal .exit)) ≡ afterChange (state (now (image .entry)) (now (journal .entry))) (createDirectory (now (path .entry)) kind user group permissions flags time blocks) ⌝ }
+    ensures numbered { λ r. ⌜ ChangeNumbered r ⌝ }
+{
+    let what = Change::CreateDirectory {
+        kind: kind,
+        user: user,
+        group: group,
+        permissions: permissions,
+        flags: flags,
+        blocks: blocks,
+        time: time,
+    };
+    change(image, journal, what, path, b"")
+}
+
+// Delete directory: frees an empty directory's blocks and its slot.
+pub fn delete_directory(image: &mut [u8], journal: &mut [u8], path: &[u8]) -> Changed
+    ensures answer { λ r. ⌜ changedAnswer r ≡ changeAnswer (state (now (image .entry)) (now (journal .entry))) (deleteDirectory (now (path .entry))) ⌝ }
+    ensures state { λ _. ⌜ state (now (image .exit)) (now (journal .exit)) ≡ afterChange (state (now (image .entry)) (now (journal .entry))) (deleteDirectory (now (path .entry))) ⌝ }
+    ensures numbered { λ r. ⌜ ChangeNumbered r ⌝ }
+{
+    change(image, journal, Change::DeleteDirectory, path, b"")
 }

@@ -2,13 +2,14 @@
 ghost use mathlib.Core.Path.{_≡_};
 ghost use mathlib.Core.List.{List};
 ghost use Prim.Native.Nat.{ℕ, _+_, _≤_, _<_};
-ghost use lib.ListN.{length};
+ghost use lib.ListN.{length, getD};
 ghost use mathlib.Core.Bool.{true};
 ghost use Rattle.layout.specs.Lists.{every, joined};
-ghost use Rattle.layout.specs.Bytes.{splice};
+ghost use Rattle.layout.specs.Bytes.{be32, splice};
 ghost use Rattle.journal.specs.Run.{undo, answer, run, answers, state};
 ghost use Rattle.journal.specs.Answers.{changedAnswer, undoneAnswer, ranStatus};
 ghost use Rattle.volume.specs.Asked.{asked};
+ghost use Rattle.volume.specs.Change.{createDirectory};
 ghost use Rattle.journal.specs.Script.{numbers, lastOp, Fits, nameAt, dataAt, opAt, changeAt, callAt, encoded, itemOk, itemsFrom, callsOf, answersSize, leaves, outcome, replayOutcome, JustStarted};
 ghost use Rattle.journal.specs.Walks.Scripts.{Item, CallDone};
 use super::answers::Numbers;
@@ -57,6 +58,23 @@ fn undone_numbers(u: super::calls::Undone) -> Numbers
     }
 }
 
+// The directory that the item at `at` asks to create.
+fn directory_of(script: &[u8], at: usize, time: u64) -> Change
+    requires { ⌜ Fits (now script) at ⌝ }
+    ensures { λ r. ⌜ asked r (nameAt (now (script .entry)) at) (dataAt (now (script .entry)) at)
+        ≡ createDirectory (nameAt (now (script .entry)) at) (getD (now (script .entry)) (at + 1) 0) (getD (now (script .entry)) (at + 2) 0) (getD (now (script .entry)) (at + 3) 0) (getD (now (script .entry)) (at + 4) 0) (be32 (now (script .entry)) (at + 5)) time (be32 (now (script .entry)) (at + 13)) ⌝ }
+{
+    Change::CreateDirectory {
+        kind: script[at + 1],
+        user: script[at + 2],
+        group: script[at + 3],
+        permissions: script[at + 4],
+        flags: layout::number::get32(script, at + 5),
+        blocks: layout::number::get32(script, at + 13),
+        time: time,
+    }
+}
+
 // The change that the item at `at` asks for.
 fn change_of(script: &[u8], at: usize) -> Change
     requires { ⌜ Fits (now script) at ⌝ }
@@ -79,6 +97,12 @@ fn change_of(script: &[u8], at: usize) -> Change
             offset: get64(script, at + 9) as usize,
             time: time,
         };
+    }
+    if op == 9 {
+        return directory_of(script, at, time);
+    }
+    if op == 10 {
+        return Change::DeleteDirectory;
     }
     Change::Delete
 }

@@ -63,7 +63,7 @@ fn item_ok(script: &[u8], at: usize) -> bool
     if script[at] < 1 {
         return false;
     }
-    script[at] <= 8
+    script[at] <= 10
 }
 
 // The length of the answer to the item at `at`.

@@ -1,6 +1,7 @@
 -- THE LAWS that the proofs of this crate and of the crates above cite, by what they speak of.
 pub mod Tests
 pub mod Lists
+pub mod Joins
 pub mod Bytes
 pub mod Frames
 pub mod Names
@@ -8,11 +9,22 @@ pub mod Chains
 pub mod Tables
 pub mod Counts
 pub mod Values
-pub mod Sound
+pub mod Visits
+pub mod Trees
 pub mod Entries
-pub mod Files
-pub mod Looks
-pub mod Owners
+pub mod Sound
+pub mod Slots
 pub mod Changed
+pub mod Paths
+pub mod Owners
 pub mod Steps
+pub mod Spread
+pub mod Comes
+pub mod Goes
+pub mod Empties
+pub mod Files
 pub mod Others
+pub mod Roots
+pub mod Looks
+pub mod Ways
+pub mod Newcomers

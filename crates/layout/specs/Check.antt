@@ -1,17 +1,17 @@
 -- The check (01, "The check, in stages"): "The first stage that is not met gives the number." The paper calls an image that meets all seven sound:
 -- check s ≡ 0.
-use Prim.Native.Nat.{ℕ, _+_, _-_, _*_}
-use mathlib.Core.List.{List, [], _∷_, map}
-use mathlib.Core.Bool.{Bool, _&&_, _||_}
-use lib.ListN.{length, getD, take}
+use Prim.Native.Nat.{ℕ, zero, suc, _+_, _-_, _*_}
+use mathlib.Core.List.{List, [], _∷_, _++_}
+use mathlib.Core.Bool.{Bool, true, false, not, _&&_, _||_, cond}
+use lib.ListN.{length, take}
 use lib.Dec.{eqb}
 use Rattle.layout.specs.Lists.{within, iff, interval, every, has, distinct, same, joined}
-use Rattle.layout.specs.Refusals.{require}
-use Rattle.layout.specs.Bytes.{be32}
-use Rattle.layout.specs.Limits.{minBlocks, maxBlocks, maxDirectory}
+use Rattle.layout.specs.Refusals.{require, firstOf}
+use Rattle.layout.specs.Bytes.{be32, part}
+use Rattle.layout.specs.Limits.{minBlocks, maxBlocks, maxDirectory, maxLevels}
 use Rattle.layout.specs.Geometry.{signature, blockCount, tableBlocks, rootBlock, blocksFor}
 use Rattle.layout.specs.Table.{next, chain, chainOk, occupied}
-use Rattle.layout.specs.Directory.{slotAt, slots, typeOf, firstBlock, sizeOf, blocksOf, selfOf, parentOf, isFree, isFile, nameOf, nameOk, files, root}
+use Rattle.layout.specs.Directory.{slotAt, slots, typeOf, firstBlock, sizeOf, blocksOf, selfOf, parentOf, isFree, isFile, isDirectory, nameOf, nameOk, files, directory, dirs}
 
 -- 1. "Length is 512·n with n in range."
 unfoldable pub stage1 : List ℕ → Bool
@@ -33,13 +33,18 @@ unfoldable pub directoryOk : List ℕ → ℕ → ℕ → ℕ → Bool
 directoryOk s n b parent =
     let e = 512 * b in
     eqb (typeOf s e) 1 && (eqb (selfOf s e) b && (eqb (parentOf s e) parent && (within 1 maxDirectory (blocksOf s e)
-    && (chainOk (next s) n b (blocksOf s e) && distinct eqb (chain (next s) b (blocksOf s e))))))
+    && (chainOk (next s) n b (blocksOf s e) && distinct eqb (directory s b)))))
 
-unfoldable pub stage4 : List ℕ → Bool
-stage4 s = let n = blockCount s in directoryOk s n (rootBlock n) (rootBlock n)
+-- 02, L4: "A child's stage 4 wants self, name and d as in its entry, its parent's first block as parent": of the child of the directory at block
+-- `parent` whose entry is at e
+unfoldable pub childOk : List ℕ → ℕ → ℕ → ℕ → Bool
+childOk s n parent e =
+    let b = firstBlock s e in
+    directoryOk s n b parent && (eqb (blocksOf s (512 * b)) (blocksOf s e) && same (part s (512 * b + 48) 80) (part s (e + 48) 80))
 
 -- 5. "Slot 4d−1 has type 0xFF. Each slot from 1 to 4d−2 is free or a file. For a file: a good name, none equal to another; both attribute fields 0;
--- size in blocks = ceil(size/512); first block 0 exactly if the size is 0."
+-- size in blocks = ceil(size/512); first block 0 exactly if the size is 0." 02, L4: "Of a directory entry stage 5 asks a good name, none equal, and
+-- attribute fields and size in bytes 0."
 unfoldable pub attributesOk : List ℕ → ℕ → Bool
 attributesOk s e = eqb (be32 s (e + 32)) 0 && eqb (be32 s (e + 36)) 0
 
@@ -47,23 +52,79 @@ unfoldable pub fileOk : List ℕ → ℕ → Bool
 fileOk s e =
     nameOk s e && (attributesOk s e && (eqb (blocksOf s e) (blocksFor (sizeOf s e)) && iff (eqb (firstBlock s e) 0) (eqb (sizeOf s e) 0)))
 
+unfoldable pub directoryEntryOk : List ℕ → ℕ → Bool
+directoryEntryOk s e = nameOk s e && (attributesOk s e && eqb (sizeOf s e) 0)
+
 unfoldable pub slotOk : List ℕ → ℕ → Bool
-slotOk s e = isFree (typeOf s e) || isFile (typeOf s e) && fileOk s e
+slotOk s e = isFree (typeOf s e) || (isFile (typeOf s e) && fileOk s e || isDirectory (typeOf s e) && directoryEntryOk s e)
 
-unfoldable pub entriesOk : List ℕ → List ℕ → Bool
-entriesOk s ds =
-    eqb (typeOf s (slotAt ds (4 * length ds - 1))) 0xFF && (every (λ k. slotOk s (slotAt ds k)) (slots ds)
-    && distinct same (map (λ k. nameOf s (slotAt ds k)) (files s ds)))
+-- "of equal names the later fails": slot k is free, or no earlier slot that is not free has its name
+unfoldable pub newName : List ℕ → List ℕ → ℕ → Bool
+newName s ds k =
+    let e = slotAt ds k in
+    isFree (typeOf s e) || every (λ j. isFree (typeOf s (slotAt ds j)) || not (same (nameOf s (slotAt ds j)) (nameOf s e))) (interval 1 (k - 1))
 
-unfoldable pub stage5 : List ℕ → Bool
-stage5 s = entriesOk s (root s)
+-- 02, L4: "The check goes from a directory to its entries and from an entry back to a child directory: stage 4, the end slot, then each slot by
+-- stage 5 (of equal names the later fails), a child wholly before the next slot; the first fault met gives 4 or 5." A visit is handed the directory
+-- blocks met so far, and gives the fault, or all blocks met then.
+pub data Visit : Type 0 where
+  fault4 fault5 : Visit
+  met : List ℕ → Visit
 
--- The chains that own blocks, each a first block and a length: of a file; of a directory and its files, in slot order. And all their blocks.
+abbrev pub needs : Bool → Visit → Visit → Visit
+needs true fault rest = rest
+needs false fault rest = fault
+
+abbrev pub andThen : Visit → (List ℕ → Visit) → Visit
+andThen fault4 rest = fault4
+andThen fault5 rest = fault5
+andThen (met bs) rest = rest bs
+
+-- the slots ks of the directory ds, and its end slot before; `child` visits the child directory of an entry
+unfoldable pub visitSlots : (ℕ → List ℕ → Visit) → List ℕ → List ℕ → List ℕ → List ℕ → Visit
+visitSlots child s ds [] bs = met bs
+visitSlots child s ds (k ∷ ks) bs =
+    let e = slotAt ds k in
+    let down = child e bs in
+    let rest = andThen (cond (isDirectory (typeOf s e)) down (met bs)) (visitSlots child s ds ks) in
+    needs (slotOk s e && newName s ds k) fault5 rest
+
+unfoldable pub visitEntries : (ℕ → List ℕ → Visit) → List ℕ → List ℕ → List ℕ → Visit
+visitEntries child s ds bs =
+    let rest = visitSlots child s ds (slots ds) bs in
+    needs (eqb (typeOf s (slotAt ds (4 * length ds - 1))) 0xFF) fault5 rest
+
+-- the child of the directory at block `parent` whose entry is at e, with `left` levels left: "no ninth level or directory block met twice"
+unfoldable pub visitChild : ℕ → List ℕ → ℕ → ℕ → ℕ → List ℕ → Visit
+visitChild zero s n parent e bs = fault4
+visitChild (suc left) s n parent e bs =
+    let b = firstBlock s e in
+    let ds = directory s b in
+    let rest = visitEntries (visitChild left s n b) s ds (bs ++ ds) in
+    needs (childOk s n parent e && every (λ x. not (has eqb x bs)) ds) fault4 rest
+
+unfoldable pub visitRoot : List ℕ → Visit
+visitRoot s =
+    let n = blockCount s in
+    let b = rootBlock n in
+    let rest = visitEntries (visitChild maxLevels s n b) s (directory s b) (directory s b) in
+    needs (directoryOk s n b b) fault4 rest
+
+abbrev pub faultOf : Visit → ℕ
+faultOf fault4 = 4
+faultOf fault5 = 5
+faultOf (met bs) = 0
+
+-- The chains that own blocks, each a first block and a length: of a file; of the directory at block b and its files, in slot order; of the whole
+-- tree. And all their blocks.
 unfoldable pub fileChains : List ℕ → ℕ → List (ℕ × ℕ)
 fileChains s e = (firstBlock s e, blocksOf s e) ∷ []
 
-unfoldable pub chains : List ℕ → List ℕ → List (ℕ × ℕ)
-chains s ds = (getD ds 0 0, length ds) ∷ joined (λ k. fileChains s (slotAt ds k)) (files s ds)
+unfoldable pub chains : List ℕ → ℕ → List (ℕ × ℕ)
+chains s b = let ds = directory s b in (b, length ds) ∷ joined (λ k. fileChains s (slotAt ds k)) (files s ds)
+
+unfoldable pub allChains : List ℕ → List (ℕ × ℕ)
+allChains s = joined (λ d. chains s (d .0)) (dirs s)
 
 unfoldable pub owned : (ℕ → ℕ) → List (ℕ × ℕ) → List ℕ
 owned v cs = joined (λ c. chain v (c .0) (c .1)) cs
@@ -78,7 +139,7 @@ tableOk v n cs =
     && every (λ b. eqb (v b) 0 || has eqb b os) (interval (t + 1) (128 * t - (t + 1)))))
 
 unfoldable pub stage6 : List ℕ → Bool
-stage6 s = tableOk (next s) (blockCount s) (chains s (root s))
+stage6 s = tableOk (next s) (blockCount s) (allChains s)
 
 -- 7. "Occupied = number of non-zero entries below n; free = n − occupied."
 unfoldable pub stage7 : List ℕ → Bool
@@ -89,7 +150,6 @@ check s =
     require (stage1 s) 1
     (require (stage2 s) 2
     (require (stage3 s) 3
-    (require (stage4 s) 4
-    (require (stage5 s) 5
+    (firstOf (faultOf (visitRoot s))
     (require (stage6 s) 6
-    (require (stage7 s) 7 0))))))
+    (require (stage7 s) 7 0)))))

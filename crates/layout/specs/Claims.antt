@@ -2,7 +2,7 @@
 use Prim.Native.Nat.{ℕ, _<_}
 use mathlib.Core.Path.{_≡_}
 use mathlib.Core.Bool.{true}
-use mathlib.Core.List.{List}
+use mathlib.Core.List.{List, _∷_, _++_}
 use mathlib.Core.Logic.{_≢_}
 use lib.ListN.{length, getD}
 use lib.Dec.{eqb}
@@ -10,8 +10,8 @@ use Rattle.layout.specs.Lists.{has}
 use Rattle.layout.specs.Bytes.{part}
 use Rattle.layout.specs.Geometry.{blockCount}
 use Rattle.layout.specs.Table.{next}
-use Rattle.layout.specs.Directory.{fileSlot, root, fileBlocks, content}
-use Rattle.layout.specs.Looks.{entryOf}
+use Rattle.layout.specs.Directory.{isFile, fileBlocks, content}
+use Rattle.layout.specs.Paths.{parts, leading, shallow, pathSlot, entryOf}
 
 -- "Blocks needed are taken lowest number first": bs are free blocks of s, in ascending order, and no free block below one of them is left out
 pub record LowestFree (s bs : List ℕ) : Type 0 where
@@ -19,10 +19,21 @@ pub record LowestFree (s bs : List ℕ) : Type 0 where
   pub rising : (i j : ℕ) → i < j → j < length bs → getD bs i 0 < getD bs j 0
   pub lowest : (b c : ℕ) → has eqb c bs ≡ true → b < c → next s b ≡ 0 → has eqb b bs ≡ true
 
--- the file of a name in s and in s′: found in the same slot, with the same bytes of its entry, blocks and content
+-- the path leads to a file, through at most as many directories as there may be levels
+abbrev pub Reached : List ℕ → List ℕ → Type 0
+Reached s other = (shallow (leading (parts other)) ≡ true) × (pathSlot isFile s other ≢ 0)
+
+-- the file of a path in s and in s′: found in the same slot, with the same bytes of its entry, blocks and content
 pub record Untouched (s s′ other : List ℕ) : Type 0 where
-  pub slot : fileSlot s′ (root s′) other ≡ fileSlot s (root s) other
-  pub entry : entryOf s′ other ≡ entryOf s other
-  pub bytes : fileSlot s (root s) other ≢ 0 → part s′ (entryOf s other) 128 ≡ part s (entryOf s other) 128
-  pub blocks : fileSlot s (root s) other ≢ 0 → fileBlocks s′ (entryOf s other) ≡ fileBlocks s (entryOf s other)
-  pub contents : fileSlot s (root s) other ≢ 0 → content s′ (entryOf s other) ≡ content s (entryOf s other)
+  pub slot : shallow (leading (parts other)) ≡ true → pathSlot isFile s′ other ≡ pathSlot isFile s other
+  pub entry : Reached s other → entryOf isFile s′ other ≡ entryOf isFile s other
+  pub bytes : Reached s other → part s′ (entryOf isFile s other) 128 ≡ part s (entryOf isFile s other) 128
+  pub blocks : Reached s other → fileBlocks s′ (entryOf isFile s other) ≡ fileBlocks s (entryOf isFile s other)
+  pub contents : Reached s other → content s′ (entryOf isFile s other) ≡ content s (entryOf isFile s other)
+
+-- `more` is `less` with one element put in somewhere
+pub record Inserted {A : Type 0} (one : A) (less more : List A) : Type 0 where
+  pub front : List A
+  pub back : List A
+  pub less-is : less ≡ front ++ back
+  pub more-is : more ≡ front ++ (one ∷ back)

@@ -1,13 +1,13 @@
 -- Directories and their entries (01, "Directory entry, 128 bytes"). A directory is the list ds of its blocks in chain order; an entry is named by
 -- the offset e at which it begins.
 use Prim.Native.Nat.{ℕ, zero, suc, _+_, _-_, _*_, _/_, _%_}
-use mathlib.Core.List.{List, [], _∷_, _++_}
+use mathlib.Core.List.{List, [], _∷_, _++_, map}
 use mathlib.Core.Bool.{Bool, not, _&&_}
 use lib.ListN.{length, getD, take}
 use lib.Dec.{eqb}
 use Rattle.layout.specs.Lists.{within, interval, every, select, lowest, same, joined}
 use Rattle.layout.specs.Bytes.{be32, part, block, zeros}
-use Rattle.layout.specs.Limits.{maxName}
+use Rattle.layout.specs.Limits.{maxName, maxLevels}
 use Rattle.layout.specs.Geometry.{blockCount, rootBlock}
 use Rattle.layout.specs.Table.{next, chain}
 
@@ -46,9 +46,19 @@ isFree type = eqb type 0
 abbrev pub isFile : ℕ → Bool
 isFile type = within 0x60 0x9F type
 
--- "A name is 1 to 80 non-zero bytes, zeros after it if any room is left." (02, L2)
+abbrev pub isUsed : ℕ → Bool
+isUsed type = not (isFree type)
+
+-- 02, L4: "Child directories (types 0x20 to 0x5F) join"
+abbrev pub isDirectory : ℕ → Bool
+isDirectory type = within 0x20 0x5F type
+
+-- "A name is 1 to 80 non-zero bytes, zeros after it if any room is left" (02, L2); "The byte `/` is no longer part of a name" (02, L4)
+abbrev pub slash : ℕ
+slash = 0x2F
+
 abbrev pub nameByte : ℕ → Bool
-nameByte x = not (eqb x 0)
+nameByte x = not (eqb x 0) && not (eqb x slash)
 
 unfoldable pub goodName : List ℕ → Bool
 goodName name = within 1 maxName (length name) && every nameByte name
@@ -69,19 +79,42 @@ nameOf s e = unpadded (part s (e + 48) 80)
 unfoldable pub nameOk : List ℕ → ℕ → Bool
 nameOk s e = goodName (nameOf s e) && same (part s (e + 48) 80) (padded (nameOf s e))
 
--- the slots that hold files; the slot of the file of a name, or 0; the lowest free slot, or 0
+-- the slots that hold files; the slot of a name, among those whose type passes, or 0; the lowest free slot, or 0
 unfoldable pub files : List ℕ → List ℕ → List ℕ
 files s ds = select (λ k. isFile (typeOf s (slotAt ds k))) (slots ds)
 
-unfoldable pub fileSlot : List ℕ → List ℕ → List ℕ → ℕ
-fileSlot s ds name = lowest (λ k. isFile (typeOf s (slotAt ds k)) && same (nameOf s (slotAt ds k)) name) (slots ds)
+unfoldable pub slotOf : (ℕ → Bool) → List ℕ → List ℕ → List ℕ → ℕ
+slotOf type s ds name = lowest (λ k. type (typeOf s (slotAt ds k)) && same (nameOf s (slotAt ds k)) name) (slots ds)
 
 unfoldable pub freeSlot : List ℕ → List ℕ → ℕ
 freeSlot s ds = lowest (λ k. isFree (typeOf s (slotAt ds k))) (slots ds)
 
--- the blocks of the root directory, as many as its self entry counts
-unfoldable pub root : List ℕ → List ℕ
-root s = let b = rootBlock (blockCount s) in chain (next s) b (blocksOf s (512 * b))
+-- the blocks of the directory that begins at block b, as many as its self entry counts
+unfoldable pub directory : List ℕ → ℕ → List ℕ
+directory s b = chain (next s) b (blocksOf s (512 * b))
+
+-- 02, L4: "only when empty": every slot between the self entry and the end is free
+unfoldable pub isEmpty : List ℕ → ℕ → Bool
+isEmpty s b = let ds = directory s b in every (λ k. isFree (typeOf s (slotAt ds k))) (slots ds)
+
+-- where the root begins, and its blocks
+abbrev pub rootOf : List ℕ → ℕ
+rootOf s = rootBlock (blockCount s)
+
+abbrev pub root : List ℕ → List ℕ
+root s = directory s (rootOf s)
+
+-- THE TREE. The entries of the child directories of a directory, in slot order; a directory and all below it, each before those below it, as its
+-- first block and the number of levels that may come below it; all of them, from the root on.
+unfoldable pub children : List ℕ → ℕ → List ℕ
+children s b = let ds = directory s b in map (slotAt ds) (select (λ k. isDirectory (typeOf s (slotAt ds k))) (slots ds))
+
+unfoldable pub below : List ℕ → ℕ → ℕ → List (ℕ × ℕ)
+below s zero b = (b, zero) ∷ []
+below s (suc left) b = (b, suc left) ∷ joined (λ e. below s left (firstBlock s e)) (children s b)
+
+unfoldable pub dirs : List ℕ → List (ℕ × ℕ)
+dirs s = below s maxLevels (rootOf s)
 
 -- a file's blocks; "A file's bytes are its chain's blocks in chain order, cut at its size."
 unfoldable pub fileBlocks : List ℕ → ℕ → List ℕ

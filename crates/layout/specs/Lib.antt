@@ -6,6 +6,7 @@ pub mod Geometry
 pub mod Table
 pub mod Directory
 pub mod Check
+pub mod Paths
 pub mod Looks
 pub mod Listing
 pub mod Claims

@@ -20,6 +20,10 @@ maxDirectory = 64
 abbrev pub maxSlots : ℕ
 maxSlots = 4 * maxDirectory
 
+-- 02, L4: "at most 8 levels below the root"
+abbrev pub maxLevels : ℕ
+maxLevels = 8
+
 -- "A name is 1 to 80 non-zero bytes" (02, L2): the whole field
 abbrev pub maxName : ℕ
 maxName = 80

@@ -60,19 +60,20 @@ fn name_length(field: &[u8]) -> usize
     field.len()
 }
 
-// Whether a field of 80 bytes holds a name of at least one byte, and zeros after it if any room is left.
+// Whether a field of 80 bytes holds a good name and zeros after it.
 pub fn name_ok(field: &[u8]) -> bool
     requires { ⌜ length (now field) ≡ 80 ⌝ }
     ensures { λ r. ⌜ r ≡ fieldOk (now (field .entry)) ⌝ }
 {
+    let z = 0;
     let k = name_length(field);
-    if k == 0 {
+    if !good_name(&field[z..k]) {
         return false;
     }
     all_zero(&field[k..])
 }
 
-// Whether a name has 1 to 80 bytes, none of them 0.
+// Whether a name has 1 to 80 bytes, none of them 0 or `/`.
 pub fn good_name(name: &[u8]) -> bool
     ensures { λ r. ⌜ r ≡ goodName (now (name .entry)) ⌝ }
 {
@@ -84,6 +85,9 @@ pub fn good_name(name: &[u8]) -> bool
     }
     for i in 0..name.len() {
         if name[i] == 0 {
+            return false;
+        }
+        if name[i] == b'/' {
             return false;
         }
     }

@@ -5,10 +5,9 @@ ghost use lib.ListN.{length};
 ghost use Rattle.layout.specs.Limits.{maxBlocks, smallBlocks};
 ghost use Rattle.layout.specs.Bytes.{zeros};
 ghost use Rattle.layout.specs.Geometry.{tableBlocks};
-ghost use Rattle.layout.specs.Table.{next, chain};
 ghost use Rattle.layout.specs.Check.{check, stage1, stage2, stage7};
-ghost use Rattle.layout.specs.Walks.Shapes.{Shape, Room, DirectoryAt};
-ghost use Rattle.layout.specs.Walks.Stages.{headerOk, countsOk, followTable, headStage, filesStage, bodyStage, RootMarked};
+ghost use Rattle.layout.specs.Walks.Shapes.{Shape, Room};
+ghost use Rattle.layout.specs.Walks.Stages.{visited, walkRoot, headerOk, countsOk, headStage, bodyStage};
 use super::limits::MAX_BLOCKS;
 use super::limits::MIN_BLOCKS;
 use super::limits::SMALL_BLOCKS;
@@ -71,22 +70,6 @@ fn head(image: &[u8]) -> u32
     0
 }
 
-// Stage 6, when the root's chain is marked: the files' chains, the table's first entries, and the others.
-fn table_ok(image: &[u8], t: usize, n: usize, first: usize, d: usize, marks: &mut [u8]) -> bool
-    requires { ⌜ (Room (now image) t n (now marks)) × (DirectoryAt (now image) n first d) ⌝ }
-    ensures { λ r. ⌜ r ≡ followTable (now (image .entry)) t n (chain (next (now (image .entry))) first d) d (now (marks .entry)) ⌝ }
-{
-    if !super::directory::follow_files(image, t, n, first, d, marks) {
-        return false;
-    }
-    let low = t + 1;
-    if !super::table::ones(image, low) {
-        return false;
-    }
-    let count = 128 * t - low;
-    super::table::rest_free(image, marks, low, count)
-}
-
 // The header's counts, of the first block.
 fn counted(header: &[u8], n: usize, used: usize) -> bool
     requires { ⌜ (512 ≤ length (now header)) × (used ≤ n) ⌝ }
@@ -107,17 +90,13 @@ fn counts_ok(image: &[u8], n: usize) -> bool
     counted(super::bytes::block(image, 0), n, used)
 }
 
-// Stages 5 to 7, when the root's blocks are marked.
-fn files(image: &[u8], n: usize, d: usize, marks: &mut [u8]) -> u32
-    requires { ⌜ RootMarked (now image) n d (now marks) ⌝ }
-    ensures { λ r. ⌜ r ≡ filesStage (now (image .entry)) ⌝ }
+// Stages 6 and 7, when the blocks of all directories are marked in dirs; no block is marked in marks.
+fn tables(image: &[u8], t: usize, n: usize, dirs: &[u8], marks: &mut [u8]) -> u32
+    requires { ⌜ (Room (now image) t n (now dirs)) × (visited 0 (now dirs) ≡ walkRoot (now image) n (zeros (length (now dirs))))
+        × (128 * t ≤ length (now marks)) × (now marks ≡ zeros (length (now marks))) ⌝ }
+    ensures { λ r. ⌜ r ≡ bodyStage (now (image .entry)) ⌝ }
 {
-    let t = super::geometry::table_blocks(n);
-    let root = t + 1;
-    if !super::directory::entries_ok(image, n, root, d) {
-        return 5;
-    }
-    if !table_ok(image, t, n, root, d, marks) {
+    if !super::chains::table_ok(image, t, n, dirs, marks) {
         return 6;
     }
     if !counts_ok(image, n) {
@@ -126,18 +105,18 @@ fn files(image: &[u8], n: usize, d: usize, marks: &mut [u8]) -> u32
     0
 }
 
-// Stages 4 to 7, with marks for all entries of the table, none marked.
-fn body(image: &[u8], n: usize, marks: &mut [u8]) -> u32
-    requires { ⌜ (Shape (now image) n) × (128 * tableBlocks n ≤ length (now marks)) × (now marks ≡ zeros (length (now marks))) ⌝ }
+// Stages 4 to 7, with two marks for each entry of the table, none marked.
+fn body(image: &[u8], n: usize, dirs: &mut [u8], marks: &mut [u8]) -> u32
+    requires { ⌜ (Shape (now image) n) × (128 * tableBlocks n ≤ length (now dirs)) × (now dirs ≡ zeros (length (now dirs)))
+        × (128 * tableBlocks n ≤ length (now marks)) × (now marks ≡ zeros (length (now marks))) ⌝ }
     ensures { λ r. ⌜ r ≡ bodyStage (now (image .entry)) ⌝ }
 {
     let t = super::geometry::table_blocks(n);
-    let root = t + 1;
-    if !super::directory::directory_ok(image, t, n, root, root, marks) {
-        return 4;
+    let why = super::visit::visit(image, t, n, dirs);
+    if why != 0 {
+        return why;
     }
-    let d = super::directory::number_at(image, root, 0, 12);
-    files(image, n, d, marks)
+    tables(image, t, n, dirs, marks)
 }
 
 // The same of a small volume.
@@ -145,8 +124,9 @@ fn small_body(image: &[u8], n: usize) -> u32
     requires { ⌜ (Shape (now image) n) × (n ≤ smallBlocks) ⌝ }
     ensures { λ r. ⌜ r ≡ bodyStage (now (image .entry)) ⌝ }
 {
+    let mut dirs = super::table::few_marks();
     let mut marks = super::table::few_marks();
-    body(image, n, &mut marks)
+    body(image, n, &mut dirs, &mut marks)
 }
 
 // The same of any volume.
@@ -154,8 +134,9 @@ fn large_body(image: &[u8], n: usize) -> u32
     requires { ⌜ Shape (now image) n ⌝ }
     ensures { λ r. ⌜ r ≡ bodyStage (now (image .entry)) ⌝ }
 {
+    let mut dirs = super::table::no_marks();
     let mut marks = super::table::no_marks();
-    body(image, n, &mut marks)
+    body(image, n, &mut dirs, &mut marks)
 }
 
 // The check: 0, or the number of the first stage that is not met.

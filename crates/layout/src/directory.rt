@@ -2,18 +2,17 @@
 ghost use Prim.Native.Nat.{_+_, _-_, _*_, _≤_, _<_};
 ghost use mathlib.Core.Bool.{_&&_, true};
 ghost use mathlib.Core.Path.{_≡_};
-ghost use lib.Dec.{eqb};
 ghost use lib.ListN.{length};
-ghost use Rattle.layout.specs.Lists.{same};
+ghost use Rattle.layout.specs.Lists.{within, same};
 ghost use Rattle.layout.specs.Bytes.{be32, part};
 ghost use Rattle.layout.specs.Table.{next, chain, tableBlockOf};
-ghost use Rattle.layout.specs.Directory.{slotAt, typeOf, isFile, nameOf, goodName, fileSlot, freeSlot};
-ghost use Rattle.layout.specs.Check.{slotOk, entriesOk};
+ghost use Rattle.layout.specs.Directory.{typeOf, isFile, isDirectory, nameOf, nameOk, goodName, slotOf, freeSlot, blocksOf, directory, isEmpty};
+ghost use Rattle.layout.specs.Check.{fileOk, directoryEntryOk, slotOk};
 ghost use Rattle.layout.specs.Walks.Chains.{walked};
 ghost use Rattle.layout.specs.Walks.Entries.{numbersOk, selfOk};
 ghost use Rattle.layout.specs.Walks.Shapes.{Room, DirectoryAt};
-ghost use Rattle.layout.specs.Walks.Slots.{Stands, entryAt, slotBlock, slotsOk};
-ghost use Rattle.layout.specs.Walks.Stages.{followSlot, followFiles, followDirectory};
+ghost use Rattle.layout.specs.Walks.Slots.{Stands, entryAt, slotBlock, allFree};
+ghost use Rattle.layout.specs.Walks.Stages.{followDirectory};
 use super::limits::MAX_DIRECTORY;
 use super::limits::NAME_FIELD;
 use super::number::get32;
@@ -39,6 +38,26 @@ pub fn is_file(ty: u8) -> bool
     ty <= 0x9F
 }
 
+// Whether a type is a child directory's.
+pub fn is_directory(ty: u8) -> bool
+    ensures { λ r. ⌜ r ≡ isDirectory ty ⌝ }
+{
+    if ty < 0x20 {
+        return false;
+    }
+    ty <= 0x5F
+}
+
+// Whether a type is one of those from lo to hi.
+pub fn is_within(ty: u8, lo: u8, hi: u8) -> bool
+    ensures { λ r. ⌜ r ≡ within lo hi ty ⌝ }
+{
+    if ty < lo {
+        return false;
+    }
+    ty <= hi
+}
+
 // Whether the numbers of the file at o are right.
 fn numbers_ok(block: &[u8], o: usize) -> bool
     requires { ⌜ o + 128 ≤ length (now block) ⌝ }
@@ -61,7 +80,43 @@ fn numbers_ok(block: &[u8], o: usize) -> bool
     size != 0
 }
 
-// Whether the slot at o of a directory's block is free or a good file.
+// Whether the entry at o has a good name.
+fn named(block: &[u8], o: usize) -> bool
+    requires { ⌜ o + 128 ≤ length (now block) ⌝ }
+    ensures { λ r. ⌜ r ≡ nameOk (now (block .entry)) o ⌝ }
+{
+    super::bytes::name_ok(field_of(block, o))
+}
+
+// Whether the entry at o is a right file's.
+fn file_ok(block: &[u8], o: usize) -> bool
+    requires { ⌜ o + 128 ≤ length (now block) ⌝ }
+    ensures { λ r. ⌜ r ≡ fileOk (now (block .entry)) o ⌝ }
+{
+    if !named(block, o) {
+        return false;
+    }
+    numbers_ok(block, o)
+}
+
+// Whether the entry at o is a right one of a child directory.
+fn directory_entry_ok(block: &[u8], o: usize) -> bool
+    requires { ⌜ o + 128 ≤ length (now block) ⌝ }
+    ensures { λ r. ⌜ r ≡ directoryEntryOk (now (block .entry)) o ⌝ }
+{
+    if !named(block, o) {
+        return false;
+    }
+    if get32(block, o + 32) != 0 {
+        return false;
+    }
+    if get32(block, o + 36) != 0 {
+        return false;
+    }
+    get32(block, o + 8) == 0
+}
+
+// Whether the slot at o of a directory's block is free, or a right file or child directory.
 fn slot_ok(block: &[u8], o: usize) -> bool
     requires { ⌜ o + 128 ≤ length (now block) ⌝ }
     ensures { λ r. ⌜ r ≡ slotOk (now (block .entry)) o ⌝ }
@@ -69,15 +124,13 @@ fn slot_ok(block: &[u8], o: usize) -> bool
     if block[o] == 0 {
         return true;
     }
-    if !is_file(block[o]) {
-        return false;
+    if is_file(block[o]) {
+        return file_ok(block, o);
     }
-    let a = o + 48;
-    let e = a + NAME_FIELD;
-    if !super::bytes::name_ok(&block[a..e]) {
-        return false;
+    if is_directory(block[o]) {
+        return directory_entry_ok(block, o);
     }
-    numbers_ok(block, o)
+    false
 }
 
 // Whether the entry at the start of block b is its self entry.
@@ -132,7 +185,7 @@ pub fn number_at(image: &[u8], b: usize, k: usize, at: usize) -> usize
     word_at(image, b, k, at) as usize
 }
 
-fn slot_ok_at(image: &[u8], b: usize, k: usize) -> bool
+pub fn slot_ok_at(image: &[u8], b: usize, k: usize) -> bool
     requires { ⌜ 512 * b + 512 ≤ length (now image) ⌝ }
     ensures { λ r. ⌜ r ≡ slotOk (now (image .entry)) (entryAt b k) ⌝ }
 {
@@ -159,77 +212,6 @@ pub fn field_at<'a>(image: &'a [u8], b: usize, k: usize) -> &'a [u8]
     field_of(super::bytes::block(image, b), o)
 }
 
-// Whether each slot from 1 to 4·d − 2 of a directory is right, and the last is the end.
-fn slots_ok(image: &[u8], n: usize, first: usize, d: usize) -> bool
-    requires { ⌜ DirectoryAt (now image) n first d ⌝ }
-    ensures { λ r. ⌜ r ≡ slotsOk (now (image .entry)) (chain (next (now (image .entry))) first d) 1 (4 * d - 2)
-        && eqb (typeOf (now (image .entry)) (slotAt (chain (next (now (image .entry))) first d) (4 * d - 1))) 0xFF ⌝ }
-{
-    let mut b = first;
-    let mut k = 1;
-    let mut left = 4 * d - 2;
-    while 0 < left {
-        if !slot_ok_at(image, b, k) {
-            return false;
-        }
-        k = k + 1;
-        b = following(image, b, k);
-        left = left - 1;
-    }
-    type_at(image, b, k) == 0xFF
-}
-
-// Whether the entries of a directory are right.
-pub fn entries_ok(image: &[u8], n: usize, first: usize, d: usize) -> bool
-    requires { ⌜ DirectoryAt (now image) n first d ⌝ }
-    ensures { λ r. ⌜ r ≡ entriesOk (now (image .entry)) (chain (next (now (image .entry))) first d) ⌝ }
-{
-    if !slots_ok(image, n, first, d) {
-        return false;
-    }
-    super::names::names_apart(image, n, first, d)
-}
-
-// Follows the chain of the file in slot k, which is in block b, if there is one, and marks its blocks.
-fn follow_slot(image: &[u8], t: usize, n: usize, b: usize, k: usize, marks: &mut [u8]) -> bool
-    requires { ⌜ (Room (now image) t n (now marks)) × (b < n) ⌝ }
-    ensures { λ r. ⌜ walked r (now (marks .exit)) ≡ followSlot (now (image .entry)) n (entryAt b k) (now (marks .entry)) ⌝ }
-{
-    if !is_file(type_at(image, b, k)) {
-        return true;
-    }
-    let first = number_at(image, b, k, 4);
-    let blocks = number_at(image, b, k, 12);
-    super::table::follow(image, t, n, first, blocks, marks)
-}
-
-// Follows the chains of a directory's files.
-pub fn follow_files(
-    image: &[u8],
-    t: usize,
-    n: usize,
-    first: usize,
-    d: usize,
-    marks: &mut [u8],
-) -> bool
-    requires { ⌜ (Room (now image) t n (now marks)) × (DirectoryAt (now image) n first d) ⌝ }
-    ensures { λ r. ⌜ walked r (now (marks .exit))
-        ≡ followFiles (now (image .entry)) n (chain (next (now (image .entry))) first d) 1 (4 * d - 2) (now (marks .entry)) ⌝ }
-{
-    let mut b = first;
-    let mut k = 1;
-    let mut left = 4 * d - 2;
-    while 0 < left {
-        if !follow_slot(image, t, n, b, k, marks) {
-            return false;
-        }
-        k = k + 1;
-        b = following(image, b, k);
-        left = left - 1;
-    }
-    true
-}
-
 // Whether a directory starts at block b: its self entry, and its chain, whose blocks it marks.
 pub fn directory_ok(
     image: &[u8],
@@ -249,25 +231,23 @@ pub fn directory_ok(
     super::table::follow(image, t, n, b, d, marks)
 }
 
-// Whether the slot at o of a directory's block is a file of a good name.
-fn slot_holds(block: &[u8], o: usize, name: &[u8]) -> bool
+// Whether the slot at o of a directory's block has a type from lo to hi and a good name.
+fn slot_holds(block: &[u8], o: usize, lo: u8, hi: u8, name: &[u8]) -> bool
     requires { ⌜ (o + 128 ≤ length (now block)) × (goodName (now name) ≡ true) ⌝ }
-    ensures { λ r. ⌜ r ≡ isFile (typeOf (now (block .entry)) o) && same (nameOf (now (block .entry)) o) (now (name .entry)) ⌝ }
+    ensures { λ r. ⌜ r ≡ within lo hi (typeOf (now (block .entry)) o) && same (nameOf (now (block .entry)) o) (now (name .entry)) ⌝ }
 {
-    if !is_file(block[o]) {
+    if !is_within(block[o], lo, hi) {
         return false;
     }
-    let a = o + 48;
-    let e = a + NAME_FIELD;
-    super::bytes::holds_name(&block[a..e], name)
+    super::bytes::holds_name(field_of(block, o), name)
 }
 
-fn holds_at(image: &[u8], b: usize, k: usize, name: &[u8]) -> bool
+fn holds_at(image: &[u8], b: usize, k: usize, lo: u8, hi: u8, name: &[u8]) -> bool
     requires { ⌜ (512 * b + 512 ≤ length (now image)) × (goodName (now name) ≡ true) ⌝ }
-    ensures { λ r. ⌜ r ≡ isFile (typeOf (now (image .entry)) (entryAt b k)) && same (nameOf (now (image .entry)) (entryAt b k)) (now (name .entry)) ⌝ }
+    ensures { λ r. ⌜ r ≡ within lo hi (typeOf (now (image .entry)) (entryAt b k)) && same (nameOf (now (image .entry)) (entryAt b k)) (now (name .entry)) ⌝ }
 {
     let o = 128 * (k % 4);
-    slot_holds(super::bytes::block(image, b), o, name)
+    slot_holds(super::bytes::block(image, b), o, lo, hi, name)
 }
 
 // Where an entry is: its slot and the block that holds it. Slot 0: there is none.
@@ -276,16 +256,16 @@ pub struct Entry {
     pub block: usize,
 }
 
-// The file of a good name in a directory.
-pub fn find(image: &[u8], n: usize, first: usize, d: usize, name: &[u8]) -> Entry
+// The slot of a good name in a directory, among those whose type is from lo to hi.
+pub fn find(image: &[u8], n: usize, first: usize, d: usize, lo: u8, hi: u8, name: &[u8]) -> Entry
     requires { ⌜ (DirectoryAt (now image) n first d) × (goodName (now name) ≡ true) ⌝ }
-    ensures { λ r. ⌜ Stands (chain (next (now (image .entry))) first d) n (fileSlot (now (image .entry)) (chain (next (now (image .entry))) first d) (now (name .entry))) (r .slot) (r .block) ⌝ }
+    ensures { λ r. ⌜ Stands (chain (next (now (image .entry))) first d) n (slotOf (within lo hi) (now (image .entry)) (chain (next (now (image .entry))) first d) (now (name .entry))) (r .slot) (r .block) ⌝ }
 {
     let mut b = first;
     let mut k = 1;
     let mut left = 4 * d - 2;
     while 0 < left {
-        if holds_at(image, b, k, name) {
+        if holds_at(image, b, k, lo, hi, name) {
             return Entry { slot: k, block: b };
         }
         k = k + 1;
@@ -315,4 +295,41 @@ pub fn find_free(image: &[u8], n: usize, first: usize, d: usize) -> Entry
         left = left - 1;
     }
     Entry { slot: 0, block: 0 }
+}
+
+// The lowest free slot of the directory at block b.
+pub fn free_slot(image: &[u8], n: usize, b: usize) -> Entry
+    requires { ⌜ DirectoryAt (now image) n b (blocksOf (now image) (512 * b)) ⌝ }
+    ensures { λ r. ⌜ Stands (directory (now (image .entry)) b) n (freeSlot (now (image .entry)) (directory (now (image .entry)) b)) (r .slot) (r .block) ⌝ }
+{
+    let d = number_at(image, b, 0, 12);
+    find_free(image, n, b, d)
+}
+
+// Whether every slot of a directory from 1 to 4·d − 2 is free.
+fn all_free(image: &[u8], n: usize, first: usize, d: usize) -> bool
+    requires { ⌜ DirectoryAt (now image) n first d ⌝ }
+    ensures { λ r. ⌜ r ≡ allFree (now (image .entry)) (chain (next (now (image .entry))) first d) 1 (4 * d - 2) ⌝ }
+{
+    let mut b = first;
+    let mut k = 1;
+    let mut left = 4 * d - 2;
+    while 0 < left {
+        if type_at(image, b, k) != 0 {
+            return false;
+        }
+        k = k + 1;
+        b = following(image, b, k);
+        left = left - 1;
+    }
+    true
+}
+
+// Whether the directory at block b is empty.
+pub fn is_empty(image: &[u8], n: usize, b: usize) -> bool
+    requires { ⌜ DirectoryAt (now image) n b (blocksOf (now image) (512 * b)) ⌝ }
+    ensures { λ r. ⌜ r ≡ isEmpty (now (image .entry)) b ⌝ }
+{
+    let d = number_at(image, b, 0, 12);
+    all_free(image, n, b, d)
 }

@@ -14,6 +14,9 @@ pub const MAX_DIRECTORY: u32 = 64;
 // With four slots in a block.
 pub const MAX_SLOTS: usize = 256;
 
+// At most 8 levels below the root.
+pub const MAX_LEVELS: usize = 8;
+
 // A name has 1 to 80 bytes, and may fill its field.
 pub const MAX_NAME: usize = 80;
 

@@ -1,18 +1,17 @@
-// The names of a directory, compared two by two. Each slot has a fingerprint, a checksum of its name's field: names whose fingerprints differ are
-// different, and only where fingerprints agree are the bytes looked at.
+// The slots of a directory by stage 5: the first that is not right, or whose name an earlier one has. Each slot has a fingerprint, a checksum of its
+// name's field: names whose fingerprints differ are different, and only where fingerprints agree are the bytes looked at.
 ghost use Prim.Native.Nat.{_+_, _-_, _*_, _/_, _≤_, _<_};
-ghost use mathlib.Core.Bool.{_&&_, _||_, not, true};
+ghost use mathlib.Core.Bool.{not, true};
 ghost use mathlib.Core.Path.{_≡_};
 ghost use lib.ListN.{length};
 ghost use Rattle.layout.specs.Limits.{maxSlots};
-ghost use Rattle.layout.specs.Lists.{same};
 ghost use Rattle.layout.specs.Bytes.{zeros};
 ghost use Rattle.layout.specs.Table.{next, chain};
-ghost use Rattle.layout.specs.Directory.{slotAt, typeOf, isFile, nameOf};
-ghost use Rattle.layout.specs.Check.{slotOk};
+ghost use Rattle.layout.specs.Directory.{slotAt, typeOf};
+ghost use Rattle.layout.specs.Check.{slotOk, newName};
 ghost use Rattle.layout.specs.Walks.Shapes.{DirectoryAt};
-ghost use Rattle.layout.specs.Walks.Slots.{Place, entryAt, nameIn, slotsOk, namesApart};
-ghost use Rattle.layout.specs.Walks.Names.{fingerprint, Fingerprints, Fingerprinted, Nearest};
+ghost use Rattle.layout.specs.Walks.Slots.{entryAt};
+ghost use Rattle.layout.specs.Walks.Names.{fingerprint, otherName, otherNames, badFrom, Noted, Nearest};
 use super::limits::MAX_SLOTS;
 use super::limits::NAME_FIELD;
 
@@ -34,22 +33,6 @@ fn fingerprint(field: &[u8]) -> usize
     16777216 * a + b
 }
 
-// The fingerprints of a directory's slots.
-fn take_fingerprints(image: &[u8], n: usize, first: usize, d: usize, prints: &mut [usize])
-    requires { ⌜ (DirectoryAt (now image) n first d) × (length (now prints) ≡ maxSlots) ⌝ }
-    ensures { λ _. ⌜ Fingerprints (now (image .entry)) (chain (next (now (image .entry))) first d) d (now (prints .exit)) ⌝ }
-{
-    let mut b = first;
-    let mut k = 1;
-    let mut left = 4 * d - 2;
-    while 0 < left {
-        prints[k] = fingerprint(super::directory::field_at(image, b, k));
-        k = k + 1;
-        b = super::directory::following(image, b, k);
-        left = left - 1;
-    }
-}
-
 // The first index from `from` on, below `end`, at which p stands, or `end`.
 fn nearest(prints: &[usize], p: usize, from: usize, end: usize) -> usize
     requires { ⌜ (from ≤ end) × (end ≤ length (now prints)) ⌝ }
@@ -65,47 +48,43 @@ fn nearest(prints: &[usize], p: usize, from: usize, end: usize) -> usize
     i
 }
 
-// Whether slot i is a file of the name of the file in slot k. Right names are equal exactly if their fields are.
+// Whether slot i is used and has the name of slot k, which is used. Right names are equal exactly if their fields are.
 fn same_names(image: &[u8], n: usize, first: usize, d: usize, k: usize, i: usize) -> bool
     requires { ⌜ (DirectoryAt (now image) n first d) × (k < 4 * d) × (i < 4 * d)
-        × (slotOk (now image) (slotAt (chain (next (now image)) first d) k) ≡ true) × (isFile (typeOf (now image) (slotAt (chain (next (now image)) first d) k)) ≡ true)
+        × (slotOk (now image) (slotAt (chain (next (now image)) first d) k) ≡ true) × (typeOf (now image) (slotAt (chain (next (now image)) first d) k) ≡ 0 → ⊥)
         × (slotOk (now image) (slotAt (chain (next (now image)) first d) i) ≡ true) ⌝ }
-    ensures { λ r. ⌜ r ≡ isFile (typeOf (now (image .entry)) (slotAt (chain (next (now (image .entry))) first d) i))
-        && same (nameOf (now (image .entry)) (slotAt (chain (next (now (image .entry))) first d) k))
-        (nameOf (now (image .entry)) (slotAt (chain (next (now (image .entry))) first d) i)) ⌝ }
+    ensures { λ r. ⌜ r ≡ not (otherName (now (image .entry)) (chain (next (now (image .entry))) first d) (slotAt (chain (next (now (image .entry))) first d) k) i) ⌝ }
 {
     let c = super::table::nth(image, n, first, d, i / 4);
-    if !super::directory::is_file(super::directory::type_at(image, c, i)) {
+    if super::directory::type_at(image, c, i) == 0 {
         return false;
     }
     let b = super::table::nth(image, n, first, d, k / 4);
     super::bytes::equal(
-        super::directory::field_at(image, b, k),
         super::directory::field_at(image, c, i),
+        super::directory::field_at(image, b, k),
     )
 }
 
-// Whether a slot after k is a file of the name of the file in slot k.
+// Whether a slot before k is used and has the name of slot k, which is used.
 fn name_in(image: &[u8], n: usize, first: usize, d: usize, prints: &[usize], k: usize) -> bool
-    requires { ⌜ (Fingerprinted (now image) n first d (now prints)) × (1 ≤ k) × (k + 1 < 4 * d)
-        × (isFile (typeOf (now image) (slotAt (chain (next (now image)) first d) k)) ≡ true) ⌝ }
-    ensures { λ r. ⌜ r ≡ nameIn (now (image .entry)) (chain (next (now (image .entry))) first d)
-        (nameOf (now (image .entry)) (slotAt (chain (next (now (image .entry))) first d) k)) (k + 1) (4 * d - 2 - k) ⌝ }
+    requires { ⌜ (Noted (now image) n first d (now prints) (k + 1)) × (1 ≤ k) × (k + 1 < 4 * d)
+        × (typeOf (now image) (slotAt (chain (next (now image)) first d) k) ≡ 0 → ⊥) ⌝ }
+    ensures { λ r. ⌜ r ≡ not (otherNames (now (image .entry)) (chain (next (now (image .entry))) first d) (slotAt (chain (next (now (image .entry))) first d) k) 1 (k - 1)) ⌝ }
 {
-    let end = 4 * d - 1;
     let p = prints[k];
-    let mut i = nearest(prints, p, k + 1, end);
-    while i < end {
+    let mut i = nearest(prints, p, 1, k);
+    while i < k {
         if same_names(image, n, first, d, k, i) {
             return true;
         }
-        i = nearest(prints, p, i + 1, end);
+        i = nearest(prints, p, i + 1, k);
     }
     false
 }
 
-// Whether slot k, in block b, is no file, or none of the slots after it is a file of its name.
-fn alone(
+// Whether slot k, in block b, is free or has a name that no slot before it has.
+fn is_new(
     image: &[u8],
     n: usize,
     first: usize,
@@ -113,35 +92,38 @@ fn alone(
     prints: &[usize],
     b: usize,
     k: usize,
-    left: usize,
 ) -> bool
-    requires { ⌜ (Fingerprinted (now image) n first d (now prints)) × (Place (chain (next (now image)) first d) d b k left) × (1 ≤ k) × (0 < left) ⌝ }
-    ensures { λ r. ⌜ r ≡ not (isFile (typeOf (now (image .entry)) (entryAt b k)))
-        || not (nameIn (now (image .entry)) (chain (next (now (image .entry))) first d) (nameOf (now (image .entry)) (entryAt b k)) (k + 1) (left - 1)) ⌝ }
+    requires { ⌜ (Noted (now image) n first d (now prints) (k + 1)) × (1 ≤ k) × (k + 1 < 4 * d)
+        × (b < n) × (entryAt b k ≡ slotAt (chain (next (now image)) first d) k) ⌝ }
+    ensures { λ r. ⌜ r ≡ newName (now (image .entry)) (chain (next (now (image .entry))) first d) k ⌝ }
 {
-    if !super::directory::is_file(super::directory::type_at(image, b, k)) {
+    if super::directory::type_at(image, b, k) == 0 {
         return true;
     }
     !name_in(image, n, first, d, prints, k)
 }
 
-// Whether no two files of a directory have the same name, by the fingerprints of its slots.
-fn pairs_apart(image: &[u8], n: usize, first: usize, d: usize, prints: &[usize]) -> bool
-    requires { ⌜ Fingerprinted (now image) n first d (now prints) ⌝ }
-    ensures { λ r. ⌜ r ≡ namesApart (now (image .entry)) (chain (next (now (image .entry))) first d) 1 (4 * d - 2) ⌝ }
+// The first slot from 1 to 4·d − 2 that is not right or not new, or the end slot.
+fn first_bad(image: &[u8], n: usize, first: usize, d: usize, prints: &mut [usize]) -> usize
+    requires { ⌜ (DirectoryAt (now image) n first d) × (length (now prints) ≡ maxSlots) ⌝ }
+    ensures { λ r. ⌜ r ≡ badFrom (now (image .entry)) (chain (next (now (image .entry))) first d) 1 (4 * d - 2) ⌝ }
 {
     let mut b = first;
     let mut k = 1;
     let mut left = 4 * d - 2;
     while 0 < left {
-        if !alone(image, n, first, d, prints, b, k, left) {
-            return false;
+        if !super::directory::slot_ok_at(image, b, k) {
+            return k;
+        }
+        prints[k] = fingerprint(super::directory::field_at(image, b, k));
+        if !is_new(image, n, first, d, prints, b, k) {
+            return k;
         }
         k = k + 1;
         b = super::directory::following(image, b, k);
         left = left - 1;
     }
-    true
+    k
 }
 
 // Room for the fingerprint of each slot.
@@ -151,12 +133,11 @@ fn no_fingerprints() -> [usize; MAX_SLOTS]
     [0usize; MAX_SLOTS]
 }
 
-// Whether no two files of a directory have the same name. Its slots are right.
-pub fn names_apart(image: &[u8], n: usize, first: usize, d: usize) -> bool
-    requires { ⌜ (DirectoryAt (now image) n first d) × (slotsOk (now image) (chain (next (now image)) first d) 1 (4 * d - 2) ≡ true) ⌝ }
-    ensures { λ r. ⌜ r ≡ namesApart (now (image .entry)) (chain (next (now (image .entry))) first d) 1 (4 * d - 2) ⌝ }
+// The first slot of a directory that stage 5 refuses, or the end slot.
+pub fn bad_slot(image: &[u8], n: usize, first: usize, d: usize) -> usize
+    requires { ⌜ DirectoryAt (now image) n first d ⌝ }
+    ensures { λ r. ⌜ r ≡ badFrom (now (image .entry)) (chain (next (now (image .entry))) first d) 1 (4 * d - 2) ⌝ }
 {
     let mut prints = no_fingerprints();
-    take_fingerprints(image, n, first, d, &mut prints);
-    pairs_apart(image, n, first, d, &prints)
+    first_bad(image, n, first, d, &mut prints)
 }

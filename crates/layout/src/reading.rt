@@ -2,6 +2,7 @@
 ghost use Prim.Native.Nat.{_+_, _*_, _/_, _≤_, _<_};
 ghost use mathlib.Core.Path.{_≡_};
 ghost use lib.ListN.{length};
+ghost use Rattle.layout.specs.Directory.{isFile};
 ghost use Rattle.layout.specs.Looks.{lookupRefusal, lookup, extentOf, lookInPlace, read};
 ghost use Rattle.layout.specs.Answers.{lookupAnswer, readAnswer, LookupNumbered, ReadNumbered};
 ghost use Rattle.layout.specs.Walks.Looks.{Opens};
@@ -12,23 +13,23 @@ pub enum Found {
     Refused(u32),
 }
 
-// The file of a name, or the refusal, 1 to 7, 9 or 10.
-fn open_file(image: &[u8], name: &[u8]) -> super::root::File
-    ensures { λ r. ⌜ Opens (now (image .entry)) (now (name .entry)) (lookupRefusal (now (image .entry)) (now (name .entry))) (r .number) (r .slot) (r .block) (r .first) (r .size) (r .blocks) ⌝ }
+// The file of a path, or the refusal, 1 to 7, 9, 17 or 10.
+fn open_file(image: &[u8], path: &[u8]) -> super::file::File
+    ensures { λ r. ⌜ Opens isFile (now (image .entry)) (now (path .entry)) (lookupRefusal (now (image .entry)) (now (path .entry))) (r .number) (r .slot) (r .block) (r .first) (r .size) (r .blocks) ⌝ }
 {
     let refusal = super::check::check(image);
     if refusal != 0 {
-        return super::root::refused(refusal);
+        return super::file::refused(refusal);
     }
-    super::root::open_file(image, name)
+    super::file::open_file(image, path)
 }
 
-// Look up: slot, size and blocks of the file of a name.
-pub fn lookup(image: &[u8], name: &[u8]) -> Found
-    ensures answer { λ r. ⌜ lookupAnswer r ≡ lookup (now (image .entry)) (now (name .entry)) ⌝ }
+// Look up: slot, size and blocks of the file of a path.
+pub fn lookup(image: &[u8], path: &[u8]) -> Found
+    ensures answer { λ r. ⌜ lookupAnswer r ≡ lookup (now (image .entry)) (now (path .entry)) ⌝ }
     ensures numbered { λ r. ⌜ LookupNumbered r ⌝ }
 {
-    let o = open_file(image, name);
+    let o = open_file(image, path);
     let number = o.number;
     let slot = o.slot;
     let size = o.size;
@@ -50,12 +51,12 @@ pub struct Extent {
 }
 
 // The part that look in place gives, as numbers.
-pub fn extent_in_place(image: &[u8], name: &[u8], index: usize) -> Extent
-    ensures { λ r. ⌜ (r .start ≡ extentOf (now (image .entry)) (now (name .entry)) index .start)
-        × (r .size ≡ extentOf (now (image .entry)) (now (name .entry)) index .size)
+pub fn extent_in_place(image: &[u8], path: &[u8], index: usize) -> Extent
+    ensures { λ r. ⌜ (r .start ≡ extentOf (now (image .entry)) (now (path .entry)) index .start)
+        × (r .size ≡ extentOf (now (image .entry)) (now (path .entry)) index .size)
         × (r .start + r .size ≤ length (now (image .entry))) ⌝ }
 {
-    let o = open_file(image, name);
+    let o = open_file(image, path);
     let number = o.number;
     let first = o.first;
     let size = o.size;
@@ -76,11 +77,11 @@ pub fn extent_in_place(image: &[u8], name: &[u8], index: usize) -> Extent
 }
 
 // Look in place: the image's own bytes of the file's block `index`, up to the file's end; empty if there are none.
-pub fn look_in_place<'a>(image: &'a [u8], name: &[u8], index: usize) -> &'a [u8]
-    ensures bytes { λ r. ⌜ now r ≡ lookInPlace (now (image .entry)) (now (name .entry)) index ⌝ }
-    ensures place { λ r. ⌜ r .ptr ≡ (image .entry .ptr .0, extentOf (now (image .entry)) (now (name .entry)) index .start + image .entry .ptr .1) ⌝ }
+pub fn look_in_place<'a>(image: &'a [u8], path: &[u8], index: usize) -> &'a [u8]
+    ensures bytes { λ r. ⌜ now r ≡ lookInPlace (now (image .entry)) (now (path .entry)) index ⌝ }
+    ensures place { λ r. ⌜ r .ptr ≡ (image .entry .ptr .0, extentOf (now (image .entry)) (now (path .entry)) index .start + image .entry .ptr .1) ⌝ }
 {
-    let x = extent_in_place(image, name, index);
+    let x = extent_in_place(image, path, index);
     let a = x.start;
     let e = a + x.size;
     &image[a..e]
@@ -93,11 +94,11 @@ pub enum Filled {
 }
 
 // Read: fills the first bytes of the buffer with the file's bytes from offset on.
-pub fn read(image: &[u8], name: &[u8], offset: usize, buffer: &mut [u8]) -> Filled
-    ensures answer { λ r. ⌜ readAnswer r (now (buffer .exit)) ≡ read (now (image .entry)) (now (name .entry)) offset (now (buffer .entry)) ⌝ }
+pub fn read(image: &[u8], path: &[u8], offset: usize, buffer: &mut [u8]) -> Filled
+    ensures answer { λ r. ⌜ readAnswer r (now (buffer .exit)) ≡ read (now (image .entry)) (now (path .entry)) offset (now (buffer .entry)) ⌝ }
     ensures numbered { λ r. ⌜ ReadNumbered r ⌝ }
 {
-    let o = open_file(image, name);
+    let o = open_file(image, path);
     let number = o.number;
     let first = o.first;
     let size = o.size;

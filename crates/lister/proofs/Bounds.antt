@@ -1,6 +1,6 @@
 -- No listing is longer than maxListing.
 use Prim.Native.Nat.{ℕ, zero, suc, _+_, _*_, _-_, _≤_}
-use mathlib.Core.Path.{_≡_, refl, sym, ap, subst}
+use mathlib.Core.Path.{_≡_, refl, sym, subst}
 use mathlib.Core.Bool.{Bool, true, false}
 use mathlib.Core.List.{List, _++_}
 use native.Mathlib.Omega.{arith}
@@ -11,24 +11,21 @@ use Rattle.layout.specs.Bytes.{part, be32}
 use Rattle.layout.specs.Limits.{maxListed}
 use Rattle.layout.specs.Refusals.{require}
 use Rattle.layout.specs.Geometry.{blockCount, rootBlock}
-use Rattle.layout.specs.Directory.{slotAt, typeOf, isFile, unpadded, sizeOf, blocksOf, nameOf, files, root}
+use Rattle.layout.specs.Directory.{slotAt, typeOf, isFile, sizeOf, blocksOf, nameOf, files, root}
 use Rattle.layout.specs.Check.{check}
 use Rattle.layout.specs.Listing.{printed, entryLine, fileLine, countLine, refusedLine, listing}
 use Rattle.lister.specs.Text.{maxListing}
 use Rattle.lister.proofs.Digits.{decimal-short}
 use Rattle.lister.proofs.Lines.{refused-listing, listed-sound, accepted-listing}
 use Rattle.layout.specs.Walks.Slots.{entryAt}
-use Rattle.layout.proofs.Walks.Shapes.{sound-root, sound-directory}
-use Rattle.layout.proofs.Laws.Names.{take-unpadded}
-
-unpadded-short : (f : List ℕ) → length (unpadded f) ≤ length f
-unpadded-short f = omega (arith, simp length-take at (ap length (take-unpadded f)))
+use Rattle.layout.proofs.Walks.Homes.{root-at, root-chain}
+use Rattle.layout.proofs.Laws.Names.{unpadded-most}
 
 printed-short : (s : List ℕ) (e : ℕ) → length (printed (nameOf s e)) ≤ 80
 unfolding printed nameOf
 printed-short s e =
     let h : length (part s (e + 48) 80) ≤ 80 = simp length-take (omega arith) in
-    simp length-map (omega (arith, unpadded-short (part s (e + 48) 80)))
+    simp length-map (omega (arith, unpadded-most (part s (e + 48) 80)))
 
 file-short : (s : List ℕ) (k : ℕ) → length (fileLine s k) ≤ 114
 unfolding entryLine fileLine
@@ -56,8 +53,8 @@ pub list-short : (s : List ℕ) → check s ≡ 0 → length (countLine s ++ joi
 unfolding files
 list-short s e =
     let d : ℕ = be32 s (entryAt (rootBlock (blockCount s)) 0 + 12) in
-    let b = sound-directory s e d refl .blocks in
-    let l : length (root s) ≤ 64 = rw (sound-root s e d refl) at (subst (λ (x : ℕ). x ≤ 64) (sym (b .size)) (b .few)) in
+    let b = root-at s e d refl .blocks in
+    let l : length (root s) ≤ 64 = rw (root-chain s e d refl) at (subst (λ (x : ℕ). x ≤ 64) (sym (b .size)) (b .few)) in
     simp length-append (omega (arith, count-short s, lines-short s (λ k. isFile (typeOf s (slotAt (root s) k))) 1 (4 * length (root s) - 2)))
 
 pub listing-short : (s : List ℕ) → length (listing s) ≤ maxListing

@@ -18,7 +18,7 @@ use Rattle.layout.specs.Listing.{entryLine, decimal, printed, fileLine, countLi
 use Rattle.lister.specs.Text.{slotLine, slotLines}
 use Rattle.layout.specs.Walks.Slots.{Place, entryAt}
 use Rattle.layout.proofs.Laws.Tests.{require-zero, accept-refused}
-use Rattle.layout.proofs.Walks.Shapes.{sound-root, sound-directory}
+use Rattle.layout.proofs.Walks.Homes.{root-at, root-chain}
 use Rattle.layout.proofs.Walks.Names.{unpadded-end, unpadded-next}
 use Rattle.layout.proofs.Walks.Slots.{place-entry}
 use Rattle.layout.proofs.Laws.Lists.{interval-next}
@@ -98,7 +98,7 @@ refused-pieces number = refl
 pub list-pieces : (s : List ℕ) (e : check s ≡ 0) (d : ℕ) → d ≡ be32 s (entryAt (rootBlock (blockCount s)) 0 + 12) → countLine s ++ joined (fileLine s) (files s (root s)) ≡ countLine s ++ slotLines s 1 (4 * d - 2)
 unfolding files slotLines
 list-pieces s e d ed =
-    let l : length (root s) ≡ d = ap length (sym (sound-root s e d ed)) ∙ sound-directory s e d ed .blocks .size in
+    let l : length (root s) ≡ d = ap length (sym (root-chain s e d ed)) ∙ root-at s e d ed .blocks .size in
     rw l
 
 -- the listing

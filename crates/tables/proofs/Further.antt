@@ -3,9 +3,8 @@
 use Prim.Native.Nat.{ℕ}
 use mathlib.Core.List.{List, [], _∷_, _++_, map}
 use mathlib.Core.Bool.{Bool, true, false}
-use lib.Dec.{T}
 use lib.ListN.{replicate, take, drop}
-use Rattle.layout.specs.Lists.{interval, every, same}
+use Rattle.layout.specs.Lists.{interval}
 use Rattle.layout.specs.Bytes.{be32, bytes4, splice}
 use Rattle.layout.specs.Table.{next, setNext}
 use Rattle.layout.specs.Check.{check}
@@ -15,11 +14,7 @@ use Rattle.volume.specs.Change.{create, write, delete, named, refusal, after}
 use Rattle.journal.specs.Journal.{started, startRefusal, wellFormed, ascending}
 use Rattle.journal.specs.Run.{Look, change, undo, look, checkImage, findFile, readFile, lookAt, State, step, answer, changeRefusal, undoRefusal}
 use Rattle.tables.proofs.Rules.{rules}
-use Rattle.tables.proofs.Samples.{blank, label, formattedAs, pattern, fileA, createFile, writeA, numbers, samples}
-
--- in each row, what the definitions give is what is expected
-abbrev pub AsExpected : List (List ℕ × List ℕ) → Type 0
-AsExpected rows = T (every (λ row. same (row .0) (row .1)) rows)
+use Rattle.tables.proofs.Samples.{AsExpected, blank, label, formattedAs, pattern, inRoot, fileA, createFile, writeA, numbers, samples}
 
 bit : Bool → ℕ
 bit true = 1
@@ -44,7 +39,7 @@ looked l = numbers (answer p₂ (look l))
 pub stages : List (List ℕ × List ℕ)
 stages =
     let s = p₂ .image in
-    let both = after (after s (createFile 66)) (write (66 ∷ []) 0 (pattern 10) 9) in
+    let both = after (after s (createFile 66)) (write (inRoot 66) 0 (pattern 10) 9) in
     (checks (s ∷ both ∷ []), 0 ∷ 0 ∷ [])
     -- 1: an odd length, two blocks, nothing
     ∷ (checks (drop 1 s ∷ take 1024 s ∷ [] ∷ []), 1 ∷ 1 ∷ 1 ∷ [])
@@ -59,7 +54,7 @@ stages =
     )
     -- 4: the chain too short, too long, looping, through the table, out of the image
     ∷ (checks (setNext s 2 1 ∷ setNext s 3 6 ∷ setNext s 3 2 ∷ setNext s 2 1 ∷ setNext s 2 8 ∷ []), 4 ∷ 4 ∷ 4 ∷ 4 ∷ 4 ∷ [])
-    -- 5: end type; types 0x20, 0x5F, 0xA0, 0xFF; an attribute block and size
+    -- 5: end type; directory types 0x20, 0x5F with a size in bytes; types 0xA0, 0xFF; an attribute block and size
     ∷ (
       checks (splice s 1920 (0 ∷ []) ∷ splice s 1152 (0x20 ∷ []) ∷ splice s 1152 (0x5F ∷ []) ∷ splice s 1152 (0xA0 ∷ []) ∷ splice s 1280 (0xFF ∷ []) ∷ []),
       5 ∷ 5 ∷ 5 ∷ 5 ∷ 5 ∷ [],
@@ -85,22 +80,22 @@ stages =
 pub looks : List (List ℕ × List ℕ)
 looks =
     let s = p₂ .image in
-    (looked (findFile fileA) ++ looked (findFile (65 ∷ 66 ∷ [])), 0 ∷ 1 ∷ 513 ∷ 2 ∷ 10 ∷ 0 ∷ 0 ∷ 0 ∷ [])
+    (looked (findFile fileA) ++ looked (findFile (47 ∷ 65 ∷ 66 ∷ [])), 0 ∷ 1 ∷ 513 ∷ 2 ∷ 10 ∷ 0 ∷ 0 ∷ 0 ∷ [])
     -- names: none, 81 bytes, 80, with a zero in it
     ∷ (
-      looked (findFile []) ++ looked (findFile (replicate 81 65)) ++ looked (findFile (replicate 80 65)) ++ looked (findFile (65 ∷ 0 ∷ [])),
+      looked (findFile []) ++ looked (findFile (47 ∷ replicate 81 65)) ++ looked (findFile (47 ∷ replicate 80 65)) ++ looked (findFile (47 ∷ 65 ∷ 0 ∷ [])),
       9 ∷ 0 ∷ 0 ∷ 0 ∷ 9 ∷ 0 ∷ 0 ∷ 0 ∷ 10 ∷ 0 ∷ 0 ∷ 0 ∷ 9 ∷ 0 ∷ 0 ∷ 0 ∷ [],
     )
     -- read across blocks to the end, at the end, past it, into no buffer, of no file
     ∷ (looked (readFile fileA 510 (replicate 5 7)), 0 ∷ 3 ∷ 8 ∷ 9 ∷ 10 ∷ 7 ∷ 7 ∷ [])
     ∷ (looked (readFile fileA 0 (replicate 600 7)), 0 ∷ 513 ∷ (pattern 513 ++ replicate 87 7))
     ∷ (
-      looked (readFile fileA 513 (7 ∷ [])) ++ looked (readFile fileA 514 (7 ∷ [])) ++ looked (readFile fileA 3 []) ++ looked (readFile (66 ∷ []) 0 (7 ∷ [])),
+      looked (readFile fileA 513 (7 ∷ [])) ++ looked (readFile fileA 514 (7 ∷ [])) ++ looked (readFile fileA 3 []) ++ looked (readFile (inRoot 66) 0 (7 ∷ [])),
       0 ∷ 0 ∷ 7 ∷ 12 ∷ 0 ∷ 7 ∷ 0 ∷ 0 ∷ 10 ∷ 0 ∷ 7 ∷ [],
     )
     -- look in place: a whole block, the rest of the last, none, no file
     ∷ (looked (lookAt fileA 0), 2048 ∷ 512 ∷ pattern 512)
-    ∷ (looked (lookAt fileA 1) ++ looked (lookAt fileA 2) ++ looked (lookAt (66 ∷ []) 0), 2560 ∷ 1 ∷ 10 ∷ 0 ∷ 0 ∷ 0 ∷ 0 ∷ [])
+    ∷ (looked (lookAt fileA 1) ++ looked (lookAt fileA 2) ++ looked (lookAt (inRoot 66) 0), 2560 ∷ 1 ∷ 10 ∷ 0 ∷ 0 ∷ 0 ∷ 0 ∷ [])
     -- on a damaged image: its stage; and its listing, "refused 2"
     ∷ (
       let bad : State = record { image = splice s 0 (0 ∷ []); journal = [] } in
@@ -129,7 +124,7 @@ changes =
     let s = p₂ .image in
     let gone = step p₂ (change (delete fileA)) in
     let back = step gone undo in
-    let again = step (step gone (change (createFile 66))) (change (write (66 ∷ []) 0 (pattern 600) 9)) in
+    let again = step (step gone (change (createFile 66))) (change (write (inRoot 66) 0 (pattern 600) 9)) in
     let full = after (after (after (after (after s (createFile 66)) (createFile 67)) (createFile 68)) (createFile 69)) (createFile 70) in
     let short : State = record { image = s; journal = started 525 } in
     -- delete, and undo of it: image and journal as before
@@ -148,8 +143,8 @@ changes =
     -- a write of no bytes: a record of 520, and the time
     ∷ (numbers (answer p₂ (change (write fileA 0 [] 77))) ++ (be32 (after s (write fileA 0 [] 77)) 1180 ∷ []), 0 ∷ 0 ∷ 520 ∷ 77 ∷ [])
     -- 9: name, type, data; 10; 11; 12
-    ∷ (map (refusal s) (create [] 0x60 1 2 3 4 5 ∷ create (66 ∷ []) 0x5F 1 2 3 4 5 ∷ create (66 ∷ []) 0x9F 1 2 3 4 5 ∷ create (66 ∷ []) 0xA0 1 2 3 4 5 ∷ []), 9 ∷ 9 ∷ 0 ∷ 9 ∷ [])
-    ∷ (map (refusal s) (writeA 600 4097 ∷ write (66 ∷ []) 0 [] 5 ∷ writeA 514 0 ∷ delete [] ∷ delete (66 ∷ []) ∷ createFile 65 ∷ []), 9 ∷ 10 ∷ 12 ∷ 9 ∷ 10 ∷ 11 ∷ [])
+    ∷ (map (refusal s) (create [] 0x60 1 2 3 4 5 ∷ create (inRoot 66) 0x5F 1 2 3 4 5 ∷ create (inRoot 66) 0x9F 1 2 3 4 5 ∷ create (inRoot 66) 0xA0 1 2 3 4 5 ∷ []), 9 ∷ 9 ∷ 0 ∷ 9 ∷ [])
+    ∷ (map (refusal s) (writeA 600 4097 ∷ write (inRoot 66) 0 [] 5 ∷ writeA 514 0 ∷ delete [] ∷ delete (inRoot 66) ∷ createFile 65 ∷ []), 9 ∷ 10 ∷ 12 ∷ 9 ∷ 10 ∷ 11 ∷ [])
     -- 13; 14, at the last free block and past it
     ∷ (check full ∷ refusal full (createFile 71) ∷ refusal full (createFile 70) ∷ refusal s (writeA 513 1535) ∷ refusal s (writeA 513 1536) ∷ [], 0 ∷ 13 ∷ 11 ∷ 0 ∷ 14 ∷ [])
     -- 15: 525 bytes take one record of 520; 14 comes before it, 9 before both, 8 before 9, a stage before 8

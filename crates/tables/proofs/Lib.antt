@@ -3,3 +3,4 @@ pub mod Samples
 pub mod Worked
 pub mod Further
 pub mod Script
+pub mod Tree

@@ -2,10 +2,15 @@
 use Prim.Native.Nat.{ℕ, _*_, _%_}
 use mathlib.Core.List.{List, [], _∷_, map}
 use lib.ListN.{replicate}
-use Rattle.layout.specs.Lists.{interval}
+use lib.Dec.{T}
+use Rattle.layout.specs.Lists.{interval, every, same}
 use Rattle.volume.specs.Format.{formatted}
 use Rattle.volume.specs.Change.{Change, create, write}
 use Rattle.journal.specs.Run.{Answer, changed, undone, checked, found, filled, shown}
+
+-- in each row, what the definitions give is what is expected
+abbrev pub AsExpected : List (List ℕ × List ℕ) → Type 0
+AsExpected rows = T (every (λ row. same (row .0) (row .1)) rows)
 
 -- n blocks of bytes 7, before a format; a volume name; n blocks formatted with a root of d blocks
 unfoldable pub blank : ℕ → List ℕ
@@ -21,12 +26,15 @@ formattedAs n d = formatted (blank n) d (interval 1 16) label 1000
 unfoldable pub pattern : ℕ → List ℕ
 pattern count = map (λ x. x % 251) (interval 0 count)
 
--- the file "A" (65), a create of the file of a one-byte name, and a write to "A"
+-- the path of a one-byte name in the root, that of "A" (65), a create of the file of such a path, and a write to "/A"
+unfoldable pub inRoot : ℕ → List ℕ
+inRoot x = 47 ∷ x ∷ []
+
 unfoldable pub fileA : List ℕ
-fileA = 65 ∷ []
+fileA = inRoot 65
 
 unfoldable pub createFile : ℕ → Change
-createFile x = create (x ∷ []) 0x60 1 2 3 0 2000
+createFile x = create (inRoot x) 0x60 1 2 3 0 2000
 
 unfoldable pub writeA : ℕ → ℕ → Change
 writeA offset count = write fileA offset (pattern count) 3000
@@ -42,5 +50,5 @@ numbers (shown x bytes) = x .start ∷ x .size ∷ bytes
 
 -- opens them all, as rules does the definitions
 unfoldable pub samples : Unit {0}
-unfolding blank label formattedAs pattern fileA createFile writeA numbers
+unfolding blank label formattedAs pattern inRoot fileA createFile writeA numbers
 samples = tt

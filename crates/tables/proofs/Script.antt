@@ -17,9 +17,9 @@ header first offset time name bytes =
 
 pub script : List ℕ
 script =
-    (header (5 ∷ 0x60 ∷ 1 ∷ 2 ∷ 7 ∷ []) 0 100 1 0 ++ (65 ∷ []))
-    ++ ((header (6 ∷ 0 ∷ 0 ∷ 0 ∷ 0 ∷ []) 0 101 1 3 ++ (65 ∷ 97 ∷ 98 ∷ 99 ∷ []))
-    ++ ((header (3 ∷ 0 ∷ 0 ∷ 0 ∷ 0 ∷ []) 1 0 1 4 ++ (65 ∷ 255 ∷ 255 ∷ 255 ∷ 255 ∷ []))
+    (header (5 ∷ 0x60 ∷ 1 ∷ 2 ∷ 7 ∷ []) 0 100 2 0 ++ (47 ∷ 65 ∷ []))
+    ++ ((header (6 ∷ 0 ∷ 0 ∷ 0 ∷ 0 ∷ []) 0 101 2 3 ++ (47 ∷ 65 ∷ 97 ∷ 98 ∷ 99 ∷ []))
+    ++ ((header (3 ∷ 0 ∷ 0 ∷ 0 ∷ 0 ∷ []) 1 0 2 4 ++ (47 ∷ 65 ∷ 255 ∷ 255 ∷ 255 ∷ 255 ∷ []))
     ++ header (8 ∷ 0 ∷ 0 ∷ 0 ∷ 0 ∷ []) 0 0 0 0))
 
 pub expected : List ℕ
@@ -44,7 +44,7 @@ table =
     (code (o .status) ∷ [], 0 ∷ [])
     ∷ (o .out, expected ++ (9 ∷ 9 ∷ []))
     -- the last item cut off; no room for the last byte
-    ∷ (code (outcome start (take 141 script) (replicate 70 9) .status) ∷ code (outcome start script (replicate 67 9) .status) ∷ [], 1 ∷ 2 ∷ [])
+    ∷ (code (outcome start (take 144 script) (replicate 70 9) .status) ∷ code (outcome start script (replicate 67 9) .status) ∷ [], 1 ∷ 2 ∷ [])
     ∷ []
 
 pub example-holds : T (every (λ row. same (row .0) (row .1)) table)

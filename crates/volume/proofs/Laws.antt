@@ -1,14 +1,24 @@
--- The laws of the volume's definitions. Theorems.antt states what they lead to.
+-- THE LAWS of the changes, by what they speak of.
 pub mod Table
 pub mod Entries
-pub mod Space
-pub mod Accepted
 pub mod Frame
 pub mod Data
 pub mod Growth
-pub mod Format
-pub mod Create
+pub mod Release
+pub mod Places
 pub mod Delete
+pub mod DeleteDirectory
+pub mod Create
+pub mod Taken
+pub mod CreateDirectory
+pub mod Space
 pub mod Write
 pub mod Sound
+pub mod Format
+pub mod Framed
 pub mod Content
+pub mod Views
+pub mod Folders
+pub mod Effects
+pub mod Acts
+pub mod Shown

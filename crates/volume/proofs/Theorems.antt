@@ -1,36 +1,43 @@
 -- The theorems of the volume, over its definitions. `check s ≡ 0` says that the image s is sound, and `refusal s c ≡ 0` that the change c is
--- accepted on it; `after s c` is then the image after it, and `named s c` its named blocks. The proofs are in Laws.
-use Prim.Native.Nat.{ℕ, _-_, _*_, _/_, _≤_, _<_, min}
-use mathlib.Core.Path.{_≡_}
+-- accepted on it; `after s c` is then the image after it, and `named s c` its named blocks. `fileAt s path` and `folderAt s path` are what a path
+-- shows: a file with its bytes and fields, a directory with its fields, or nothing (specs/Views). The proofs are in Laws.
+use Prim.Native.Nat.{ℕ, _+_, _-_, _*_, _/_, _≤_, _<_, min}
+use mathlib.Core.Path.{_≡_, refl, sym, ap, _∙_}
 use mathlib.Core.Bool.{true, false}
 use mathlib.Core.List.{List, [], _++_}
 use mathlib.Core.Logic.{_≢_, _⊎_}
+use native.Mathlib.Omega.{arith}
 use lib.ListN.{length, getD}
 use lib.Dec.{eqb}
+use Rattle.layout.specs.Claims.{Inserted, LowestFree}
+use Rattle.layout.specs.Limits.{maxLevels}
 use Rattle.layout.specs.Lists.{has}
 use Rattle.layout.specs.Bytes.{be32, part, splice}
 use Rattle.layout.specs.Geometry.{blockCount}
 use Rattle.layout.specs.Table.{next, freeBlocks}
-use Rattle.layout.specs.Directory.{sizeOf, blocksOf, fileSlot, root, fileBlocks, content}
+use Rattle.layout.specs.Directory.{firstBlock, blocksOf, isFile, isDirectory, isEmpty, directory, dirs, fileBlocks}
 use Rattle.layout.specs.Check.{check}
-use Rattle.layout.specs.Looks.{entryOf, lookup, lookupRefusal, read, lookInPlace}
-use Rattle.layout.specs.Claims.{LowestFree, Untouched}
-use Rattle.volume.specs.Entries.{entryBytes}
+use Rattle.layout.specs.Paths.{parts, pathSlot, entryOf, fileRefusal}
+use Rattle.layout.specs.Looks.{lookup, lookupRefusal, read, lookInPlace}
 use Rattle.volume.specs.Format.{formatRefusal, formatted}
 use Rattle.volume.specs.Write.{needed, newBlocks}
-use Rattle.volume.specs.Claims.{subject, NoRoom, Written}
-use Rattle.volume.specs.Change.{Change, create, write, delete, refusal, after, named, slotGiven}
-use Rattle.volume.proofs.Laws.Frame.{frame}
+use Rattle.volume.specs.Change.{Change, create, write, createDirectory, deleteDirectory, refusal, after, named, slotGiven}
+use Rattle.volume.specs.Claims.{NoRoom}
+use Rattle.volume.specs.Views.{File, nothing, just, fileOf, fileAt, folderAt, subject, made, madeFolder, takes, gives, givesFolder}
+use Rattle.volume.proofs.Laws.Framed.{frame}
 use Rattle.volume.proofs.Laws.Format.{sound-format}
 use Rattle.volume.proofs.Laws.Sound.{kept}
-use Rattle.volume.proofs.Laws.Accepted.{write-given}
-use Rattle.volume.proofs.Laws.Content.{others-untouched, write-entry as entry-written, write-content as content-written, read-back as written-back, create-found as found-created, create-content as content-created, create-bytes as bytes-created, delete-refused as refused-deleted}
+use Rattle.volume.proofs.Laws.Places.{file-at-path, write-given}
 use Rattle.volume.proofs.Laws.Space.{refused-14, lacking-14, new-lowest, new-length}
+use Rattle.volume.proofs.Laws.Views.{file-shown}
+use Rattle.volume.proofs.Laws.Effects.{create-slot-found, written-blocks}
+use Rattle.volume.proofs.Laws.Acts.{acts, others-untouched, create-directory-found, create-directory-empty, create-directory-tree, delete-directory-tree}
+use Rattle.volume.proofs.Laws.Shown.{read-shown, look-shown, not-shown, splice-long, lookup-kept, read-kept, look-kept, file-owner, directory-apart, directory-owner, write-path}
+use Rattle.layout.proofs.Laws.Looks.{look-empty as empty-refused, look-empty-only as refused-empty}
 use Rattle.layout.proofs.Laws.Sound.{sound}
-use Rattle.layout.proofs.Laws.Lists.{has-eqb-in, false-has}
-use Rattle.layout.proofs.Laws.Owners.{free-count as count-free, file-owner, root-owner}
-use Rattle.layout.proofs.Laws.Others.{lookup-stays, read-stays, look-stays}
-use Rattle.layout.proofs.Laws.Looks.{look-content as content-looked, look-empty as empty-refused, look-empty-only as refused-empty}
+use Rattle.layout.proofs.Laws.Lists.{In, has-eqb-in, false-has}
+use Rattle.layout.proofs.Laws.Bytes.{part-splice, splice-whole}
+use Rattle.layout.proofs.Laws.Owners.{free-count as count-free}
 
 -- Format's image is sound. (That a UUID has sixteen bytes is its type's.)
 pub format-sound : (s : List ℕ) (d : ℕ) (uuid name : List ℕ) (time : ℕ) → length uuid ≡ 16 → formatRefusal s d name ≡ 0 → check (formatted s d uuid name time) ≡ 0
@@ -38,16 +45,16 @@ unfolding formatted
 format-sound s d uuid name time l r = rw r (sound-format s d uuid name time l r)
 
 -- 14 comes exactly when no lower number applies and fewer blocks are free than needed (NoRoom).
-pub no-room : (s name : List ℕ) (offset : ℕ) (bytes : List ℕ) (time : ℕ)
-    → (refusal s (write name offset bytes time) ≡ 14 → NoRoom s name offset (length bytes)) × (NoRoom s name offset (length bytes) → refusal s (write name offset bytes time) ≡ 14)
+pub no-room : (s path : List ℕ) (offset : ℕ) (bytes : List ℕ) (time : ℕ)
+    → (refusal s (write path offset bytes time) ≡ 14 → NoRoom s path offset (length bytes)) × (NoRoom s path offset (length bytes) → refusal s (write path offset bytes time) ≡ 14)
 unfolding refusal
-no-room s name offset bytes time = (refused-14 s name offset (length bytes), lacking-14 s name offset (length bytes))
+no-room s path offset bytes time = (refused-14 s path offset (length bytes), lacking-14 s path offset (length bytes))
 
 -- Look in place "hands back an empty part exactly if it refuses or i is not below the file's blocks", on any image.
-pub look-empty : (s name : List ℕ) (i : ℕ) → (lookupRefusal s name ≢ 0) ⊎ (blocksOf s (entryOf s name) ≤ i) → lookInPlace s name i ≡ []
+pub look-empty : (s path : List ℕ) (i : ℕ) → (lookupRefusal s path ≢ 0) ⊎ (blocksOf s (entryOf isFile s path) ≤ i) → lookInPlace s path i ≡ []
 look-empty = empty-refused
 
-pub look-empty-only : (s name : List ℕ) (i : ℕ) → lookInPlace s name i ≡ [] → (lookupRefusal s name ≢ 0) ⊎ (blocksOf s (entryOf s name) ≤ i)
+pub look-empty-only : (s path : List ℕ) (i : ℕ) → lookInPlace s path i ≡ [] → (lookupRefusal s path ≢ 0) ⊎ (blocksOf s (entryOf isFile s path) ≤ i)
 look-empty-only = refused-empty
 
 -- A sound image s.
@@ -56,18 +63,31 @@ module _ (s : List ℕ) (ok : check s ≡ 0) where
   pub free-count : length (freeBlocks (next s) (blockCount s)) ≡ be32 s 24
   free-count = count-free s (sound s ok)
 
-  -- Look in place gives a file's content, block by block.
-  pub look-content : (name : List ℕ) → lookupRefusal s name ≡ 0 → (i : ℕ) → i < blocksOf s (entryOf s name)
-      → lookInPlace s name i ≡ part (content s (entryOf s name)) (512 * i) (min 512 (sizeOf s (entryOf s name) - 512 * i))
-  look-content name r i h = content-looked s name i r h
+  -- Read and look in place give the bytes of the file that the path shows; where it shows none they refuse.
+  module _ (path : List ℕ) (f : File) (shows : fileAt s path ≡ just f) where
+    pub read-content : (offset : ℕ) (buffer : List ℕ) → offset ≤ length (f .bytes)
+        → read s path offset buffer
+        ≡ record { number = 0; count = min (length buffer) (length (f .bytes) - offset); buffer = splice buffer 0 (part (f .bytes) offset (min (length buffer) (length (f .bytes) - offset))) }
+    read-content = read-shown s path ok f shows
 
-  -- No two files, and no file and the root, own one block.
-  module _ (name : List ℕ) (found : fileSlot s (root s) name ≢ 0) (b : ℕ) (mine : has eqb b (fileBlocks s (entryOf s name)) ≡ true) where
-    pub one-owner : (other : List ℕ) → fileSlot s (root s) other ≢ 0 → has eqb b (fileBlocks s (entryOf s other)) ≡ true → name ≡ other
-    one-owner other too i = file-owner s (sound s ok) name found b (has-eqb-in b (fileBlocks s (entryOf s name)) mine) other too (has-eqb-in b (fileBlocks s (entryOf s other)) i)
+    pub look-content : (i : ℕ) → 512 * i < length (f .bytes) → lookInPlace s path i ≡ part (f .bytes) (512 * i) (min 512 (length (f .bytes) - 512 * i))
+    look-content = look-shown s path ok f shows
 
-    pub not-root : has eqb b (root s) ≡ false
-    not-root = false-has b (root s) (root-owner s (sound s ok) name found b (has-eqb-in b (fileBlocks s (entryOf s name)) mine))
+  pub none-refused : (path : List ℕ) → fileAt s path ≡ nothing → lookupRefusal s path ≢ 0
+  unfolding lookupRefusal
+  none-refused path q z = not-shown s path q (rw ok at z)
+
+  -- No two files, no file and directory, and no two directories own one block.
+  module _ (path : List ℕ) (found : fileRefusal s path ≡ 0) (b : ℕ) (mine : has eqb b (fileBlocks s (entryOf isFile s path)) ≡ true) where
+    pub one-owner : (other : List ℕ) → fileRefusal s other ≡ 0 → has eqb b (fileBlocks s (entryOf isFile s other)) ≡ true → path ≡ other
+    one-owner other too i =
+        file-owner s (sound s ok) path other (file-at-path s path found) (file-at-path s other too) b (has-eqb-in b (fileBlocks s (entryOf isFile s path)) mine) (has-eqb-in b (fileBlocks s (entryOf isFile s other)) i)
+
+    pub no-directory : (d : ℕ × ℕ) → In d (dirs s) → has eqb b (directory s (d .0)) ≡ false
+    no-directory d i = false-has b (directory s (d .0)) (directory-apart s (sound s ok) path (file-at-path s path found) d i b (has-eqb-in b (fileBlocks s (entryOf isFile s path)) mine))
+
+  pub one-directory : (d d′ : ℕ × ℕ) → In d (dirs s) → In d′ (dirs s) → (b : ℕ) → has eqb b (directory s (d .0)) ≡ true → has eqb b (directory s (d′ .0)) ≡ true → d .0 ≡ d′ .0
+  one-directory d d′ i i′ b m k = directory-owner s (sound s ok) d d′ i i′ b (has-eqb-in b (directory s (d .0)) m) (has-eqb-in b (directory s (d′ .0)) k)
 
   -- An accepted change c.
   module _ (c : Change) (r : refusal s c ≡ 0) where
@@ -85,63 +105,91 @@ module _ (s : List ℕ) (ok : check s ≡ 0) where
     pub named-below : (b : ℕ) → has eqb b (named s c) ≡ true → b < blockCount s
     named-below = frame s c ok r .inside
 
-    -- Every file of another name stays: where it is found, its entry, its blocks and its content (Untouched), and what lookup, read and look in
-    -- place answer.
+    -- Of what its own path shows, the file and the directory, it makes what its rule says, a function of that alone (made, madeFolder).
+    pub own-file : fileAt (after s c) (subject c) ≡ made c (fileAt s (subject c))
+    own-file = acts s c ok r .own
+
+    pub own-folder : folderAt (after s c) (subject c) ≡ madeFolder c (folderAt s (subject c))
+    own-folder = acts s c ok r .folder
+
+    -- It takes and gives back blocks in use as its rule says.
+    pub blocks-in-use : be32 (after s c) 20 + (gives c (fileAt s (subject c)) + givesFolder c (folderAt s (subject c))) ≡ be32 s 20 + takes c (fileAt s (subject c))
+    blocks-in-use = acts s c ok r .used
+
+    -- Every other path shows what it showed, and lookup, read and look in place answer what they answered.
     module _ (other : List ℕ) (ne : other ≢ subject c) where
-      pub others-stay : Untouched s (after s c) other
-      others-stay = others-untouched s ok c r other ne
+      pub other-files : fileAt (after s c) other ≡ fileAt s other
+      other-files = acts s c ok r .others other ne
+
+      pub other-folders : folderAt (after s c) other ≡ folderAt s other
+      other-folders = acts s c ok r .folders other ne
 
       pub others-lookup : lookup (after s c) other ≡ lookup s other
-      others-lookup = lookup-stays s (after s c) other ok change-sound others-stay
+      others-lookup = lookup-kept s (after s c) other ok change-sound (others-untouched s c other ok r ne)
 
       pub others-read : (offset : ℕ) (buffer : List ℕ) → read (after s c) other offset buffer ≡ read s other offset buffer
-      others-read = read-stays s (after s c) other ok change-sound others-stay
+      others-read = read-kept s (after s c) other ok change-sound (others-untouched s c other ok r ne)
 
       pub others-look : (i : ℕ) → lookInPlace (after s c) other i ≡ lookInPlace s other i
-      others-look = look-stays s (after s c) other ok change-sound others-stay
+      others-look = look-kept s (after s c) other ok change-sound (others-untouched s c other ok r ne)
 
   -- An accepted write.
-  module _ (name : List ℕ) (offset : ℕ) (bytes : List ℕ) (time : ℕ) (r : refusal s (write name offset bytes time) ≡ 0) where
+  module _ (path : List ℕ) (offset : ℕ) (bytes : List ℕ) (time : ℕ) (r : refusal s (write path offset bytes time) ≡ 0) where
     abbrev written : List ℕ
-    written = after s (write name offset bytes time)
+    written = after s (write path offset bytes time)
 
-    -- The content is the old one with the data put at the offset, and a read there gives the data.
-    pub write-content : content written (entryOf written name) ≡ splice (content s (entryOf s name)) offset bytes
-    write-content = content-written s ok name offset bytes time r
+    abbrev e : ℕ
+    e = entryOf isFile s path
 
-    pub read-back : (buffer : List ℕ) → length buffer ≡ length bytes → read written name offset buffer ≡ record { number = 0; count = length bytes; buffer = bytes }
-    read-back = written-back s ok name offset bytes time r
-
-    -- The entry's numbers and modified time follow, and its other bytes stay.
-    pub write-entry : Written s written (entryOf s name) offset bytes time
-    write-entry = entry-written s ok name offset bytes time r
+    -- A read where the data was put gives the data.
+    pub read-back : (buffer : List ℕ) → length buffer ≡ length bytes → read written path offset buffer ≡ record { number = 0; count = length bytes; buffer = bytes }
+    unfolding subject made refusal
+    read-back buffer l =
+        let f : File = fileOf s (entryOf isFile s path) in
+        let g = write-path s path ok offset (length bytes) r in
+        let shows = own-file (write path offset bytes time) r ∙ ap (made (write path offset bytes time)) (file-shown s path (g .0)) in
+        let k = splice-long (f .bytes) offset bytes (g .1) in
+        let c : min (length buffer) (length (splice (f .bytes) offset bytes) - offset) ≡ length bytes = omega arith in
+        read-shown written path (change-sound (write path offset bytes time) r) _ shows offset buffer (omega arith)
+        ∙ rw (c, part-splice (f .bytes) offset bytes (length bytes) refl (g .1), splice-whole buffer bytes (sym l))
 
     -- The blocks taken are as many as needed, the lowest free ones in ascending order (LowestFree), and stand at the end of the file's chain.
-    pub blocks-taken : fileBlocks written (entryOf s name) ≡ fileBlocks s (entryOf s name) ++ newBlocks s (entryOf s name) offset (length bytes)
-    blocks-taken = write-entry .blocks
+    pub blocks-taken : fileBlocks written e ≡ fileBlocks s e ++ newBlocks s e offset (length bytes)
+    unfolding refusal after
+    blocks-taken = written-blocks s path ok offset bytes time r
 
-    pub count-taken : length (newBlocks s (entryOf s name) offset (length bytes)) ≡ needed s (entryOf s name) offset (length bytes)
+    pub count-taken : length (newBlocks s e offset (length bytes)) ≡ needed s e offset (length bytes)
     unfolding refusal
-    count-taken = new-length s (entryOf s name) offset (length bytes) (write-given s name offset (length bytes) r .room)
+    count-taken = new-length s e offset (length bytes) (write-given s path offset (length bytes) r .room)
 
-    pub lowest-taken : LowestFree s (newBlocks s (entryOf s name) offset (length bytes))
-    lowest-taken = new-lowest s (entryOf s name) offset (length bytes)
+    pub lowest-taken : LowestFree s (newBlocks s e offset (length bytes))
+    lowest-taken = new-lowest s e offset (length bytes)
 
-  -- An accepted create.
-  module _ (name : List ℕ) (type user group permissions flags time : ℕ) (r : refusal s (create name type user group permissions flags time) ≡ 0) where
+  -- An accepted create: the file is found in the slot that is answered.
+  pub create-found : (path : List ℕ) (type user group permissions flags time : ℕ) (r : refusal s (create path type user group permissions flags time) ≡ 0)
+      → pathSlot isFile (after s (create path type user group permissions flags time)) path ≡ slotGiven s (create path type user group permissions flags time)
+  unfolding refusal after slotGiven
+  create-found path type user group permissions flags time r = create-slot-found s path ok type user group permissions flags time r
+
+  -- An accepted create of a directory: it is found in the slot that is answered, it is empty, and the tree has just it more.
+  module _ (path : List ℕ) (type user group permissions flags time d : ℕ) (r : refusal s (createDirectory path type user group permissions flags time d) ≡ 0) where
     abbrev created : List ℕ
-    created = after s (create name type user group permissions flags time)
+    created = after s (createDirectory path type user group permissions flags time d)
 
-    -- The name is found in the slot that is given, its entry is that of the rule, and its content is empty.
-    pub create-found : fileSlot created (root created) name ≡ slotGiven s (create name type user group permissions flags time)
-    create-found = found-created s ok name type user group permissions flags time r
+    pub directory-found : pathSlot isDirectory created path ≡ slotGiven s (createDirectory path type user group permissions flags time d)
+    unfolding refusal after slotGiven
+    directory-found = create-directory-found s path ok type user group permissions flags time d r
 
-    pub create-entry : part created (entryOf created name) 128 ≡ entryBytes type user group permissions 0 0 0 time flags name
-    create-entry = bytes-created s ok name type user group permissions flags time r
+    pub directory-empty : isEmpty created (firstBlock created (entryOf isDirectory created path)) ≡ true
+    unfolding refusal after
+    directory-empty = create-directory-empty s path ok type user group permissions flags time d r
 
-    pub create-content : content created (entryOf created name) ≡ []
-    create-content = content-created s ok name type user group permissions flags time r
+    pub tree-gains : Inserted (firstBlock created (entryOf isDirectory created path), maxLevels - length (parts path)) (dirs s) (dirs created)
+    unfolding refusal after
+    tree-gains = create-directory-tree s path ok type user group permissions flags time d r
 
-  -- An accepted delete: the name is not found (10).
-  pub delete-refused : (name : List ℕ) → refusal s (delete name) ≡ 0 → lookupRefusal (after s (delete name)) name ≡ 10
-  delete-refused = refused-deleted s ok
+  -- An accepted delete of a directory: the tree has just it less.
+  pub tree-loses : (path : List ℕ) → refusal s (deleteDirectory path) ≡ 0
+      → Inserted (firstBlock s (entryOf isDirectory s path), maxLevels - length (parts path)) (dirs (after s (deleteDirectory path))) (dirs s)
+  unfolding refusal after
+  tree-loses path r = delete-directory-tree s path ok r

@@ -1,11 +1,13 @@
--- The change that a value of the code's enum asks for, with the name and the data beside it.
+-- The change that a value of the code's enum asks for, with the path and the data beside it.
 use Prim.Native.Nat.{ℕ}
 use mathlib.Core.List.{List}
 use Rattle.volume.specs.declared.change.Change.{Change}
 use Rattle.volume.specs.declared.change.Change.the-variants as kinds
 use Rattle.volume.specs.Change as rules
 
-abbrev pub asked : Change → (name bytes : List ℕ) → rules.Change
-asked (kinds.Create type user group permissions flags time) name bytes = rules.create name type user group permissions flags time
-asked (kinds.Write offset time) name bytes = rules.write name offset bytes time
-asked kinds.Delete name bytes = rules.delete name
+abbrev pub asked : Change → (path bytes : List ℕ) → rules.Change
+asked (kinds.Create type user group permissions flags time) path bytes = rules.create path type user group permissions flags time
+asked (kinds.Write offset time) path bytes = rules.write path offset bytes time
+asked kinds.Delete path bytes = rules.delete path
+asked (kinds.CreateDirectory type user group permissions flags blocks time) path bytes = rules.createDirectory path type user group permissions flags time blocks
+asked kinds.DeleteDirectory path bytes = rules.deleteDirectory path

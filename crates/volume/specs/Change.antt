@@ -1,35 +1,47 @@
--- The changes: create, write and delete with what each call brings, and the rules of all three in one place. On a sound image.
+-- The changes with what each call brings, and the rules of all in one place. On a sound image.
 use Prim.Native.Nat.{ℕ}
 use mathlib.Core.List.{List}
 use lib.ListN.{length}
 use Rattle.volume.specs.Create.{createRefusal, createSlot, createImage, createNamed}
 use Rattle.volume.specs.Write.{writeRefusal, writeAt, writeNamed}
 use Rattle.volume.specs.Delete.{deleteAt, deleteNamed}
-use Rattle.layout.specs.Looks.{nameRefusal, entryOf}
+use Rattle.volume.specs.Directories.{createDirectoryRefusal, createDirectoryImage, createDirectoryNamed, deleteDirectoryRefusal}
+use Rattle.layout.specs.Directory.{isFile, isDirectory}
+use Rattle.layout.specs.Paths.{fileRefusal, entryOf}
 
 pub data Change : Type 0 where
-  create : (name : List ℕ) (type user group permissions flags time : ℕ) → Change
-  write : (name : List ℕ) (offset : ℕ) (bytes : List ℕ) (time : ℕ) → Change
-  delete : (name : List ℕ) → Change
+  create : (path : List ℕ) (type user group permissions flags time : ℕ) → Change
+  write : (path : List ℕ) (offset : ℕ) (bytes : List ℕ) (time : ℕ) → Change
+  delete : (path : List ℕ) → Change
+  createDirectory : (path : List ℕ) (type user group permissions flags time d : ℕ) → Change
+  deleteDirectory : (path : List ℕ) → Change
 
--- the refusal by the numbers 9 to 14, or 0
+-- the refusal by the numbers 9 to 18, or 0
 unfoldable pub refusal : List ℕ → Change → ℕ
-refusal s (create name type user group permissions flags time) = createRefusal s name type
-refusal s (write name offset bytes time) = writeRefusal s name offset (length bytes)
-refusal s (delete name) = nameRefusal s name
+refusal s (create path type user group permissions flags time) = createRefusal s path type
+refusal s (write path offset bytes time) = writeRefusal s path offset (length bytes)
+refusal s (delete path) = fileRefusal s path
+refusal s (createDirectory path type user group permissions flags time d) = createDirectoryRefusal s path type d
+refusal s (deleteDirectory path) = deleteDirectoryRefusal s path
 
--- of an accepted change: the image after it, its named blocks (in any order), and the slot that it answers (create alone: the others give none)
+-- of an accepted change: the image after it, its named blocks (in any order), and the slot that it answers (create, of a directory too)
 unfoldable pub after : List ℕ → Change → List ℕ
-after s (create name type user group permissions flags time) = createImage s name type user group permissions flags time
-after s (write name offset bytes time) = writeAt s (entryOf s name) offset bytes time
-after s (delete name) = deleteAt s (entryOf s name)
+after s (create path type user group permissions flags time) = createImage s path type user group permissions flags time
+after s (write path offset bytes time) = writeAt s (entryOf isFile s path) offset bytes time
+after s (delete path) = deleteAt s (entryOf isFile s path)
+after s (createDirectory path type user group permissions flags time d) = createDirectoryImage s path type user group permissions flags time d
+after s (deleteDirectory path) = deleteAt s (entryOf isDirectory s path)
 
 unfoldable pub named : List ℕ → Change → List ℕ
-named s (create name type user group permissions flags time) = createNamed s
-named s (write name offset bytes time) = writeNamed s (entryOf s name) offset (length bytes)
-named s (delete name) = deleteNamed s (entryOf s name)
+named s (create path type user group permissions flags time) = createNamed s path
+named s (write path offset bytes time) = writeNamed s (entryOf isFile s path) offset (length bytes)
+named s (delete path) = deleteNamed s (entryOf isFile s path)
+named s (createDirectory path type user group permissions flags time d) = createDirectoryNamed s path d
+named s (deleteDirectory path) = deleteNamed s (entryOf isDirectory s path)
 
 unfoldable pub slotGiven : List ℕ → Change → ℕ
-slotGiven s (create name type user group permissions flags time) = createSlot s
-slotGiven s (write name offset bytes time) = 0
-slotGiven s (delete name) = 0
+slotGiven s (create path type user group permissions flags time) = createSlot s path
+slotGiven s (write path offset bytes time) = 0
+slotGiven s (delete path) = 0
+slotGiven s (createDirectory path type user group permissions flags time d) = createSlot s path
+slotGiven s (deleteDirectory path) = 0

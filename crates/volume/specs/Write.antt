@@ -2,17 +2,17 @@
 -- offset e of its entry.
 use Prim.Native.Nat.{ℕ, zero, suc, _+_, _-_, _*_, _/_, _%_, max}
 use mathlib.Core.List.{List, [], _∷_, _++_}
-use mathlib.Core.Bool.{not, _&&_}
+use mathlib.Core.Bool.{_&&_}
 use lib.ListN.{length, getD, take, drop}
-use lib.Dec.{eqb, leb}
+use lib.Dec.{leb}
 use Rattle.layout.specs.Lists.{lastOr}
-use Rattle.layout.specs.Refusals.{require}
+use Rattle.layout.specs.Refusals.{require, firstOf}
 use Rattle.layout.specs.Bytes.{bytes4, bytes8, part, splice}
 use Rattle.layout.specs.Limits.{maxData}
 use Rattle.layout.specs.Geometry.{blockCount, blocksFor}
 use Rattle.layout.specs.Table.{next, freeBlocks}
-use Rattle.layout.specs.Directory.{sizeOf, blocksOf, goodName, fileSlot, root, fileBlocks}
-use Rattle.layout.specs.Looks.{entryOf}
+use Rattle.layout.specs.Directory.{sizeOf, blocksOf, isFile, fileBlocks}
+use Rattle.layout.specs.Paths.{pathOk, fileRefusal, entryOf}
 use Rattle.volume.specs.Entries.{grown, entriesNamed}
 
 -- "New size is the larger of old size and offset + length"; the number of blocks that it needs beyond those of the file
@@ -67,9 +67,9 @@ unfoldable pub writeAtRefusal : List ℕ → ℕ → ℕ → ℕ → ℕ
 writeAtRefusal s e offset count =
     require (leb offset (sizeOf s e)) 12 (require (leb (needed s e offset count) (length (freeBlocks (next s) (blockCount s)))) 14 0)
 
--- 9 "bad name", "data above 4,096 bytes", 10 "no file of that name", then 12 and 14
+-- 9 "bad name", "data above 4,096 bytes", 17 "more than 8 directories in a path", 10 "no file of that name", then 12 and 14
 unfoldable pub writeRefusal : List ℕ → List ℕ → ℕ → ℕ → ℕ
-writeRefusal s name offset count =
-    require (goodName name && leb count maxData) 9
-    (require (not (eqb (fileSlot s (root s) name) 0)) 10
-    (writeAtRefusal s (entryOf s name) offset count))
+writeRefusal s path offset count =
+    require (leb count maxData && pathOk path) 9
+    (firstOf (fileRefusal s path)
+    (writeAtRefusal s (entryOf isFile s path) offset count))

@@ -1,5 +1,5 @@
 // A change as one value, for the journal above: its refusal, its named blocks as marks and the change itself, on an image that the caller has
-// checked. The name and the data stand beside it.
+// checked. The path and the data stand beside it.
 ghost use mathlib.Core.Path.{_≡_};
 ghost use Prim.Native.Nat.{_≤_};
 ghost use lib.ListN.{length};
@@ -24,48 +24,70 @@ pub enum Change {
         time: u64,
     },
     Delete,
+    CreateDirectory {
+        kind: u8,
+        user: u8,
+        group: u8,
+        permissions: u8,
+        flags: u32,
+        blocks: u32,
+        time: u64,
+    },
+    DeleteDirectory,
 }
 
-// The refusal, 9 to 14, or 0.
-pub fn refusal(image: &[u8], what: Change, name: &[u8], bytes: &[u8]) -> u32
+// The refusal, 9 to 18, or 0.
+pub fn refusal(image: &[u8], what: Change, path: &[u8], bytes: &[u8]) -> u32
     requires { ⌜ check (now image) ≡ 0 ⌝ }
-    ensures { λ r. ⌜ r ≡ refusal (now (image .entry)) (asked what (now (name .entry)) (now (bytes .entry))) ⌝ }
+    ensures { λ r. ⌜ r ≡ refusal (now (image .entry)) (asked what (now (path .entry)) (now (bytes .entry))) ⌝ }
 {
     match what {
-        Change::Create { kind, .. } => super::create::create_refusal(image, name, kind),
+        Change::Create { kind, .. } => super::create::create_refusal(image, path, kind),
         Change::Write { offset, .. } => super::write::write_refusal(
             image,
-            name,
+            path,
             offset,
             bytes.len(),
         ),
-        Change::Delete => super::delete::delete_refusal(image, name),
+        Change::Delete => super::delete::delete_refusal(image, path),
+        Change::CreateDirectory { kind, blocks, .. } => {
+            super::create_directory::create_directory_refusal(image, path, kind, blocks)
+        }
+        Change::DeleteDirectory => super::delete_directory::delete_directory_refusal(image, path),
     }
 }
 
 // Marks the blocks that an accepted change names.
-pub fn mark_named(image: &[u8], what: Change, name: &[u8], bytes: &[u8], marks: &mut [u8])
-    requires { ⌜ (check (now image) ≡ 0) × (refusal (now image) (asked what (now name) (now bytes)) ≡ 0) × (blockCount (now image) ≤ length (now marks)) ⌝ }
-    ensures { λ _. ⌜ now (marks .exit) ≡ marked (now (marks .entry)) (named (now (image .entry)) (asked what (now (name .entry)) (now (bytes .entry)))) ⌝ }
+pub fn mark_named(image: &[u8], what: Change, path: &[u8], bytes: &[u8], marks: &mut [u8])
+    requires { ⌜ (check (now image) ≡ 0) × (refusal (now image) (asked what (now path) (now bytes)) ≡ 0) × (blockCount (now image) ≤ length (now marks)) ⌝ }
+    ensures { λ _. ⌜ now (marks .exit) ≡ marked (now (marks .entry)) (named (now (image .entry)) (asked what (now (path .entry)) (now (bytes .entry)))) ⌝ }
 {
     match what {
-        Change::Create { .. } => super::create::create_named(image, marks),
+        Change::Create { kind, .. } => super::create::create_named(image, path, kind, marks),
         Change::Write { offset, .. } => super::write::write_named(
             image,
-            name,
+            path,
             offset,
             bytes.len(),
             marks,
         ),
-        Change::Delete => super::delete::delete_named(image, name, marks),
+        Change::Delete => super::delete::delete_named(image, path, marks),
+        Change::CreateDirectory { kind, blocks, .. } => {
+            super::create_directory::create_directory_named(image, path, kind, blocks, marks)
+        }
+        Change::DeleteDirectory => super::delete_directory::delete_directory_named(
+            image,
+            path,
+            marks,
+        ),
     }
 }
 
 // Makes an accepted change; gives the slot that it answers, or 0.
-pub fn make(image: &mut [u8], what: Change, name: &[u8], bytes: &[u8]) -> u32
-    requires { ⌜ (check (now image) ≡ 0) × (refusal (now image) (asked what (now name) (now bytes)) ≡ 0) ⌝ }
-    ensures slot { λ r. ⌜ r ≡ slotGiven (now (image .entry)) (asked what (now (name .entry)) (now (bytes .entry))) ⌝ }
-    ensures bytes { λ _. ⌜ now (image .exit) ≡ after (now (image .entry)) (asked what (now (name .entry)) (now (bytes .entry))) ⌝ }
+pub fn make(image: &mut [u8], what: Change, path: &[u8], bytes: &[u8]) -> u32
+    requires { ⌜ (check (now image) ≡ 0) × (refusal (now image) (asked what (now path) (now bytes)) ≡ 0) ⌝ }
+    ensures slot { λ r. ⌜ r ≡ slotGiven (now (image .entry)) (asked what (now (path .entry)) (now (bytes .entry))) ⌝ }
+    ensures bytes { λ _. ⌜ now (image .exit) ≡ after (now (image .entry)) (asked what (now (path .entry)) (now (bytes .entry))) ⌝ }
 {
     match what {
         Change::Create {
@@ -75,13 +97,38 @@ pub fn make(image: &mut [u8], what: Change, name: &[u8], bytes: &[u8]) -> u32
             permissions,
             flags,
             time,
-        } => { super::create::create(image, name, kind, user, group, permissions, flags, time) }
+        } => { super::create::create(image, path, kind, user, group, permissions, flags, time) }
         Change::Write { offset, time } => {
-            super::write::write(image, name, offset, bytes, time);
+            super::write::write(image, path, offset, bytes, time);
             0
         }
         Change::Delete => {
-            super::delete::delete(image, name);
+            super::delete::delete(image, path);
+            0
+        }
+        Change::CreateDirectory {
+            kind,
+            user,
+            group,
+            permissions,
+            flags,
+            blocks,
+            time,
+        } => {
+            super::create_directory::create_directory(
+                image,
+                path,
+                kind,
+                user,
+                group,
+                permissions,
+                flags,
+                time,
+                blocks,
+            )
+        }
+        Change::DeleteDirectory => {
+            super::delete_directory::delete_directory(image, path);
             0
         }
     }

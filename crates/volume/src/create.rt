@@ -3,48 +3,40 @@ ghost use mathlib.Core.Path.{_≡_};
 ghost use Prim.Native.Nat.{_≤_};
 ghost use lib.ListN.{length};
 ghost use Rattle.layout.specs.Geometry.{blockCount};
-ghost use Rattle.layout.specs.Directory.{freeSlot, root};
 ghost use Rattle.layout.specs.Check.{check};
 ghost use Rattle.volume.specs.Create.{createRefusal, createSlot, createImage, createNamed};
-use super::slot::Fields;
 ghost use Rattle.volume.specs.Walks.Marks.{marked};
+use super::slot::Fields;
 
 // The number of create's refusal, or 0.
-pub fn create_refusal(image: &[u8], name: &[u8], kind: u8) -> u32
+pub fn create_refusal(image: &[u8], path: &[u8], kind: u8) -> u32
     requires { ⌜ check (now image) ≡ 0 ⌝ }
-    ensures { λ r. ⌜ r ≡ createRefusal (now (image .entry)) (now (name .entry)) kind ⌝ }
+    ensures { λ r. ⌜ r ≡ createRefusal (now (image .entry)) (now (path .entry)) kind ⌝ }
 {
-    if !layout::bytes::good_name(name) {
-        return 9;
-    }
     if !layout::directory::is_file(kind) {
         return 9;
     }
-    let f = layout::root::find_file(image, name);
-    if f.slot != 0 {
-        return 11;
+    let form = layout::file::path_refusal(path);
+    if form != 0 {
+        return form;
     }
-    let g = layout::root::free_slot(image);
-    if g.slot == 0 {
-        return 13;
-    }
-    0
+    let p = super::place::find_place(image, path);
+    p.number
 }
 
-// Marks the block that create changes.
-pub fn create_named(image: &[u8], marks: &mut [u8])
-    requires { ⌜ (check (now image) ≡ 0) × (freeSlot (now image) (root (now image)) ≡ 0 → ⊥) × (blockCount (now image) ≤ length (now marks)) ⌝ }
-    ensures { λ _. ⌜ now (marks .exit) ≡ marked (now (marks .entry)) (createNamed (now (image .entry))) ⌝ }
+// Marks the block that an accepted create changes.
+pub fn create_named(image: &[u8], path: &[u8], kind: u8, marks: &mut [u8])
+    requires { ⌜ (check (now image) ≡ 0) × (createRefusal (now image) (now path) kind ≡ 0) × (blockCount (now image) ≤ length (now marks)) ⌝ }
+    ensures { λ _. ⌜ now (marks .exit) ≡ marked (now (marks .entry)) (createNamed (now (image .entry)) (now (path .entry))) ⌝ }
 {
-    let f = layout::root::free_slot(image);
-    let b = f.block;
-    marks[b] = 1;
+    let p = super::place::vacant(image, path);
+    super::marks::mark(marks, p.block);
 }
 
 // Creates a file; gives its slot.
 pub fn create(
     image: &mut [u8],
-    name: &[u8],
+    path: &[u8],
     kind: u8,
     user: u8,
     group: u8,
@@ -52,13 +44,11 @@ pub fn create(
     flags: u32,
     time: u64,
 ) -> u32
-    requires { ⌜ (check (now image) ≡ 0) × (createRefusal (now image) (now name) kind ≡ 0) ⌝ }
-    ensures slot { λ r. ⌜ r ≡ createSlot (now (image .entry)) ⌝ }
-    ensures bytes { λ r. ⌜ now (image .exit) ≡ createImage (now (image .entry)) (now (name .entry)) kind user group permissions flags time ⌝ }
+    requires { ⌜ (check (now image) ≡ 0) × (createRefusal (now image) (now path) kind ≡ 0) ⌝ }
+    ensures slot { λ r. ⌜ r ≡ createSlot (now (image .entry)) (now (path .entry)) ⌝ }
+    ensures bytes { λ r. ⌜ now (image .exit) ≡ createImage (now (image .entry)) (now (path .entry)) kind user group permissions flags time ⌝ }
 {
-    let g = layout::root::free_slot(image);
-    let k = g.slot;
-    let b = g.block;
+    let p = super::place::vacant(image, path);
     let f = Fields {
         kind: kind,
         user: user,
@@ -70,9 +60,6 @@ pub fn create(
         time: time,
         flags: flags,
     };
-    let o = 128 * (k % 4);
-    let a = 512 * b;
-    let e = a + 512;
-    super::slot::put_entry(&mut image[a..e], o, f, name);
-    k as u32
+    super::slot::put_slot(image, p.block, p.slot, f, layout::path::last_part(path));
+    p.slot as u32
 }

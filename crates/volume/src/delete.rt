@@ -1,47 +1,63 @@
 // Delete, on an image that the caller has checked.
 ghost use mathlib.Core.Path.{_≡_};
 ghost use Prim.Native.Nat.{_≤_};
+ghost use mathlib.Core.List.{_∷_};
 ghost use lib.ListN.{length};
+ghost use Rattle.layout.specs.Bytes.{zeros, splice};
 ghost use Rattle.layout.specs.Geometry.{blockCount};
+ghost use Rattle.layout.specs.Table.{next, chain};
+ghost use Rattle.layout.specs.Directory.{isFile};
 ghost use Rattle.layout.specs.Check.{check};
-ghost use Rattle.layout.specs.Looks.{nameRefusal, entryOf};
+ghost use Rattle.layout.specs.Paths.{fileRefusal, entryOf};
+ghost use Rattle.layout.specs.Walks.Slots.{entryAt};
+ghost use Rattle.volume.specs.Entries.{released, entriesNamed};
 ghost use Rattle.volume.specs.Delete.{deleteAt, deleteNamed};
 ghost use Rattle.volume.specs.Walks.Marks.{marked};
+ghost use Rattle.volume.specs.Walks.Drops.{Droppable};
 
-// The refusal, 9 or 10, or 0.
-pub fn delete_refusal(image: &[u8], name: &[u8]) -> u32
+// The refusal, 9, 17 or 10, or 0.
+pub fn delete_refusal(image: &[u8], path: &[u8]) -> u32
     requires { ⌜ check (now image) ≡ 0 ⌝ }
-    ensures { λ r. ⌜ r ≡ nameRefusal (now (image .entry)) (now (name .entry)) ⌝ }
+    ensures { λ r. ⌜ r ≡ fileRefusal (now (image .entry)) (now (path .entry)) ⌝ }
 {
-    let f = layout::root::open_file(image, name);
+    let f = layout::file::open_file(image, path);
     f.number
 }
 
-// Marks the blocks that an accepted delete names.
-pub fn delete_named(image: &[u8], name: &[u8], marks: &mut [u8])
-    requires { ⌜ (check (now image) ≡ 0) × (nameRefusal (now image) (now name) ≡ 0) × (blockCount (now image) ≤ length (now marks)) ⌝ }
-    ensures { λ _. ⌜ now (marks .exit) ≡ marked (now (marks .entry)) (deleteNamed (now (image .entry)) (entryOf (now (image .entry)) (now (name .entry)))) ⌝ }
+// Marks what an entry of block b names that goes with its chain of k blocks from `first` on.
+pub fn drop_named(image: &[u8], b: usize, first: usize, k: usize, marks: &mut [u8])
+    requires { ⌜ (Droppable (now image) b first k) × (blockCount (now image) ≤ length (now marks)) ⌝ }
+    ensures { λ _. ⌜ now (marks .exit) ≡ marked (now (marks .entry)) (b ∷ entriesNamed (chain (next (now (image .entry))) first k)) ⌝ }
 {
-    let f = super::file::locate(image, name);
-    let b = f.block;
-    let first = f.first;
-    let blocks = f.blocks;
     let n = image.len() / 512;
     super::marks::mark(marks, b);
-    super::marks::mark_entries(image, n, first, blocks, marks);
+    super::marks::mark_entries(image, n, first, k, marks);
+}
+
+// Frees the chain of k blocks from `first` on and zeroes a slot of block b.
+pub fn drop_entry(image: &mut [u8], b: usize, slot: usize, first: usize, k: usize)
+    requires { ⌜ Droppable (now image) b first k ⌝ }
+    ensures { λ _. ⌜ now (image .exit) ≡ splice (released (now (image .entry)) (blockCount (now (image .entry))) (chain (next (now (image .entry))) first k)) (entryAt b slot) (zeros 128) ⌝ }
+{
+    let n = image.len() / 512;
+    super::table::release(image, n, first, k);
+    super::file::clear_slot(image, b, slot);
+}
+
+// Marks the blocks that an accepted delete names.
+pub fn delete_named(image: &[u8], path: &[u8], marks: &mut [u8])
+    requires { ⌜ (check (now image) ≡ 0) × (fileRefusal (now image) (now path) ≡ 0) × (blockCount (now image) ≤ length (now marks)) ⌝ }
+    ensures { λ _. ⌜ now (marks .exit) ≡ marked (now (marks .entry)) (deleteNamed (now (image .entry)) (entryOf isFile (now (image .entry)) (now (path .entry)))) ⌝ }
+{
+    let f = super::file::locate(image, path);
+    drop_named(image, f.block, f.first, f.blocks, marks);
 }
 
 // An accepted delete: frees the file's blocks and zeroes its slot.
-pub fn delete(image: &mut [u8], name: &[u8])
-    requires { ⌜ (check (now image) ≡ 0) × (nameRefusal (now image) (now name) ≡ 0) ⌝ }
-    ensures { λ _. ⌜ now (image .exit) ≡ deleteAt (now (image .entry)) (entryOf (now (image .entry)) (now (name .entry))) ⌝ }
+pub fn delete(image: &mut [u8], path: &[u8])
+    requires { ⌜ (check (now image) ≡ 0) × (fileRefusal (now image) (now path) ≡ 0) ⌝ }
+    ensures { λ _. ⌜ now (image .exit) ≡ deleteAt (now (image .entry)) (entryOf isFile (now (image .entry)) (now (path .entry))) ⌝ }
 {
-    let f = super::file::locate(image, name);
-    let k = f.slot;
-    let b = f.block;
-    let first = f.first;
-    let blocks = f.blocks;
-    let n = image.len() / 512;
-    super::table::release(image, n, first, blocks);
-    super::file::clear_slot(image, b, k);
+    let f = super::file::locate(image, path);
+    drop_entry(image, f.block, f.slot, f.first, f.blocks);
 }

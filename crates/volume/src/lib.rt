@@ -1,13 +1,16 @@
-// The volume: what changes an image. The call is `format::format`, on any bytes. Create, write and delete are for the journal above, as one value
-// (`change`): its refusal, its named blocks as marks and the change itself, on an image that the caller has checked. `number` writes numbers.
+// The volume: what changes an image. The call is `format::format`, on any bytes. The changes are for the journal above, as one value (`change`): its
+// refusal, its named blocks as marks and the change itself, on an image that the caller has checked. `number` writes numbers.
 pub mod change;
 mod create;
+mod create_directory;
 mod data;
 mod delete;
+mod delete_directory;
 mod file;
 pub mod format;
 mod marks;
 pub mod number;
+mod place;
 mod slot;
 mod table;
 mod write;

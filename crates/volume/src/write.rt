@@ -8,7 +8,8 @@ ghost use Rattle.layout.specs.Lists.{lastOr};
 ghost use Rattle.layout.specs.Geometry.{tableBlocks, blockCount, blocksFor};
 ghost use Rattle.layout.specs.Table.{next, chain, freeBlocks};
 ghost use Rattle.layout.specs.Check.{check};
-ghost use Rattle.layout.specs.Looks.{entryOf};
+ghost use Rattle.layout.specs.Directory.{isFile};
+ghost use Rattle.layout.specs.Paths.{entryOf};
 ghost use Rattle.layout.specs.Walks.Shapes.{ChainBelow};
 ghost use Rattle.volume.specs.Write.{writeRefusal, writeAt, written, writeNamed};
 ghost use Rattle.volume.specs.Walks.Marks.{marked};
@@ -32,14 +33,14 @@ fn needed(size: usize, blocks: usize, offset: usize, count: usize) -> usize
 }
 
 // The refusal, 9, 10, 12 or 14, or 0.
-pub fn write_refusal(image: &[u8], name: &[u8], offset: usize, count: usize) -> u32
+pub fn write_refusal(image: &[u8], path: &[u8], offset: usize, count: usize) -> u32
     requires { ⌜ check (now image) ≡ 0 ⌝ }
-    ensures { λ r. ⌜ r ≡ writeRefusal (now (image .entry)) (now (name .entry)) offset count ⌝ }
+    ensures { λ r. ⌜ r ≡ writeRefusal (now (image .entry)) (now (path .entry)) offset count ⌝ }
 {
     if MAX_DATA < count {
         return 9;
     }
-    let f = layout::root::open_file(image, name);
+    let f = layout::file::open_file(image, path);
     let refusal = f.number;
     let size = f.size;
     let blocks = f.blocks;
@@ -92,11 +93,11 @@ struct Plan {
 }
 
 // The plan of an accepted write.
-fn plan_write(image: &[u8], name: &[u8], offset: usize, count: usize) -> Plan
-    requires { ⌜ (check (now image) ≡ 0) × (writeRefusal (now image) (now name) offset count ≡ 0) ⌝ }
-    ensures { λ r. ⌜ Planned (now (image .entry)) (entryOf (now (image .entry)) (now (name .entry))) offset count (r .slot) (r .block) (r .last) (r .taken) (r .start) (r .size) (r .blocks) ⌝ }
+fn plan_write(image: &[u8], path: &[u8], offset: usize, count: usize) -> Plan
+    requires { ⌜ (check (now image) ≡ 0) × (writeRefusal (now image) (now path) offset count ≡ 0) ⌝ }
+    ensures { λ r. ⌜ Planned (now (image .entry)) (entryOf isFile (now (image .entry)) (now (path .entry))) offset count (r .slot) (r .block) (r .last) (r .taken) (r .start) (r .size) (r .blocks) ⌝ }
 {
-    let f = super::file::locate(image, name);
+    let f = super::file::locate(image, path);
     let first = f.first;
     let size = f.size;
     let blocks = f.blocks;
@@ -117,11 +118,11 @@ fn plan_write(image: &[u8], name: &[u8], offset: usize, count: usize) -> Plan
 }
 
 // An accepted write: takes the blocks needed, puts the data and sets the entry's numbers.
-pub fn write(image: &mut [u8], name: &[u8], offset: usize, bytes: &[u8], time: u64)
-    requires { ⌜ (check (now image) ≡ 0) × (writeRefusal (now image) (now name) offset (length (now bytes)) ≡ 0) ⌝ }
-    ensures { λ _. ⌜ now (image .exit) ≡ writeAt (now (image .entry)) (entryOf (now (image .entry)) (now (name .entry))) offset (now (bytes .entry)) time ⌝ }
+pub fn write(image: &mut [u8], path: &[u8], offset: usize, bytes: &[u8], time: u64)
+    requires { ⌜ (check (now image) ≡ 0) × (writeRefusal (now image) (now path) offset (length (now bytes)) ≡ 0) ⌝ }
+    ensures { λ _. ⌜ now (image .exit) ≡ writeAt (now (image .entry)) (entryOf isFile (now (image .entry)) (now (path .entry))) offset (now (bytes .entry)) time ⌝ }
 {
-    let p = plan_write(image, name, offset, bytes.len());
+    let p = plan_write(image, path, offset, bytes.len());
     let n = image.len() / 512;
     super::table::grow(image, n, p.last, p.taken);
     super::data::put_data(image, n, p.start, p.blocks, offset, bytes);
@@ -156,11 +157,11 @@ fn mark_written(
 }
 
 // Marks the blocks that an accepted write names. Every block that is taken holds a written byte.
-pub fn write_named(image: &[u8], name: &[u8], offset: usize, count: usize, marks: &mut [u8])
-    requires { ⌜ (check (now image) ≡ 0) × (writeRefusal (now image) (now name) offset count ≡ 0) × (blockCount (now image) ≤ length (now marks)) ⌝ }
-    ensures { λ _. ⌜ now (marks .exit) ≡ marked (now (marks .entry)) (writeNamed (now (image .entry)) (entryOf (now (image .entry)) (now (name .entry))) offset count) ⌝ }
+pub fn write_named(image: &[u8], path: &[u8], offset: usize, count: usize, marks: &mut [u8])
+    requires { ⌜ (check (now image) ≡ 0) × (writeRefusal (now image) (now path) offset count ≡ 0) × (blockCount (now image) ≤ length (now marks)) ⌝ }
+    ensures { λ _. ⌜ now (marks .exit) ≡ marked (now (marks .entry)) (writeNamed (now (image .entry)) (entryOf isFile (now (image .entry)) (now (path .entry))) offset count) ⌝ }
 {
-    let f = super::file::locate(image, name);
+    let f = super::file::locate(image, path);
     let b = f.block;
     let first = f.first;
     let size = f.size;

@@ -1,34 +1,48 @@
-//! What calls bring: names, offsets, data and buffers, near every edge.
+//! What calls bring: paths, offsets, data and buffers, near every edge.
 
 use crate::images::good_name;
 use crate::rng::Rng;
-use reference::layout::{
-    block_count, files, is_good_name, name_field, root_block, slot, slot_offsets, stored_name,
-    File, BLOCK, MAX_NAME, NAME_FIELD, SLOT,
-};
-use reference::{Change, Create, Delete, Write};
+use crate::tree::{files, folders, items, slots, Item};
+use reference::layout::*;
+use reference::path::Want;
+use reference::{Change, Create, CreateDirectory, Delete, DeleteDirectory, Write};
 
-/// A file of a sound image, if it has one.
-pub fn any_file(rng: &mut Rng, image: &[u8]) -> Option<File> {
-    let files = files(image);
-    if files.is_empty() {
-        None
-    } else {
-        Some(rng.pick(&files))
-    }
+fn any(rng: &mut Rng, items: Vec<Item>) -> Option<Item> {
+    (!items.is_empty()).then(|| rng.pick(&items))
 }
 
-/// A good name that no file of the image has.
-pub fn missing_name(rng: &mut Rng, image: &[u8]) -> Vec<u8> {
-    let files = files(image);
+/// A file of a sound image, if it has one.
+pub fn any_file(rng: &mut Rng, image: &[u8]) -> Option<Item> {
+    any(rng, files(image))
+}
+
+/// A folder of a sound image, if it has one.
+pub fn any_folder(rng: &mut Rng, image: &[u8]) -> Option<Item> {
+    any(rng, folders(image))
+}
+
+/// A good path that leads to nothing yet, in a directory that is there, so
+/// that it may become what is wanted.
+pub fn missing_path(rng: &mut Rng, image: &[u8], want: Want) -> Vec<u8> {
+    let mut homes = tree(image);
+    homes.retain(|home| want == Want::File || home.level < MAX_LEVELS);
+    let home = rng.pick(&homes);
+    home.path_of(&missing_name(rng, image, &home))
+}
+
+/// A good name that a directory does not have: often one step away from a
+/// name that it has, or one that another directory has.
+pub fn missing_name(rng: &mut Rng, image: &[u8], home: &Directory) -> Vec<u8> {
     loop {
-        let name = if files.is_empty() || rng.below(3) > 0 {
-            good_name(rng)
-        } else {
-            let near = rng.pick(&files).name;
-            altered(rng, &near)
+        let name = match rng.below(3) {
+            0 if !home.entries.is_empty() => {
+                let near = rng.pick(&home.entries).name;
+                altered(rng, &near)
+            }
+            1 => any(rng, items(image)).map_or(vec![], |item| item.name.clone()),
+            _ => good_name(rng),
         };
-        if is_good_name(&name) && files.iter().all(|file| file.name != name) {
+        if is_good_name(&name) && home.entries.iter().all(|entry| entry.name != name) {
             return name;
         }
     }
@@ -66,33 +80,122 @@ pub fn bad_name(rng: &mut Rng) -> Vec<u8> {
             name[rng.below(MAX_NAME)] = 0;
             name
         }
-        _ => (0..rng.between(MAX_NAME + 1, 700)).map(|_| rng.nonzero_byte()).collect(),
+        _ => (0..rng.between(MAX_NAME + 1, 700)).map(|_| rng.name_byte()).collect(),
     }
 }
 
-/// Any name: of a file more often than not.
-pub fn any_name(rng: &mut Rng, image: &[u8]) -> Vec<u8> {
-    match (rng.below(8), any_file(rng, image)) {
-        (0, _) => bad_name(rng),
-        (1, _) => missing_name(rng, image),
-        (2, Some(file)) => altered(rng, &file.name),
-        (3, Some(file)) => name_field(&file.name).to_vec(),
+/// The path of these names.
+pub fn path_of(names: &[Vec<u8>]) -> Vec<u8> {
+    names.iter().flat_map(|name| [b"/", &name[..]].concat()).collect()
+}
+
+fn good_names(rng: &mut Rng, count: usize) -> Vec<Vec<u8>> {
+    (0..count).map(|_| good_name(rng)).collect()
+}
+
+/// Anything but a path, also of too many names.
+pub fn bad_path(rng: &mut Rng) -> Vec<u8> {
+    let count = rng.pick(&[1, 1, 2, 3, 9, 12]);
+    let mut names = good_names(rng, count);
+    match rng.below(8) {
+        0 => vec![],
+        1 => vec![b'/'; rng.between(1, 3)],
+        2 => path_of(&names)[1..].to_vec(),
+        3 => [&path_of(&names)[..], b"/"].concat(),
+        4 => [b"/", &path_of(&names)[..]].concat(),
+        5 => {
+            let mut path = path_of(&names);
+            path[0] = rng.name_byte();
+            path
+        }
+        _ => {
+            let i = rng.below(names.len());
+            names[i] = bad_name(rng);
+            path_of(&names)
+        }
+    }
+}
+
+/// A path of more directories than there may be. It may begin with those of
+/// the image.
+pub fn deep_path(rng: &mut Rng, image: &[u8], want: Want) -> Vec<u8> {
+    let least = MAX_LEVELS + 1 + usize::from(want == Want::File);
+    let count = least + rng.pick(&[0, 0, 0, 1, 5, 100]);
+    let mut names = good_names(rng, count);
+    if let Some(folder) = any_folder(rng, image) {
+        let real = folder.path[1..].split(|&b| b == b'/').map(|name| name.to_vec());
+        real.zip(names.iter_mut()).for_each(|(name, to)| *to = name);
+    }
+    path_of(&names)
+}
+
+/// A good path to nothing, or to something other than is wanted.
+pub fn lost_path(rng: &mut Rng, image: &[u8], want: Want) -> Vec<u8> {
+    loop {
+        let path = match rng.below(4) {
+            0 => missing_path(rng, image, want),
+            1 => through_nothing(rng, image),
+            2 => match any_file(rng, image) {
+                Some(file) => [&file.path[..], b"/", &good_name(rng)].concat(),
+                None => continue,
+            },
+            _ => match any(rng, items(image)) {
+                Some(item) if item.is_file() != (want == Want::File) => item.path,
+                _ => continue,
+            },
+        };
+        let most = if want == Want::File { MAX_LEVELS + 1 } else { MAX_LEVELS };
+        if path.iter().filter(|&&b| b == b'/').count() <= most {
+            return path;
+        }
+    }
+}
+
+/// A good path through a directory that is not there.
+pub fn through_nothing(rng: &mut Rng, image: &[u8]) -> Vec<u8> {
+    let mut homes = tree(image);
+    homes.retain(|home| home.level < MAX_LEVELS);
+    let home = rng.pick(&homes);
+    let missing = missing_name(rng, image, &home);
+    let last = any(rng, items(image)).map_or(good_name(rng), |item| item.name.clone());
+    [&home.path_of(&missing)[..], b"/", &last].concat()
+}
+
+/// Any path: of a file, if one is wanted, or of a folder more often than not.
+pub fn any_path(rng: &mut Rng, image: &[u8], want: Want) -> Vec<u8> {
+    let item = match want {
+        Want::File => any_file(rng, image),
+        Want::Directory => any_folder(rng, image),
+    };
+    match (rng.below(16), item) {
+        (0, _) => bad_path(rng),
+        (1, _) => missing_path(rng, image, want),
+        (2, Some(item)) => {
+            let start = item.path.len() - item.name.len();
+            [&item.path[..start], &altered(rng, &item.name)].concat()
+        }
+        (3, Some(item)) => [&item.path[..], &vec![0; NAME_FIELD - item.name.len()]].concat(),
         (4, _) => name_in_any_slot(rng, image),
-        (_, Some(file)) => file.name,
-        (_, None) => good_name(rng),
+        (5, _) => lost_path(rng, image, want),
+        (6, _) if rng.once_in(2) => deep_path(rng, image, want),
+        (7, Some(item)) => altered(rng, &item.path),
+        (_, Some(item)) => item.path,
+        (_, None) => lost_path(rng, image, want),
     }
 }
 
-/// What stands in the name field of a slot, be it a file's or not.
+/// The path that what stands in the name field of a slot would have, be the
+/// slot in use or not.
 fn name_in_any_slot(rng: &mut Rng, image: &[u8]) -> Vec<u8> {
-    let slots = slot_offsets(image);
-    let at = if rng.once_in(3) { slots[slots.len() - 1] } else { rng.pick(&slots) };
-    stored_name(&image[at + slot::NAME..at + SLOT]).to_vec()
+    let i = rng.below(tree(image).len());
+    let slots = &slots(image)[i];
+    let at = if rng.once_in(3) { slots[slots.len() - 1] } else { rng.pick(slots) };
+    tree(image)[i].path_of(stored_name(&image[at + slot::NAME..at + SLOT]))
 }
 
-/// The size of the file that a name names, or 0.
-pub fn size_of(image: &[u8], name: &[u8]) -> u64 {
-    files(image).iter().find(|f| f.name == name).map_or(0, |f| u64::from(f.size))
+/// The size of the file that a path leads to, or 0.
+pub fn size_of(image: &[u8], path: &[u8]) -> u64 {
+    files(image).iter().find(|f| f.path == path).map_or(0, |f| u64::from(f.size))
 }
 
 pub fn any_offset(rng: &mut Rng, size: u64) -> u64 {
@@ -177,58 +280,125 @@ pub fn any_time(rng: &mut Rng) -> u64 {
     rng.next() >> rng.below(64)
 }
 
-pub fn create(rng: &mut Rng, name: Vec<u8>, kind: u8) -> Change {
+fn given(rng: &mut Rng, path: Vec<u8>, kind: u8) -> Create {
     let (user, group, permissions) = (rng.byte(), rng.byte(), rng.byte());
     let flags = rng.next() as u32;
-    Change::Create(Create { name, kind, user, group, permissions, flags, time: any_time(rng) })
+    Create { path, kind, user, group, permissions, flags, time: any_time(rng) }
 }
 
-pub fn good_kind(rng: &mut Rng) -> u8 {
+pub fn create(rng: &mut Rng, path: Vec<u8>, kind: u8) -> Change {
+    Change::Create(given(rng, path, kind))
+}
+
+pub fn create_directory(rng: &mut Rng, path: Vec<u8>, kind: u8, blocks: u32) -> Change {
+    Change::CreateDirectory(CreateDirectory { entry: given(rng, path, kind), blocks })
+}
+
+/// A type from a range, often at its edges.
+fn from_range(rng: &mut Rng, low: u8, high: u8) -> u8 {
     match rng.below(4) {
-        0 => rng.pick(&[0x60, 0x9F]),
-        _ => rng.between(0x60, 0x9F) as u8,
+        0 => rng.pick(&[low, high]),
+        _ => rng.between(low.into(), high.into()) as u8,
     }
 }
 
-pub fn bad_kind(rng: &mut Rng) -> u8 {
+/// A type out of a range, often next to it.
+fn out_of_range(rng: &mut Rng, low: u8, high: u8) -> u8 {
     match rng.below(3) {
-        0 => rng.pick(&[0x00, 0x01, 0x5F, 0xA0, 0xFF]),
-        1 => rng.below(0x60) as u8,
-        _ => rng.between(0xA0, 0xFF) as u8,
+        0 => rng.pick(&[0x00, 0x01, low - 1, high + 1, 0xFF]),
+        1 => rng.below(low.into()) as u8,
+        _ => rng.between(usize::from(high) + 1, 0xFF) as u8,
     }
+}
+
+/// A type for what is wanted.
+pub fn good_kind(rng: &mut Rng, want: Want) -> u8 {
+    match want {
+        Want::File => from_range(rng, 0x60, 0x9F),
+        Want::Directory => from_range(rng, 0x20, 0x5F),
+    }
+}
+
+pub fn bad_kind(rng: &mut Rng, want: Want) -> u8 {
+    match want {
+        Want::File => out_of_range(rng, 0x60, 0x9F),
+        Want::Directory => out_of_range(rng, 0x20, 0x5F),
+    }
+}
+
+/// A number of blocks that no directory may have.
+pub fn bad_blocks(rng: &mut Rng) -> u32 {
+    rng.pick(&[0, 65, 66, 256, 257, 0x0100_0001, u32::MAX])
+}
+
+/// A path for something new, mostly, and mostly a type for it.
+fn any_new(rng: &mut Rng, image: &[u8], want: Want) -> (Vec<u8>, u8) {
+    let path =
+        if rng.once_in(3) { any_path(rng, image, want) } else { missing_path(rng, image, want) };
+    let kind = if rng.once_in(12) { bad_kind(rng, want) } else { good_kind(rng, want) };
+    (path, kind)
 }
 
 pub fn any_create(rng: &mut Rng, image: &[u8]) -> Change {
-    let name = if rng.once_in(3) { any_name(rng, image) } else { missing_name(rng, image) };
-    let kind = if rng.once_in(12) { bad_kind(rng) } else { good_kind(rng) };
-    create(rng, name, kind)
+    let (path, kind) = any_new(rng, image, Want::File);
+    create(rng, path, kind)
+}
+
+pub fn any_create_directory(rng: &mut Rng, image: &[u8]) -> Change {
+    let (path, kind) = any_new(rng, image, Want::Directory);
+    let free = free_blocks(image).len() as u32;
+    let blocks = match rng.below(10) {
+        0 => bad_blocks(rng),
+        1 => free,
+        2 => free + 1,
+        3 => 64,
+        4 => rng.between(1, 64) as u32,
+        _ => rng.between(1, 3) as u32,
+    };
+    create_directory(rng, path, kind, blocks)
 }
 
 pub fn any_write(rng: &mut Rng, image: &[u8]) -> Change {
-    let name = any_name(rng, image);
-    let size = size_of(image, &name);
+    let path = any_path(rng, image, Want::File);
+    let size = size_of(image, &path);
     let offset = any_offset(rng, size);
     let mut data = any_data(rng, size, offset);
     if rng.once_in(10) {
-        keep_old_bytes(image, &name, offset, &mut data);
+        keep_old_bytes(image, &path, offset, &mut data);
     }
-    Change::Write(Write { name, offset, data, time: any_time(rng) })
+    Change::Write(Write { path, offset, data, time: any_time(rng) })
 }
 
 /// Makes the data equal to what the file holds there already.
-fn keep_old_bytes(image: &[u8], name: &[u8], offset: u64, data: &mut [u8]) {
-    if let Ok(old) = reference::read(image, name, offset, data.len()) {
+fn keep_old_bytes(image: &[u8], path: &[u8], offset: u64, data: &mut [u8]) {
+    if let Ok(old) = reference::read(image, path, offset, data.len()) {
         data[..old.len()].copy_from_slice(&old);
     }
 }
 
 pub fn any_delete(rng: &mut Rng, image: &[u8]) -> Change {
-    Change::Delete(Delete { name: any_name(rng, image) })
+    Change::Delete(Delete { path: any_path(rng, image, Want::File) })
+}
+
+pub fn any_delete_directory(rng: &mut Rng, image: &[u8]) -> Change {
+    let empty = |folder: &Item| entries(image, folder.first as usize).is_empty();
+    let empty = folders(image).into_iter().filter(empty).collect();
+    let path = match any(rng, empty) {
+        Some(folder) if rng.once_in(2) => folder.path,
+        _ => any_path(rng, image, Want::Directory),
+    };
+    Change::DeleteDirectory(DeleteDirectory { path })
 }
 
 /// One of each change.
-pub fn changes(rng: &mut Rng, image: &[u8]) -> [Change; 3] {
-    [any_create(rng, image), any_write(rng, image), any_delete(rng, image)]
+pub fn changes(rng: &mut Rng, image: &[u8]) -> [Change; 5] {
+    [
+        any_create(rng, image),
+        any_write(rng, image),
+        any_delete(rng, image),
+        any_create_directory(rng, image),
+        any_delete_directory(rng, image),
+    ]
 }
 
 /// A block number of the image above the table, for damage.

@@ -1,7 +1,9 @@
 //! Damage for every clause of every stage of the check.
 
 use crate::arguments::any_data_block;
+use crate::images::put_folder;
 use crate::rng::Rng;
+use crate::tree::{files, folders, items, root, root_chain, slots, Item};
 use reference::layout::*;
 
 /// One way to break a sound image. `make` gives None if the image does not
@@ -17,9 +19,9 @@ fn n_t(image: &[u8]) -> (usize, usize) {
     (n, table_blocks(n))
 }
 
-/// Where the self entry lies.
+/// Where the root's self entry lies.
 fn self_at(image: &[u8]) -> usize {
-    root_block(block_count(image)) * BLOCK
+    root(image) * BLOCK
 }
 
 /// A number other than the one there, close to it or not at all.
@@ -31,25 +33,46 @@ fn put_other(rng: &mut Rng, image: &mut [u8], at: usize) -> Option<()> {
     Some(())
 }
 
-fn file_where(rng: &mut Rng, image: &[u8], test: fn(&File) -> bool) -> Option<File> {
-    let files: Vec<File> = files(image).into_iter().filter(test).collect();
+fn file_where(rng: &mut Rng, image: &[u8], test: fn(&Item) -> bool) -> Option<Item> {
+    let files: Vec<Item> = files(image).into_iter().filter(test).collect();
     (!files.is_empty()).then(|| rng.pick(&files))
 }
 
-fn any_file(rng: &mut Rng, image: &[u8]) -> Option<File> {
+fn any_file(rng: &mut Rng, image: &[u8]) -> Option<Item> {
     file_where(rng, image, |_| true)
 }
 
-fn file_with_blocks(rng: &mut Rng, image: &[u8]) -> Option<File> {
+fn file_with_blocks(rng: &mut Rng, image: &[u8]) -> Option<Item> {
     file_where(rng, image, |f| f.blocks >= 1)
 }
 
-fn long_file(rng: &mut Rng, image: &[u8]) -> Option<File> {
+fn long_file(rng: &mut Rng, image: &[u8]) -> Option<Item> {
     file_where(rng, image, |f| f.blocks >= 2)
 }
 
-fn last_of(image: &[u8], file: &File) -> usize {
-    *file_chain(image, file).last().unwrap()
+fn any_folder(rng: &mut Rng, image: &[u8]) -> Option<Item> {
+    let folders = folders(image);
+    (!folders.is_empty()).then(|| rng.pick(&folders))
+}
+
+fn long_folder(rng: &mut Rng, image: &[u8]) -> Option<Item> {
+    let folders: Vec<Item> = folders(image).into_iter().filter(|f| f.blocks >= 2).collect();
+    (!folders.is_empty()).then(|| rng.pick(&folders))
+}
+
+/// A file or a folder.
+fn any_item(rng: &mut Rng, image: &[u8]) -> Option<Item> {
+    let items = items(image);
+    (!items.is_empty()).then(|| rng.pick(&items))
+}
+
+/// Where the self entry of a folder lies.
+fn own_self(folder: &Item) -> usize {
+    folder.first as usize * BLOCK
+}
+
+fn last_of(image: &[u8], item: &Item) -> usize {
+    *item.chain(image).last().unwrap()
 }
 
 /// A free block above the table. A table block's entry may be damaged already.
@@ -59,15 +82,28 @@ fn free_block(rng: &mut Rng, image: &[u8]) -> Option<usize> {
     (!free.is_empty()).then(|| rng.pick(&free))
 }
 
-/// The offset of a slot for files.
+/// The offset of a slot for entries, in any directory.
 fn any_slot(rng: &mut Rng, image: &[u8]) -> usize {
-    let slots = slot_offsets(image);
+    let slots = rng.pick(&slots(image));
     slots[rng.between(1, slots.len() - 2)]
 }
 
-fn free_slot(image: &[u8]) -> Option<usize> {
-    let slots = slot_offsets(image);
+/// A free slot in any directory, and that directory's first block.
+fn free_slot(rng: &mut Rng, image: &[u8]) -> Option<(usize, Directory)> {
+    let mut homes = tree(image);
+    rng.shuffle(&mut homes);
+    homes.into_iter().find_map(|home| free_slot_in(image, home.first).map(|at| (at, home)))
+}
+
+fn free_slot_in(image: &[u8], first: usize) -> Option<usize> {
+    let slots = slot_offsets(image, first);
     slots[1..slots.len() - 1].iter().copied().find(|&at| image[at] == slot::TYPE_FREE)
+}
+
+/// A name that a directory does not have.
+fn new_name(home: &Directory) -> Vec<u8> {
+    let is_new = |name: &Vec<u8>| home.entries.iter().all(|entry| &entry.name != name);
+    (1..=255u8).map(|b| vec![b, b'2']).filter(|name| is_good_name(name)).find(is_new).unwrap()
 }
 
 /// A block number that no chain may hold.
@@ -83,34 +119,39 @@ fn not_one(rng: &mut Rng) -> u32 {
 }
 
 /// Puts a further file over blocks that have an owner already.
-fn second_owner(image: &mut [u8], first: u32, size: u32) -> Option<()> {
-    let at = free_slot(image)?;
-    let taken = files(image);
-    let name = (1..=255u8).map(|b| vec![b, b'2']).find(|n| taken.iter().all(|f| &f.name != n))?;
+fn second_owner(rng: &mut Rng, image: &mut [u8], first: u32, size: u32) -> Option<()> {
+    let (at, home) = free_slot(rng, image)?;
     image[at..at + SLOT].fill(0);
     image[at + slot::TYPE] = 0x77;
     put_number(image, at + slot::FIRST, first);
     put_number(image, at + slot::SIZE, size);
     put_number(image, at + slot::BLOCKS, size.div_ceil(512));
-    image[at + slot::NAME..at + SLOT].copy_from_slice(&name_field(&name));
+    image[at + slot::NAME..at + SLOT].copy_from_slice(&name_field(&new_name(&home)));
     Some(())
 }
 
-/// Ends a file of two blocks or more with a block that has an owner already.
-pub fn join(image: &mut [u8], file: &File, last: usize) {
-    let chain = file_chain(image, file);
+/// Ends a file or folder of two blocks or more with a block that has an owner
+/// already.
+pub fn join(image: &mut [u8], item: &Item, last: usize) {
+    let chain = item.chain(image);
     set_entry(image, chain[chain.len() - 1], 0);
     set_entry(image, chain[chain.len() - 2], last as u32);
 }
 
 /// Sets a file's size and its size in blocks to match.
-fn resize(image: &mut [u8], file: &File, size: u32) {
+fn resize(image: &mut [u8], file: &Item, size: u32) {
     put_number(image, file.at + slot::SIZE, size);
     put_number(image, file.at + slot::BLOCKS, size.div_ceil(512));
 }
 
-fn rename(image: &mut [u8], file: &File, field: &[u8]) {
-    image[file.at + slot::NAME..file.at + SLOT].copy_from_slice(field);
+fn rename(image: &mut [u8], item: &Item, field: &[u8]) {
+    image[item.at + slot::NAME..item.at + SLOT].copy_from_slice(field);
+}
+
+/// Sets the blocks of a folder in its entry and in its self entry.
+fn resize_folder(image: &mut [u8], folder: &Item, d: u32) {
+    put_number(image, folder.at + slot::BLOCKS, d);
+    put_number(image, own_self(folder) + slot::BLOCKS, d);
 }
 
 #[rustfmt::skip]
@@ -232,52 +273,251 @@ const ROOT: &[Clause] = &[
 ];
 
 #[rustfmt::skip]
+const FOLDER: &[Clause] = &[
+    Clause { stage: 4, what: "a folder's self type", make: |r, i| {
+        let at = own_self(&any_folder(r, i)?);
+        i[at] = r.pick(&[0x00, 0x02, 0x20, 0x60, 0xFF]);
+        Some(())
+    } },
+    Clause { stage: 4, what: "a folder's block_self", make: |r, i| { let f = any_folder(r, i)?; put_other(r, i, own_self(&f) + slot::SELF_BLOCK) } },
+    Clause { stage: 4, what: "a folder's block_parent", make: |r, i| { let f = any_folder(r, i)?; put_other(r, i, own_self(&f) + slot::SELF_PARENT) } },
+    Clause { stage: 4, what: "a folder as its own parent", make: |r, i| {
+        let f = any_folder(r, i)?;
+        put_number(i, own_self(&f) + slot::SELF_PARENT, f.first);
+        Some(())
+    } },
+    Clause { stage: 4, what: "a folder of a folder with the root as parent", make: |r, i| {
+        let f = any_folder(r, i)?;
+        if f.level == 0 { return None; }
+        let parent = root(i) as u32;
+        put_number(i, own_self(&f) + slot::SELF_PARENT, parent);
+        Some(())
+    } },
+    Clause { stage: 4, what: "size_blocks of a folder's self entry", make: |r, i| { let f = any_folder(r, i)?; put_other(r, i, own_self(&f) + slot::BLOCKS) } },
+    Clause { stage: 4, what: "size in blocks of a folder's entry", make: |r, i| { let f = any_folder(r, i)?; put_other(r, i, f.at + slot::BLOCKS) } },
+    Clause { stage: 4, what: "a folder of 0, 65 and more blocks", make: |r, i| {
+        let f = any_folder(r, i)?;
+        resize_folder(i, &f, r.pick(&[0, 65, 4096, 0x0100_0001, u32::MAX]));
+        Some(())
+    } },
+    Clause { stage: 4, what: "a folder of 65 linked blocks", make: |r, i| {
+        let f = any_folder(r, i)?;
+        let mut chain = f.chain(i);
+        let (_, t) = n_t(i);
+        chain.extend(free_blocks(i).into_iter().filter(|&b| b > t));
+        chain.truncate(65);
+        if chain.len() < 65 { return None; }
+        link(i, &chain);
+        resize_folder(i, &f, 65);
+        Some(())
+    } },
+    Clause { stage: 4, what: "a folder of one block more or less than its chain", make: |r, i| {
+        let f = any_folder(r, i)?;
+        resize_folder(i, &f, r.pick(&[f.blocks - 1, f.blocks + 1]));
+        Some(())
+    } },
+    Clause { stage: 4, what: "another name in a folder's self entry", make: |r, i| {
+        let f = any_folder(r, i)?;
+        i[own_self(&f) + slot::NAME + r.below(f.name.len())] ^= 1 << r.below(8);
+        Some(())
+    } },
+    Clause { stage: 4, what: "last byte of the name field of a folder's self entry", make: |r, i| {
+        let f = any_folder(r, i)?;
+        i[own_self(&f) + SLOT - 1] ^= 1 << r.below(8);
+        Some(())
+    } },
+    Clause { stage: 4, what: "another name in a folder's entry", make: |r, i| {
+        let f = any_folder(r, i)?;
+        let field = name_field(&new_name(tree(i).iter().find(|home| home.first == f.home)?));
+        rename(i, &f, &field);
+        Some(())
+    } },
+    Clause { stage: 4, what: "a folder's first block outside", make: |r, i| {
+        let f = any_folder(r, i)?;
+        let value = outside(r, i);
+        put_number(i, f.at + slot::FIRST, r.pick(&[0, 1, value]));
+        Some(())
+    } },
+    Clause { stage: 4, what: "a folder on any other block", make: |r, i| {
+        let f = any_folder(r, i)?;
+        let b = any_data_block(r, i);
+        if b == f.first { return None; }
+        put_number(i, f.at + slot::FIRST, b);
+        Some(())
+    } },
+    Clause { stage: 4, what: "a folder's chain shorter", make: |r, i| {
+        let chain = long_folder(r, i)?.chain(i);
+        set_entry(i, chain[r.below(chain.len() - 1)], 1);
+        Some(())
+    } },
+    Clause { stage: 4, what: "a folder's chain longer", make: |r, i| {
+        let (f, free) = (any_folder(r, i)?, free_block(r, i)?);
+        let last = last_of(i, &f);
+        set_entry(i, last, free as u32);
+        set_entry(i, free, 1);
+        Some(())
+    } },
+    Clause { stage: 4, what: "a folder's last value", make: |r, i| {
+        let f = any_folder(r, i)?;
+        let (last, value) = (last_of(i, &f), not_one(r));
+        set_entry(i, last, value);
+        Some(())
+    } },
+    Clause { stage: 4, what: "a folder's chain a loop", make: |r, i| {
+        let chain = any_folder(r, i)?.chain(i);
+        let back = chain[r.below(chain.len())];
+        set_entry(i, chain[chain.len() - 1], back as u32);
+        Some(())
+    } },
+    Clause { stage: 4, what: "a folder's next outside", make: |r, i| {
+        let chain = long_folder(r, i)?.chain(i);
+        let value = outside(r, i);
+        set_entry(i, chain[r.below(chain.len() - 1)], value);
+        Some(())
+    } },
+    Clause { stage: 4, what: "two folders with one end", make: |r, i| {
+        let (f, g) = (long_folder(r, i)?, any_folder(r, i)?);
+        let (own, last) = (last_of(i, &f), last_of(i, &g));
+        if f.at == g.at || last == g.first as usize { return None; }
+        if !is_unused(i, own) || !is_unused(i, last) { return None; }
+        join(i, &f, last);
+        Some(())
+    } },
+    Clause { stage: 4, what: "a folder with the root's end", make: |r, i| {
+        let f = long_folder(r, i)?;
+        let chain = root_chain(i);
+        let last = chain[chain.len() - 1];
+        if chain.len() == 1 || !is_unused(i, last) { return None; }
+        join(i, &f, last);
+        Some(())
+    } },
+    Clause { stage: 4, what: "a folder twice", make: |r, i| {
+        // In another directory, or in its own by another name.
+        let f = any_folder(r, i)?;
+        let (at, home) = free_slot(r, i)?;
+        i.copy_within(f.at..f.at + SLOT, at);
+        if home.entries.iter().any(|entry| entry.name == f.name) {
+            i[at + slot::NAME..at + SLOT].copy_from_slice(&name_field(&new_name(&home)));
+        }
+        Some(())
+    } },
+    Clause { stage: 4, what: "the root within itself", make: |r, i| {
+        // Nothing but its block tells that it was met.
+        let home = tree(i).swap_remove(0);
+        let at = free_slot_in(i, home.first)?;
+        put_loop(r, i, at, home.first, &new_name(&home));
+        Some(())
+    } },
+    Clause { stage: 4, what: "a folder on its parent's last block", make: |r, i| {
+        // That block's first slot is made a self entry. It comes after the folder.
+        let mut homes = tree(i);
+        r.shuffle(&mut homes);
+        let (at, home, last) = homes.into_iter().find_map(|home| {
+            let last = *directory_chain(i, home.first).last()?;
+            let at = free_slot_in(i, home.first)?;
+            let fits = home.level < MAX_LEVELS && last != home.first && at / BLOCK != last;
+            (fits && is_unused(i, last)).then_some((at, home, last))
+        })?;
+        put_folder(r, i, at, home.first, &new_name(&home), &[last]);
+        Some(())
+    } },
+    Clause { stage: 4, what: "a ninth level", make: |r, i| {
+        let home = tree(i).into_iter().find(|home| home.level == MAX_LEVELS)?;
+        let (at, b) = (free_slot_in(i, home.first)?, free_block(r, i)?);
+        put_folder(r, i, at, home.first, &new_name(&home), &[b]);
+        Some(())
+    } },
+];
+
+/// Whether no slot of a directory's last block but the end is in use.
+fn is_unused(image: &[u8], block: usize) -> bool {
+    (0..3).all(|slot| image[block * BLOCK + slot * SLOT] == slot::TYPE_FREE)
+}
+
+/// Puts into a slot of a directory an entry for that directory itself.
+fn put_loop(rng: &mut Rng, image: &mut [u8], at: usize, first: usize, name: &[u8]) {
+    let (own, d) = (first * BLOCK, directory_chain(image, first).len());
+    image[at + slot::TYPE] = rng.between(0x20, 0x5F) as u8;
+    put_number(image, at + slot::FIRST, first as u32);
+    put_number(image, at + slot::SIZE, 0);
+    put_number(image, at + slot::BLOCKS, d as u32);
+    put_number(image, at + slot::ATTRIBUTE_BLOCK, 0);
+    put_number(image, at + slot::ATTRIBUTE_SIZE, 0);
+    image[at + slot::NAME..at + SLOT].copy_from_slice(&name_field(name));
+    image[own + slot::NAME..own + SLOT].copy_from_slice(&name_field(name));
+}
+
+#[rustfmt::skip]
 const DIRECTORY: &[Clause] = &[
     Clause { stage: 5, what: "end type", make: |r, i| {
-        let at = *slot_offsets(i).last().unwrap();
+        let at = *r.pick(&slots(i)).last().unwrap();
         i[at] = r.pick(&[0x00, 0x01, 0x60, 0x7F, 0xFE]);
         Some(())
     } },
     Clause { stage: 5, what: "slot type", make: |r, i| {
         let at = any_slot(r, i);
-        i[at] = r.pick(&[0x01, 0x02, 0x20, 0x5F, 0xA0, 0xC0, 0xFE, 0xFF]);
+        i[at] = r.pick(&[0x01, 0x02, 0x1F, 0xA0, 0xC0, 0xFE, 0xFF]);
         Some(())
     } },
-    Clause { stage: 5, what: "no name", make: |r, i| { let f = any_file(r, i)?; rename(i, &f, &[0; 80]); Some(()) } },
-    Clause { stage: 5, what: "name starts with 0", make: |r, i| { let f = any_file(r, i)?; i[f.at + slot::NAME] = 0; Some(()) } },
+    Clause { stage: 5, what: "no name", make: |r, i| { let f = any_item(r, i)?; rename(i, &f, &[0; 80]); Some(()) } },
+    Clause { stage: 5, what: "name starts with 0", make: |r, i| { let f = any_item(r, i)?; i[f.at + slot::NAME] = 0; Some(()) } },
     Clause { stage: 5, what: "byte after the name", make: |r, i| {
-        let f = file_where(r, i, |f| f.name.len() < 79)?;
-        let at = f.at + slot::NAME + r.between(f.name.len() + 1, 79);
+        let f = any_item(r, i)?;
+        if f.name.len() >= NAME_FIELD - 1 { return None; }
+        let at = f.at + slot::NAME + r.between(f.name.len() + 1, NAME_FIELD - 1);
         i[at] = r.nonzero_byte();
         Some(())
     } },
     Clause { stage: 5, what: "last byte of the name field", make: |r, i| {
-        let f = file_where(r, i, |f| f.name.len() < 79)?;
+        let f = any_item(r, i)?;
+        if f.name.len() >= NAME_FIELD - 1 { return None; }
         i[f.at + SLOT - 1] = r.nonzero_byte();
         Some(())
     } },
-    Clause { stage: 5, what: "name twice", make: |r, i| {
-        let mut all = files(i);
-        if all.len() < 2 { return None; }
-        r.shuffle(&mut all);
-        let field = name_field(&all[0].name);
-        rename(i, &all[1], &field);
+    Clause { stage: 5, what: "slash in a name", make: |r, i| {
+        let f = any_item(r, i)?;
+        i[f.at + slot::NAME + r.below(f.name.len())] = b'/';
         Some(())
     } },
-    Clause { stage: 5, what: "first and last name equal", make: |_, i| {
-        let all = files(i);
+    Clause { stage: 5, what: "name twice", make: |r, i| {
+        // The name of a file or folder also for a file in the same directory.
+        let (one, other) = (any_file(r, i)?, any_item(r, i)?);
+        if one.at == other.at || one.home != other.home { return None; }
+        let field = name_field(&other.name);
+        rename(i, &one, &field);
+        Some(())
+    } },
+    Clause { stage: 5, what: "first and last name equal", make: |r, i| {
+        let home = any_item(r, i)?.home;
+        let mut all = files(i);
+        all.retain(|f| f.home == home);
         if all.len() < 2 { return None; }
         let field = name_field(&all[0].name);
         rename(i, &all[all.len() - 1], &field);
         Some(())
     } },
+    Clause { stage: 5, what: "size of a folder", make: |r, i| {
+        let f = any_folder(r, i)?;
+        put_number(i, f.at + slot::SIZE, r.pick(&[1, 512 * f.blocks, 1 << 24, u32::MAX]));
+        Some(())
+    } },
+    Clause { stage: 5, what: "a folder as a file", make: |r, i| {
+        let f = any_folder(r, i)?;
+        i[f.at] = r.pick(&[0x60, 0x9F]);
+        Some(())
+    } },
+    Clause { stage: 5, what: "a file with blocks as a folder", make: |r, i| {
+        let f = file_with_blocks(r, i)?;
+        i[f.at] = r.pick(&[0x20, 0x5F]);
+        Some(())
+    } },
     Clause { stage: 5, what: "attribute block", make: |r, i| {
-        let f = any_file(r, i)?;
+        let f = any_item(r, i)?;
         i[f.at + slot::ATTRIBUTE_BLOCK + r.below(4)] = r.nonzero_byte();
         Some(())
     } },
     Clause { stage: 5, what: "attribute size", make: |r, i| {
-        let f = any_file(r, i)?;
+        let f = any_item(r, i)?;
         i[f.at + slot::ATTRIBUTE_SIZE + r.below(4)] = r.nonzero_byte();
         Some(())
     } },
@@ -338,7 +578,7 @@ const CHAINS: &[Clause] = &[
     } },
     Clause { stage: 6, what: "next outside", make: |r, i| {
         let f = long_file(r, i)?;
-        let chain = file_chain(i, &f);
+        let chain = f.chain(i);
         let value = outside(r, i);
         set_entry(i, chain[r.below(chain.len() - 1)], value);
         Some(())
@@ -359,14 +599,14 @@ const CHAINS: &[Clause] = &[
     } },
     Clause { stage: 6, what: "loop", make: |r, i| {
         let f = file_with_blocks(r, i)?;
-        let chain = file_chain(i, &f);
+        let chain = f.chain(i);
         let back = chain[r.below(chain.len())];
         set_entry(i, chain[chain.len() - 1], back as u32);
         Some(())
     } },
     Clause { stage: 6, what: "chain ends early", make: |r, i| {
         let f = long_file(r, i)?;
-        let chain = file_chain(i, &f);
+        let chain = f.chain(i);
         set_entry(i, chain[r.below(chain.len() - 1)], 1);
         Some(())
     } },
@@ -401,17 +641,17 @@ const CHAINS: &[Clause] = &[
     } },
     Clause { stage: 6, what: "two files on one chain", make: |r, i| {
         let f = file_with_blocks(r, i)?;
-        second_owner(i, f.first, f.size)
+        second_owner(r, i, f.first, f.size)
     } },
     Clause { stage: 6, what: "two files on one last block", make: |r, i| {
         let f = file_with_blocks(r, i)?;
-        let last = last_of(i, &f);
-        second_owner(i, last as u32, r.between(1, 512) as u32)
+        let (last, size) = (last_of(i, &f), r.between(1, 512));
+        second_owner(r, i, last as u32, size as u32)
     } },
     Clause { stage: 6, what: "two files with one end", make: |r, i| {
         let f = long_file(r, i)?;
         let mut others = files(i);
-        others.retain(|g| g.blocks >= 1 && g.slot != f.slot);
+        others.retain(|g| g.blocks >= 1 && g.at != f.at);
         if others.is_empty() { return None; }
         let last = last_of(i, &r.pick(&others));
         join(i, &f, last);
@@ -423,13 +663,28 @@ const CHAINS: &[Clause] = &[
         join(i, &f, last);
         Some(())
     } },
-    Clause { stage: 6, what: "a file on the root's last block", make: |_, i| {
+    Clause { stage: 6, what: "a file on the root's last block", make: |r, i| {
         let last = *root_chain(i).last().unwrap();
-        second_owner(i, last as u32, 9)
+        second_owner(r, i, last as u32, 9)
     } },
-    Clause { stage: 6, what: "a file on the whole root", make: |_, i| {
+    Clause { stage: 6, what: "a file on the whole root", make: |r, i| {
         let root = root_chain(i);
-        second_owner(i, root[0] as u32, 512 * root.len() as u32)
+        second_owner(r, i, root[0] as u32, 512 * root.len() as u32)
+    } },
+    Clause { stage: 6, what: "a file with a folder's end", make: |r, i| {
+        let (f, folder) = (long_file(r, i)?, any_folder(r, i)?);
+        let last = last_of(i, &folder);
+        join(i, &f, last);
+        Some(())
+    } },
+    Clause { stage: 6, what: "a file on a whole folder", make: |r, i| {
+        let f = any_folder(r, i)?;
+        second_owner(r, i, f.first, 512 * f.blocks)
+    } },
+    Clause { stage: 6, what: "the blocks of a folder that is gone", make: |r, i| {
+        let f = any_folder(r, i)?;
+        i[f.at] = slot::TYPE_FREE;
+        Some(())
     } },
     Clause { stage: 6, what: "a free block with an entry", make: |r, i| {
         let free = free_block(r, i)?;
@@ -479,7 +734,16 @@ const CHAINS: &[Clause] = &[
 ];
 
 /// All clauses, by what they break.
-pub const ALL: [&[Clause]; 5] = [LENGTH, HEADER, ROOT, DIRECTORY, CHAINS];
+pub const ALL: [&[Clause]; 6] = [LENGTH, HEADER, ROOT, FOLDER, DIRECTORY, CHAINS];
+
+/// Whether of two clauses the first is met before the second, by their stages.
+/// Faults of directories come in the order of the tree; but the root's own
+/// stage 4 comes before all of them.
+pub fn comes_first(low: &Clause, high: &Clause) -> bool {
+    let of_tree = |clause: &Clause| clause.stage == 4 || clause.stage == 5;
+    let of_root = ROOT.iter().any(|clause| std::ptr::eq(clause, low));
+    low.stage < high.stage && (of_root || !of_tree(low) || !of_tree(high))
+}
 
 pub fn clauses() -> impl Iterator<Item = &'static Clause> {
     ALL.into_iter().flatten()

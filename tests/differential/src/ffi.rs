@@ -54,33 +54,44 @@ extern "C" {
                           volume_name: *const u8, volume_name_len: usize) -> u32;
 
     pub fn bulgefs_lookup(image: *const u8, image_len: usize,
-                          name: *const u8, name_len: usize) -> Found;
+                          path: *const u8, path_len: usize) -> Found;
 
     pub fn bulgefs_read(image: *const u8, image_len: usize,
-                        name: *const u8, name_len: usize,
+                        path: *const u8, path_len: usize,
                         offset: u64, buffer: *mut u8, buffer_len: usize) -> Filled;
 
     pub fn bulgefs_look_in_place(image: *const u8, image_len: usize,
-                                 name: *const u8, name_len: usize,
+                                 path: *const u8, path_len: usize,
                                  index: u64) -> Part;
 
     pub fn bulgefs_journal_start(journal: *mut u8, journal_len: usize) -> u32;
 
     pub fn bulgefs_create(image: *mut u8, image_len: usize,
                           journal: *mut u8, journal_len: usize,
-                          name: *const u8, name_len: usize,
+                          path: *const u8, path_len: usize,
                           kind: u8, user: u8, group: u8,
                           permissions: u8, flags: u32, time: u64) -> Created;
 
     pub fn bulgefs_write(image: *mut u8, image_len: usize,
                          journal: *mut u8, journal_len: usize,
-                         name: *const u8, name_len: usize,
+                         path: *const u8, path_len: usize,
                          offset: u64, data: *const u8, data_len: usize,
                          time: u64) -> Changed;
 
     pub fn bulgefs_delete(image: *mut u8, image_len: usize,
                           journal: *mut u8, journal_len: usize,
-                          name: *const u8, name_len: usize) -> Changed;
+                          path: *const u8, path_len: usize) -> Changed;
+
+    pub fn bulgefs_create_directory(image: *mut u8, image_len: usize,
+                                    journal: *mut u8, journal_len: usize,
+                                    path: *const u8, path_len: usize,
+                                    kind: u8, user: u8, group: u8,
+                                    permissions: u8, flags: u32,
+                                    blocks: u32, time: u64) -> Created;
+
+    pub fn bulgefs_delete_directory(image: *mut u8, image_len: usize,
+                                    journal: *mut u8, journal_len: usize,
+                                    path: *const u8, path_len: usize) -> Changed;
 
     pub fn bulgefs_undo(image: *mut u8, image_len: usize,
                         journal: *mut u8, journal_len: usize) -> Changed;

@@ -2,7 +2,7 @@
 
 use crate::ffi::{self, Changed, Created, Filled, Found, Part, Uuid};
 use crate::lent::Lent;
-use reference::{Create, State};
+use reference::{Create, CreateDirectory, State};
 
 pub fn check(image: &Lent) -> u32 {
     unsafe { ffi::bulgefs_check(image.ptr(), image.len()) }
@@ -13,17 +13,17 @@ pub fn format(image: &mut Lent, d: u32, time: u64, uuid: [u8; 16], name: &Lent) 
     unsafe { ffi::bulgefs_format(at, len, d, time, uuid, name.ptr(), name.len()) }
 }
 
-pub fn lookup(image: &Lent, name: &Lent) -> Found {
-    unsafe { ffi::bulgefs_lookup(image.ptr(), image.len(), name.ptr(), name.len()) }
+pub fn lookup(image: &Lent, path: &Lent) -> Found {
+    unsafe { ffi::bulgefs_lookup(image.ptr(), image.len(), path.ptr(), path.len()) }
 }
 
-pub fn read(image: &Lent, name: &Lent, offset: u64, buffer: &mut Lent) -> Filled {
+pub fn read(image: &Lent, path: &Lent, offset: u64, buffer: &mut Lent) -> Filled {
     let (at, len, into) = (image.ptr(), image.len(), buffer.mut_ptr());
-    unsafe { ffi::bulgefs_read(at, len, name.ptr(), name.len(), offset, into, buffer.len()) }
+    unsafe { ffi::bulgefs_read(at, len, path.ptr(), path.len(), offset, into, buffer.len()) }
 }
 
-pub fn look_in_place(image: &Lent, name: &Lent, index: u64) -> Part {
-    unsafe { ffi::bulgefs_look_in_place(image.ptr(), image.len(), name.ptr(), name.len(), index) }
+pub fn look_in_place(image: &Lent, path: &Lent, index: u64) -> Part {
+    unsafe { ffi::bulgefs_look_in_place(image.ptr(), image.len(), path.ptr(), path.len(), index) }
 }
 
 pub fn start(journal: &mut Lent) -> u32 {
@@ -49,26 +49,44 @@ pub struct Pair {
 
 #[rustfmt::skip]
 impl Pair {
-    pub fn create(&mut self, name: &Lent, c: &Create) -> Created {
+    pub fn create(&mut self, path: &Lent, c: &Create) -> Created {
         let (image, image_len, journal, journal_len) = self.lent();
         unsafe {
-            ffi::bulgefs_create(image, image_len, journal, journal_len, name.ptr(), name.len(),
+            ffi::bulgefs_create(image, image_len, journal, journal_len, path.ptr(), path.len(),
                                 c.kind, c.user, c.group, c.permissions, c.flags, c.time)
         }
     }
 
-    pub fn write(&mut self, name: &Lent, offset: u64, data: &Lent, time: u64) -> Changed {
+    pub fn write(&mut self, path: &Lent, offset: u64, data: &Lent, time: u64) -> Changed {
         let (image, image_len, journal, journal_len) = self.lent();
         unsafe {
-            ffi::bulgefs_write(image, image_len, journal, journal_len, name.ptr(), name.len(),
+            ffi::bulgefs_write(image, image_len, journal, journal_len, path.ptr(), path.len(),
                                offset, data.ptr(), data.len(), time)
         }
     }
 
-    pub fn delete(&mut self, name: &Lent) -> Changed {
+    pub fn delete(&mut self, path: &Lent) -> Changed {
         let (image, image_len, journal, journal_len) = self.lent();
         unsafe {
-            ffi::bulgefs_delete(image, image_len, journal, journal_len, name.ptr(), name.len())
+            ffi::bulgefs_delete(image, image_len, journal, journal_len, path.ptr(), path.len())
+        }
+    }
+
+    pub fn create_directory(&mut self, path: &Lent, c: &CreateDirectory) -> Created {
+        let (image, image_len, journal, journal_len) = self.lent();
+        let e = &c.entry;
+        unsafe {
+            ffi::bulgefs_create_directory(image, image_len, journal, journal_len,
+                                          path.ptr(), path.len(), e.kind, e.user, e.group,
+                                          e.permissions, e.flags, c.blocks, e.time)
+        }
+    }
+
+    pub fn delete_directory(&mut self, path: &Lent) -> Changed {
+        let (image, image_len, journal, journal_len) = self.lent();
+        unsafe {
+            ffi::bulgefs_delete_directory(image, image_len, journal, journal_len,
+                                          path.ptr(), path.len())
         }
     }
 

@@ -22,6 +22,7 @@ mod report;
 mod rng;
 mod suites;
 mod tester;
+mod tree;
 
 use report::Report;
 use rng::Rng;

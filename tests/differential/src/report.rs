@@ -11,6 +11,8 @@ pub enum Entry {
     Create,
     Write,
     Delete,
+    CreateDirectory,
+    DeleteDirectory,
     Undo,
     LoadTable,
     StoreTable,
@@ -18,16 +20,18 @@ pub enum Entry {
 
 /// Every entry point, and the numbers that it can answer. Look in place has
 /// no number; its row counts what look up would have answered.
-const ENTRIES: [(Entry, &str, &[u32]); 12] = [
+const ENTRIES: [(Entry, &str, &[u32]); 14] = [
     (Entry::Check, "check", &[0, 1, 2, 3, 4, 5, 6, 7]),
     (Entry::Format, "format", &[0, 1, 9, 14]),
-    (Entry::Lookup, "lookup", &[0, 1, 2, 3, 4, 5, 6, 7, 9, 10]),
-    (Entry::Read, "read", &[0, 1, 2, 3, 4, 5, 6, 7, 9, 10, 12]),
-    (Entry::LookInPlace, "look_in_place", &[0, 1, 2, 3, 4, 5, 6, 7, 9, 10]),
+    (Entry::Lookup, "lookup", &[0, 1, 2, 3, 4, 5, 6, 7, 9, 10, 17]),
+    (Entry::Read, "read", &[0, 1, 2, 3, 4, 5, 6, 7, 9, 10, 12, 17]),
+    (Entry::LookInPlace, "look_in_place", &[0, 1, 2, 3, 4, 5, 6, 7, 9, 10, 17]),
     (Entry::Start, "journal_start", &[0, 8]),
-    (Entry::Create, "create", &[0, 1, 2, 3, 4, 5, 6, 7, 8, 9, 11, 13, 15]),
-    (Entry::Write, "write", &[0, 1, 2, 3, 4, 5, 6, 7, 8, 9, 10, 12, 14, 15]),
-    (Entry::Delete, "delete", &[0, 1, 2, 3, 4, 5, 6, 7, 8, 9, 10, 15]),
+    (Entry::Create, "create", &[0, 1, 2, 3, 4, 5, 6, 7, 8, 9, 10, 11, 13, 15, 17]),
+    (Entry::Write, "write", &[0, 1, 2, 3, 4, 5, 6, 7, 8, 9, 10, 12, 14, 15, 17]),
+    (Entry::Delete, "delete", &[0, 1, 2, 3, 4, 5, 6, 7, 8, 9, 10, 15, 17]),
+    (Entry::CreateDirectory, "create_dir", &[0, 1, 2, 3, 4, 5, 6, 7, 8, 9, 10, 11, 13, 14, 15, 17]),
+    (Entry::DeleteDirectory, "delete_dir", &[0, 1, 2, 3, 4, 5, 6, 7, 8, 9, 10, 15, 17, 18]),
     (Entry::Undo, "undo", &[0, 1, 2, 3, 4, 5, 6, 7, 8, 16]),
     (Entry::LoadTable, "load_table", &[0, 1, 2, 3, 4, 5, 6, 7, 21]),
     (Entry::StoreTable, "store_table", &[0, 1, 2, 3, 4, 5, 6, 7, 21]),

@@ -45,6 +45,16 @@ impl Rng {
         self.between(1, 255) as u8
     }
 
+    /// A byte that a name may have.
+    pub fn name_byte(&mut self) -> u8 {
+        loop {
+            let byte = self.nonzero_byte();
+            if byte != b'/' {
+                return byte;
+            }
+        }
+    }
+
     pub fn bytes(&mut self, count: usize) -> Vec<u8> {
         let mut bytes = Vec::with_capacity(count + 8);
         while bytes.len() < count {

@@ -61,23 +61,23 @@ impl Tester {
         self.report.call(Entry::Format, number, troubles);
     }
 
-    pub fn lookup(&mut self, image: &[u8], name: &[u8]) {
-        let (lent, lent_name) = (self.lend(image), self.lend(name));
-        let got = library::lookup(&lent, &lent_name);
-        let result = reference::lookup(image, name);
+    pub fn lookup(&mut self, image: &[u8], path: &[u8]) {
+        let (lent, lent_path) = (self.lend(image), self.lend(path));
+        let got = library::lookup(&lent, &lent_path);
+        let result = reference::lookup(image, path);
         let troubles = [
             unequal(got, found(&result)),
             lent.trouble("image", image),
-            lent_name.trouble("name", name),
+            lent_path.trouble("path", path),
         ];
         self.report.call(Entry::Lookup, number_of(&result), troubles);
     }
 
-    pub fn read(&mut self, image: &[u8], name: &[u8], offset: u64, buffer: &[u8]) {
-        let (lent, lent_name) = (self.lend(image), self.lend(name));
+    pub fn read(&mut self, image: &[u8], path: &[u8], offset: u64, buffer: &[u8]) {
+        let (lent, lent_path) = (self.lend(image), self.lend(path));
         let mut lent_buffer = self.lend(buffer);
-        let got = library::read(&lent, &lent_name, offset, &mut lent_buffer);
-        let result = reference::read(image, name, offset, buffer.len());
+        let got = library::read(&lent, &lent_path, offset, &mut lent_buffer);
+        let result = reference::read(image, path, offset, buffer.len());
         let number = number_of(&result);
         let bytes = result.unwrap_or_default();
         let mut after = buffer.to_vec();
@@ -85,29 +85,29 @@ impl Tester {
         let troubles = [
             unequal(got, ffi::Filled { number, count: bytes.len() as u32 }),
             lent.trouble("image", image),
-            lent_name.trouble("name", name),
+            lent_path.trouble("path", path),
             lent_buffer.trouble("buffer", &after),
         ];
         self.report.call(Entry::Read, number, troubles);
     }
 
-    pub fn look_in_place(&mut self, image: &[u8], name: &[u8], index: u64) {
-        let (lent, lent_name) = (self.lend(image), self.lend(name));
-        let got = library::look_in_place(&lent, &lent_name, index);
-        let range = reference::look_in_place(image, name, index);
+    pub fn look_in_place(&mut self, image: &[u8], path: &[u8], index: u64) {
+        let (lent, lent_path) = (self.lend(image), self.lend(path));
+        let got = library::look_in_place(&lent, &lent_path, index);
+        let range = reference::look_in_place(image, path, index);
         let expected = ffi::Part { start: range.start as u32, length: range.len() as u32 };
-        let number = number_of(&reference::lookup(image, name));
+        let number = number_of(&reference::lookup(image, path));
         let troubles =
-            [unequal(got, expected), lent.trouble("image", image), lent_name.trouble("name", name)];
+            [unequal(got, expected), lent.trouble("image", image), lent_path.trouble("path", path)];
         self.report.call(Entry::LookInPlace, number, troubles);
     }
 
-    /// All calls that only look, for one name.
-    pub fn look(&mut self, image: &[u8], name: &[u8], offset: u64, buffer: &[u8], index: u64) {
+    /// All calls that only look, for one path.
+    pub fn look(&mut self, image: &[u8], path: &[u8], offset: u64, buffer: &[u8], index: u64) {
         self.check(image);
-        self.lookup(image, name);
-        self.read(image, name, offset, buffer);
-        self.look_in_place(image, name, index);
+        self.lookup(image, path);
+        self.read(image, path, offset, buffer);
+        self.look_in_place(image, path, index);
     }
 
     pub fn start(&mut self, journal: &[u8]) {
@@ -150,7 +150,7 @@ impl Tester {
         lent.content().to_vec()
     }
 
-    /// Create, write or delete. Gives the reference's number.
+    /// A change. Gives the reference's number.
     pub fn change(&mut self, state: &State, change: &Change) -> u32 {
         let mut pair = self.lend_pair(state);
         self.change_in(&mut pair, state, change)
@@ -198,25 +198,35 @@ impl Tester {
         pair: &mut Pair,
         change: &Change,
     ) -> (Entry, ffi::Created, Vec<Option<String>>) {
-        match change {
-            Change::Create(c) => {
-                let name = self.lend(&c.name);
-                let got = pair.create(&name, c);
-                (Entry::Create, got, vec![name.trouble("name", &c.name)])
-            }
+        let path = self.lend(path_of(change));
+        let mut troubles = Vec::new();
+        let (entry, got) = match change {
+            Change::Create(c) => (Entry::Create, pair.create(&path, c)),
             Change::Write(w) => {
-                let name = self.lend(&w.name);
                 let data = self.lend(&w.data);
-                let got = pair.write(&name, w.offset, &data, w.time);
-                let troubles = vec![name.trouble("name", &w.name), data.trouble("data", &w.data)];
-                (Entry::Write, without_slot(got), troubles)
+                let got = pair.write(&path, w.offset, &data, w.time);
+                troubles.push(data.trouble("data", &w.data));
+                (Entry::Write, without_slot(got))
             }
-            Change::Delete(d) => {
-                let name = self.lend(&d.name);
-                let got = pair.delete(&name);
-                (Entry::Delete, without_slot(got), vec![name.trouble("name", &d.name)])
+            Change::Delete(_) => (Entry::Delete, without_slot(pair.delete(&path))),
+            Change::CreateDirectory(c) => (Entry::CreateDirectory, pair.create_directory(&path, c)),
+            Change::DeleteDirectory(_) => {
+                (Entry::DeleteDirectory, without_slot(pair.delete_directory(&path)))
             }
-        }
+        };
+        troubles.push(path.trouble("path", path_of(change)));
+        (entry, got, troubles)
+    }
+}
+
+/// The path that a change brings.
+pub fn path_of(change: &Change) -> &[u8] {
+    match change {
+        Change::Create(c) => &c.path,
+        Change::Write(w) => &w.path,
+        Change::Delete(d) => &d.path,
+        Change::CreateDirectory(c) => &c.entry.path,
+        Change::DeleteDirectory(d) => &d.path,
     }
 }
 

@@ -6,18 +6,24 @@ use std::collections::BTreeSet;
 
 /// The first stage that is not met, or 0 for a sound image.
 pub fn check(image: &[u8]) -> u32 {
-    let stages = [length, signature, geometry, root, directory, chains, counts];
-    match stages.iter().position(|stage| !stage(image)) {
-        Some(i) => i as u32 + 1,
-        None => 0,
-    }
+    sound(image).err().unwrap_or(0)
 }
 
 /// Refuses an image that is not sound.
 pub fn sound(image: &[u8]) -> Result<(), Refusal> {
-    match check(image) {
-        0 => Ok(()),
-        stage => Err(stage),
+    require(length(image), 1)?;
+    require(signature(image), 2)?;
+    require(geometry(image), 3)?;
+    directories(image)?;
+    require(chains(image), 6)?;
+    require(counts(image), 7)
+}
+
+fn require(met: bool, number: Refusal) -> Result<(), Refusal> {
+    if met {
+        Ok(())
+    } else {
+        Err(number)
     }
 }
 
@@ -41,54 +47,100 @@ fn geometry(image: &[u8]) -> bool {
         && number(image, header::ROOT) as usize == root_block(n)
 }
 
-/// Stage 4.
-fn root(image: &[u8]) -> bool {
-    let root = root_block(block_count(image));
-    let at = root * BLOCK;
-    let d = number(image, at + slot::BLOCKS) as usize;
+/// Stages 4 and 5 of the whole tree: the first fault met gives the number.
+fn directories(image: &[u8]) -> Result<(), Refusal> {
+    let root = root_block(block_count(image)) as u32;
+    let d = number(image, root as usize * BLOCK + slot::BLOCKS);
+    let mut met = BTreeSet::new();
+    directory(image, &Expected { first: root, parent: root, d, name: None }, 0, &mut met)
+}
+
+/// What a directory must say of itself: of a child its entry has it, of the root
+/// the rules.
+struct Expected<'a> {
+    first: u32,
+    parent: u32,
+    d: u32,
+    /// All bytes of the name field. The root's is not looked at.
+    name: Option<&'a [u8]>,
+}
+
+/// A directory `level` levels below the root: stage 4, the end slot, then each
+/// slot with all that is below it. `met` are the blocks of directories so far.
+fn directory(
+    image: &[u8],
+    expected: &Expected,
+    level: usize,
+    met: &mut BTreeSet<usize>,
+) -> Result<(), Refusal> {
+    require(level <= MAX_LEVELS, 4)?;
+    let blocks = right_chain(image, expected.first, expected.d).ok_or(4u32)?;
+    require(right_self_entry(image, expected), 4)?;
+    require(blocks.into_iter().all(|b| met.insert(b)), 4)?;
+
+    let offsets = slot_offsets(image, expected.first as usize);
+    let end = offsets.len() - 1;
+    require(image[offsets[end] + slot::TYPE] == slot::TYPE_END, 5)?;
+    let mut names = BTreeSet::new();
+    for slot in 1..end {
+        let entry = Entry::read(image, slot, offsets[slot]);
+        if entry.kind == slot::TYPE_FREE {
+            continue;
+        }
+        require(right_entry(image, &entry) && names.insert(entry.name.clone()), 5)?;
+        if entry.is_directory() {
+            let name = &image[entry.at + slot::NAME..entry.at + SLOT];
+            let (first, parent, d) = (entry.first, expected.first, entry.blocks);
+            directory(image, &Expected { first, parent, d, name: Some(name) }, level + 1, met)?;
+        }
+    }
+    Ok(())
+}
+
+/// The chain of a directory: d different blocks, 1 to 64, the last with value 1.
+fn right_chain(image: &[u8], first: u32, d: u32) -> Option<Vec<usize>> {
+    let blocks = chain(image, first, d as usize)?;
+    let right = (1..=MAX_DIRECTORY_BLOCKS).contains(&blocks.len())
+        && all_different(&blocks)
+        && ends(image, &blocks);
+    right.then_some(blocks)
+}
+
+fn right_self_entry(image: &[u8], expected: &Expected) -> bool {
+    let at = expected.first as usize * BLOCK;
     image[at + slot::TYPE] == slot::TYPE_SELF
-        && number(image, at + slot::SELF_BLOCK) as usize == root
-        && number(image, at + slot::SELF_PARENT) as usize == root
-        && (1..=MAX_ROOT_BLOCKS).contains(&d)
-        && chain(image, root as u32, d)
-            .is_some_and(|blocks| all_different(&blocks) && ends(image, &blocks))
+        && number(image, at + slot::SELF_BLOCK) == expected.first
+        && number(image, at + slot::SELF_PARENT) == expected.parent
+        && number(image, at + slot::BLOCKS) == expected.d
+        && expected.name.is_none_or(|name| image[at + slot::NAME..at + SLOT] == *name)
 }
 
-/// Stage 5.
-fn directory(image: &[u8]) -> bool {
-    let offsets = slot_offsets(image);
-    let last = offsets.len() - 1;
-    let files = files(image);
-    let names: BTreeSet<_> = files.iter().map(|file| &file.name).collect();
-    image[offsets[last] + slot::TYPE] == slot::TYPE_END
-        && offsets[1..last].iter().all(|&at| {
-            let kind = image[at + slot::TYPE];
-            kind == slot::TYPE_FREE || is_file_type(kind)
-        })
-        && files.iter().all(|file| good_file(image, file))
-        && names.len() == files.len()
-}
-
-/// The clauses of stage 5 for one file.
-fn good_file(image: &[u8], file: &File) -> bool {
-    let field = &image[file.at + slot::NAME..file.at + SLOT];
-    is_good_name(&file.name)
-        && field[file.name.len()..].iter().all(|&b| b == 0)
-        && number(image, file.at + slot::ATTRIBUTE_BLOCK) == 0
-        && number(image, file.at + slot::ATTRIBUTE_SIZE) == 0
-        && file.blocks == file.size.div_ceil(BLOCK as u32)
-        && (file.first == 0) == (file.size == 0)
+/// The clauses of stage 5 for one slot in use, but for names equal to others.
+fn right_entry(image: &[u8], entry: &Entry) -> bool {
+    let field = &image[entry.at + slot::NAME..entry.at + SLOT];
+    let name = is_good_name(&entry.name) && field[entry.name.len()..].iter().all(|&b| b == 0);
+    let attributes = number(image, entry.at + slot::ATTRIBUTE_BLOCK) == 0
+        && number(image, entry.at + slot::ATTRIBUTE_SIZE) == 0;
+    let sizes = if entry.is_directory() {
+        entry.size == 0
+    } else {
+        entry.blocks == entry.size.div_ceil(BLOCK as u32) && (entry.first == 0) == (entry.size == 0)
+    };
+    (entry.is_file() || entry.is_directory()) && name && attributes && sizes
 }
 
 /// Stage 6.
 fn chains(image: &[u8]) -> bool {
     let n = block_count(image);
     let t = table_blocks(n);
-    let mut owned = root_chain(image);
-    for file in files(image) {
-        match chain(image, file.first, file.blocks as usize) {
-            Some(blocks) if ends(image, &blocks) => owned.extend(blocks),
-            _ => return false,
+    let mut owned = Vec::new();
+    for directory in tree(image) {
+        owned.extend(directory_chain(image, directory.first));
+        for file in directory.entries.iter().filter(|entry| entry.is_file()) {
+            match chain(image, file.first, file.blocks as usize) {
+                Some(blocks) if ends(image, &blocks) => owned.extend(blocks),
+                _ => return false,
+            }
         }
     }
     let in_chains: BTreeSet<usize> = owned.iter().copied().collect();

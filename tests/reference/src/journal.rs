@@ -22,7 +22,7 @@ pub struct State {
     pub journal: Vec<u8>,
 }
 
-/// What an accepted create, write or delete gives.
+/// What an accepted change gives.
 #[derive(Clone, Debug, PartialEq, Eq)]
 pub struct Applied {
     pub state: State,
@@ -105,8 +105,8 @@ fn record_of(image: &[u8], named: &BTreeSet<usize>) -> Vec<u8> {
     record
 }
 
-/// Create, write or delete with a journal. The order of the steps is the
-/// order in which the numbers are weighed: 1 to 7, 8, 9 to 14, 15.
+/// A change with a journal. The order of the steps is the order in which the
+/// numbers are weighed: 1 to 7, 8, those of the change, 15.
 pub fn apply(state: &State, change: &Change) -> Result<Applied, Refusal> {
     sound(&state.image)?;
     records(&state.journal, block_count(&state.image))?;

@@ -3,7 +3,8 @@
 pub const BLOCK: usize = 512;
 pub const MIN_BLOCKS: usize = 3;
 pub const MAX_BLOCKS: usize = 65536;
-pub const MAX_ROOT_BLOCKS: usize = 64;
+pub const MAX_DIRECTORY_BLOCKS: usize = 64;
+pub const MAX_LEVELS: usize = 8;
 pub const ENTRIES_PER_TABLE_BLOCK: usize = 128;
 pub const SLOTS_PER_BLOCK: usize = 4;
 pub const SLOT: usize = 128;
@@ -28,7 +29,8 @@ pub mod header {
     pub const VERSION_BYTES: &[u8] = &[0, 1, 0, 0];
 }
 
-/// Offsets in a directory slot.
+/// Offsets in a directory slot. The entry of a child directory has its first
+/// block and its size in blocks where a file has them.
 pub mod slot {
     pub const TYPE: usize = 0;
     pub const USER: usize = 1;
@@ -56,6 +58,11 @@ pub mod slot {
 /// A type that a file may have.
 pub fn is_file_type(kind: u8) -> bool {
     (0x60..=0x9F).contains(&kind)
+}
+
+/// A type that a child directory may have.
+pub fn is_directory_type(kind: u8) -> bool {
+    (0x20..=0x5F).contains(&kind)
 }
 
 /// The big-endian 32-bit number at an offset.
@@ -136,9 +143,9 @@ pub fn name_field(name: &[u8]) -> [u8; NAME_FIELD] {
     field
 }
 
-/// A name is 1 to 80 non-zero bytes.
+/// A name is 1 to 80 bytes, none of them zero or `/`.
 pub fn is_good_name(name: &[u8]) -> bool {
-    (1..=MAX_NAME).contains(&name.len()) && !name.contains(&0)
+    (1..=MAX_NAME).contains(&name.len()) && !name.contains(&0) && !name.contains(&b'/')
 }
 
 /// The name in a name field: the bytes before its first zero.
@@ -147,56 +154,105 @@ pub fn stored_name(field: &[u8]) -> &[u8] {
     &field[..length]
 }
 
-/// The root directory's blocks. Only for an image that passes stage 4.
-pub fn root_chain(image: &[u8]) -> Vec<usize> {
-    let root = root_block(block_count(image));
-    let d = number(image, root * BLOCK + slot::BLOCKS) as usize;
-    chain(image, root as u32, d).expect("the root chain was checked")
+/// The blocks of the directory that starts at `first`, as many as its self
+/// entry says. Only for a directory that passes stage 4.
+pub fn directory_chain(image: &[u8], first: usize) -> Vec<usize> {
+    let d = number(image, first * BLOCK + slot::BLOCKS) as usize;
+    chain(image, first as u32, d).expect("the directory's chain was checked")
 }
 
-/// The offset in the image of every slot of the root directory, in order.
-pub fn slot_offsets(image: &[u8]) -> Vec<usize> {
-    root_chain(image)
+/// The offset in the image of every slot of the directory, in order.
+pub fn slot_offsets(image: &[u8], first: usize) -> Vec<usize> {
+    directory_chain(image, first)
         .iter()
         .flat_map(|&b| (0..SLOTS_PER_BLOCK).map(move |i| b * BLOCK + i * SLOT))
         .collect()
 }
 
-/// A file as its slot tells it.
+/// A file or a child directory as its slot tells it.
 #[derive(Clone, Debug, PartialEq, Eq)]
-pub struct File {
+pub struct Entry {
     pub slot: usize,
     /// Offset of the slot in the image.
     pub at: usize,
+    pub kind: u8,
     pub name: Vec<u8>,
     pub first: u32,
     pub size: u32,
     pub blocks: u32,
 }
 
-/// The files of the root directory, slots ascending. Only for an image that
-/// passes stage 4.
-pub fn files(image: &[u8]) -> Vec<File> {
-    let offsets = slot_offsets(image);
+impl Entry {
+    pub fn read(image: &[u8], slot: usize, at: usize) -> Entry {
+        Entry {
+            slot,
+            at,
+            kind: image[at + slot::TYPE],
+            name: stored_name(&image[at + slot::NAME..at + SLOT]).to_vec(),
+            first: number(image, at + slot::FIRST),
+            size: number(image, at + slot::SIZE),
+            blocks: number(image, at + slot::BLOCKS),
+        }
+    }
+
+    pub fn is_file(&self) -> bool {
+        is_file_type(self.kind)
+    }
+
+    pub fn is_directory(&self) -> bool {
+        is_directory_type(self.kind)
+    }
+
+    /// The blocks of the file or directory, in chain order. Only for a sound
+    /// image.
+    pub fn chain(&self, image: &[u8]) -> Vec<usize> {
+        chain(image, self.first, self.blocks as usize).expect("the chain was checked")
+    }
+}
+
+/// The files and child directories of the directory that starts at `first`,
+/// slots ascending. Only for a directory that passes stage 4.
+pub fn entries(image: &[u8], first: usize) -> Vec<Entry> {
+    let offsets = slot_offsets(image, first);
     (1..offsets.len() - 1)
-        .filter(|&i| is_file_type(image[offsets[i] + slot::TYPE]))
-        .map(|i| {
-            let at = offsets[i];
-            File {
-                slot: i,
-                at,
-                name: stored_name(&image[at + slot::NAME..at + SLOT]).to_vec(),
-                first: number(image, at + slot::FIRST),
-                size: number(image, at + slot::SIZE),
-                blocks: number(image, at + slot::BLOCKS),
-            }
-        })
+        .map(|i| Entry::read(image, i, offsets[i]))
+        .filter(|entry| entry.is_file() || entry.is_directory())
         .collect()
 }
 
-/// A file's blocks, in chain order. Only for a sound image.
-pub fn file_chain(image: &[u8], file: &File) -> Vec<usize> {
-    chain(image, file.first, file.blocks as usize).expect("the file's chain was checked")
+/// A directory of the tree.
+#[derive(Clone, Debug, PartialEq, Eq)]
+pub struct Directory {
+    /// The names on the way from the root, each after a `/`; the root's is empty.
+    pub path: Vec<u8>,
+    /// How many levels it lies below the root.
+    pub level: usize,
+    pub first: usize,
+    pub entries: Vec<Entry>,
+}
+
+impl Directory {
+    /// The path of a name in this directory.
+    pub fn path_of(&self, name: &[u8]) -> Vec<u8> {
+        [&self.path, &b"/"[..], name].concat()
+    }
+}
+
+/// All directories, the root first, each before those below it. Only for an
+/// image that passes stages 4 and 5.
+pub fn tree(image: &[u8]) -> Vec<Directory> {
+    below(image, vec![], 0, root_block(block_count(image)))
+}
+
+fn below(image: &[u8], path: Vec<u8>, level: usize, first: usize) -> Vec<Directory> {
+    let entries = entries(image, first);
+    let directory = Directory { path, level, first, entries };
+    let mut all = vec![directory.clone()];
+    for child in directory.entries.iter().filter(|entry| entry.is_directory()) {
+        let path = directory.path_of(&child.name);
+        all.extend(below(image, path, level + 1, child.first as usize));
+    }
+    all
 }
 
 /// The blocks whose table entry is 0, ascending.

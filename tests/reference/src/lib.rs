@@ -9,6 +9,7 @@ pub mod check;
 pub mod journal;
 pub mod layout;
 pub mod listing;
+pub mod path;
 pub mod replay;
 pub mod table;
 pub mod volume;
@@ -19,7 +20,10 @@ pub use journal::{apply, start, undo, Applied, State, Undone};
 pub use listing::list;
 pub use replay::{Answer, Call, Replay};
 pub use table::{load_table, store_table};
-pub use volume::{format, look_in_place, lookup, read, Change, Create, Delete, Found, Write};
+pub use volume::{
+    format, look_in_place, lookup, read, Change, Create, CreateDirectory, Delete, DeleteDirectory,
+    Found, Write,
+};
 
-/// A refusal number, 1 to 16 or 21.
+/// A refusal number, 1 to 18 or 21.
 pub type Refusal = u32;

@@ -13,9 +13,9 @@ pub enum Call {
     Change(Change),
     Undo,
     Check,
-    Lookup { name: Vec<u8> },
-    Read { name: Vec<u8>, offset: u64, buffer: Vec<u8> },
-    LookInPlace { name: Vec<u8>, index: u64 },
+    Lookup { path: Vec<u8> },
+    Read { path: Vec<u8>, offset: u64, buffer: Vec<u8> },
+    LookInPlace { path: Vec<u8>, index: u64 },
 }
 
 /// What a call must give.
@@ -108,10 +108,10 @@ impl Replay {
 fn look_at(image: &[u8], call: &Call) -> Answer {
     match call {
         Call::Check => Answer::Checked(check(image)),
-        Call::Lookup { name } => Answer::Found(lookup(image, name)),
-        Call::Read { name, offset, buffer } => {
+        Call::Lookup { path } => Answer::Found(lookup(image, path)),
+        Call::Read { path, offset, buffer } => {
             let mut after = buffer.clone();
-            match read(image, name, *offset, buffer.len()) {
+            match read(image, path, *offset, buffer.len()) {
                 Err(number) => Answer::Read { number, count: 0, buffer: after },
                 Ok(bytes) => {
                     after[..bytes.len()].copy_from_slice(&bytes);
@@ -119,8 +119,8 @@ fn look_at(image: &[u8], call: &Call) -> Answer {
                 }
             }
         }
-        Call::LookInPlace { name, index } => {
-            let range = look_in_place(image, name, *index);
+        Call::LookInPlace { path, index } => {
+            let range = look_in_place(image, path, *index);
             Answer::Part { bytes: image[range.clone()].to_vec(), range }
         }
         Call::Change(_) | Call::Undo => unreachable!("not a look"),

@@ -1,8 +1,9 @@
-//! The calls on an image: format, look up, read, look in place, and what
-//! create, write and delete do to an image. No journal here.
+//! The calls on an image: format, look up, read, look in place, and what the
+//! changes do to an image. No journal here.
 
 use crate::check::{length, sound};
 use crate::layout::*;
+use crate::path::{named, place, Want};
 use crate::Refusal;
 use std::collections::BTreeSet;
 use std::ops::Range;
@@ -17,7 +18,7 @@ pub struct Found {
 
 #[derive(Clone, Debug, PartialEq, Eq)]
 pub struct Create {
-    pub name: Vec<u8>,
+    pub path: Vec<u8>,
     pub kind: u8,
     pub user: u8,
     pub group: u8,
@@ -28,7 +29,7 @@ pub struct Create {
 
 #[derive(Clone, Debug, PartialEq, Eq)]
 pub struct Write {
-    pub name: Vec<u8>,
+    pub path: Vec<u8>,
     pub offset: u64,
     pub data: Vec<u8>,
     pub time: u64,
@@ -36,7 +37,19 @@ pub struct Write {
 
 #[derive(Clone, Debug, PartialEq, Eq)]
 pub struct Delete {
-    pub name: Vec<u8>,
+    pub path: Vec<u8>,
+}
+
+/// What a create brings, and the blocks that the directory is given.
+#[derive(Clone, Debug, PartialEq, Eq)]
+pub struct CreateDirectory {
+    pub entry: Create,
+    pub blocks: u32,
+}
+
+#[derive(Clone, Debug, PartialEq, Eq)]
+pub struct DeleteDirectory {
+    pub path: Vec<u8>,
 }
 
 /// A call that changes the image.
@@ -45,13 +58,15 @@ pub enum Change {
     Create(Create),
     Write(Write),
     Delete(Delete),
+    CreateDirectory(CreateDirectory),
+    DeleteDirectory(DeleteDirectory),
 }
 
 /// An image after a change, and what the journal and the caller need of it.
 pub struct Changed {
     pub image: Vec<u8>,
     pub named: BTreeSet<usize>,
-    /// The slot that create used; 0 for the others.
+    /// The slot that a create used; 0 for the others.
     pub slot: u32,
 }
 
@@ -68,7 +83,7 @@ pub fn format(
         return Err(1);
     }
     let d = root_blocks as usize;
-    if !(1..=MAX_ROOT_BLOCKS).contains(&d) || volume_name.len() != header::VOLUME_NAME_SIZE {
+    if !(1..=MAX_DIRECTORY_BLOCKS).contains(&d) || volume_name.len() != header::VOLUME_NAME_SIZE {
         return Err(9);
     }
     let n = block_count(&image);
@@ -92,30 +107,35 @@ pub fn format(
         set_entry(&mut image, b, 1);
     }
     let root: Vec<usize> = (t + 1..=t + d).collect();
-    link(&mut image, &root);
-
-    let at = root[0] * BLOCK;
-    image[at + slot::TYPE] = slot::TYPE_SELF;
-    put_number(&mut image, at + slot::SELF_BLOCK, root[0] as u32);
-    put_number(&mut image, at + slot::SELF_PARENT, root[0] as u32);
-    put_number(&mut image, at + slot::BLOCKS, d as u32);
-    put_time(&mut image, at + slot::CREATED, time);
-    put_time(&mut image, at + slot::MODIFIED, time);
-    let end = root[d - 1] * BLOCK + (SLOTS_PER_BLOCK - 1) * SLOT;
-    image[end + slot::TYPE] = slot::TYPE_END;
+    put_directory(&mut image, &root, root[0], time);
     Ok(image)
 }
 
-pub fn lookup(image: &[u8], name: &[u8]) -> Result<Found, Refusal> {
+/// Links the blocks of an empty directory, all zeros so far, and puts its self
+/// entry and its end type.
+fn put_directory(image: &mut [u8], blocks: &[usize], parent: usize, time: u64) {
+    link(image, blocks);
+    let at = blocks[0] * BLOCK;
+    image[at + slot::TYPE] = slot::TYPE_SELF;
+    put_number(image, at + slot::SELF_BLOCK, blocks[0] as u32);
+    put_number(image, at + slot::SELF_PARENT, parent as u32);
+    put_number(image, at + slot::BLOCKS, blocks.len() as u32);
+    put_time(image, at + slot::CREATED, time);
+    put_time(image, at + slot::MODIFIED, time);
+    let end = blocks[blocks.len() - 1] * BLOCK + (SLOTS_PER_BLOCK - 1) * SLOT;
+    image[end + slot::TYPE] = slot::TYPE_END;
+}
+
+pub fn lookup(image: &[u8], path: &[u8]) -> Result<Found, Refusal> {
     sound(image)?;
-    let file = find(image, name)?;
+    let file = find_file(image, path)?;
     Ok(Found { slot: file.slot as u32, size: file.size, blocks: file.blocks })
 }
 
 /// The bytes that read puts at the front of a buffer of `buffer_len` bytes.
-pub fn read(image: &[u8], name: &[u8], offset: u64, buffer_len: usize) -> Result<Vec<u8>, Refusal> {
+pub fn read(image: &[u8], path: &[u8], offset: u64, buffer_len: usize) -> Result<Vec<u8>, Refusal> {
     sound(image)?;
-    let file = find(image, name)?;
+    let file = find_file(image, path)?;
     if offset > u64::from(file.size) {
         return Err(12);
     }
@@ -126,8 +146,8 @@ pub fn read(image: &[u8], name: &[u8], offset: u64, buffer_len: usize) -> Result
 
 /// The part of the image that holds the file's block `index`, cut at the
 /// file's end; 0..0 if there is none.
-pub fn look_in_place(image: &[u8], name: &[u8], index: u64) -> Range<usize> {
-    let file = match sound(image).and_then(|()| find(image, name)) {
+pub fn look_in_place(image: &[u8], path: &[u8], index: u64) -> Range<usize> {
+    let file = match sound(image).and_then(|()| find_file(image, path)) {
         Ok(file) => file,
         Err(_) => return 0..0,
     };
@@ -135,32 +155,47 @@ pub fn look_in_place(image: &[u8], name: &[u8], index: u64) -> Range<usize> {
         return 0..0;
     }
     let index = index as usize;
-    let start = file_chain(image, &file)[index] * BLOCK;
+    let start = file.chain(image)[index] * BLOCK;
     let left = file.size as usize - index * BLOCK;
     start..start + left.min(BLOCK)
 }
 
-/// A change of a sound image; weighs the numbers 9 to 14.
+/// The file of a path; weighs 9 (for the path), 17 and 10.
+fn find_file(image: &[u8], path: &[u8]) -> Result<Entry, Refusal> {
+    place(path, Want::File, true)?.find(image, Want::File)
+}
+
+/// A change of a sound image; weighs the numbers 9, 17, 10 to 12, 18, 13, 14.
 pub fn change(image: &[u8], change: &Change) -> Result<Changed, Refusal> {
     match change {
         Change::Create(c) => create(image, c),
         Change::Write(w) => write(image, w),
         Change::Delete(d) => delete(image, d),
+        Change::CreateDirectory(c) => create_directory(image, c),
+        Change::DeleteDirectory(d) => delete_directory(image, d),
     }
 }
 
 fn create(image: &[u8], c: &Create) -> Result<Changed, Refusal> {
-    if !is_good_name(&c.name) || !is_file_type(c.kind) {
-        return Err(9);
-    }
-    if find(image, &c.name).is_ok() {
+    let place = place(&c.path, Want::File, is_file_type(c.kind))?;
+    let (slot, at) = free_slot(image, place.home(image)?, place.name)?;
+    let mut after = image.to_vec();
+    put(&mut after, at, &new_entry(c, place.name));
+    Ok(Changed { image: after, named: BTreeSet::from([at / BLOCK]), slot })
+}
+
+/// The lowest free slot of a directory, and its offset; weighs 11 and 13.
+fn free_slot(image: &[u8], directory: usize, name: &[u8]) -> Result<(u32, usize), Refusal> {
+    if named(image, directory, name).is_some() {
         return Err(11);
     }
-    let offsets = slot_offsets(image);
+    let offsets = slot_offsets(image, directory);
     let free = (1..offsets.len() - 1).find(|&i| image[offsets[i] + slot::TYPE] == slot::TYPE_FREE);
-    let index = free.ok_or(13u32)?;
-    let at = offsets[index];
+    free.map(|i| (i as u32, offsets[i])).ok_or(13)
+}
 
+/// The slot of something just created: size 0 and no block.
+fn new_entry(c: &Create, name: &[u8]) -> [u8; SLOT] {
     let mut entry = [0; SLOT];
     entry[slot::TYPE] = c.kind;
     entry[slot::USER] = c.user;
@@ -169,37 +204,58 @@ fn create(image: &[u8], c: &Create) -> Result<Changed, Refusal> {
     put_time(&mut entry, slot::CREATED, c.time);
     put_time(&mut entry, slot::MODIFIED, c.time);
     put_number(&mut entry, slot::FLAGS, c.flags);
-    put(&mut entry, slot::NAME, &name_field(&c.name));
+    put(&mut entry, slot::NAME, &name_field(name));
+    entry
+}
+
+fn create_directory(image: &[u8], c: &CreateDirectory) -> Result<Changed, Refusal> {
+    let d_in_range = (1..=MAX_DIRECTORY_BLOCKS as u32).contains(&c.blocks);
+    let good = is_directory_type(c.entry.kind) && d_in_range;
+    let place = place(&c.entry.path, Want::Directory, good)?;
+    let parent = place.home(image)?;
+    let (slot, at) = free_slot(image, parent, place.name)?;
+    let taken = lowest_free(image, c.blocks as usize)?;
+
+    let mut entry = new_entry(&c.entry, place.name);
+    put_number(&mut entry, slot::FIRST, taken[0] as u32);
+    put_number(&mut entry, slot::BLOCKS, taken.len() as u32);
 
     let mut after = image.to_vec();
     put(&mut after, at, &entry);
-    Ok(Changed { image: after, named: BTreeSet::from([at / BLOCK]), slot: index as u32 })
+    blank(&mut after, &taken);
+    put_directory(&mut after, &taken, parent, c.entry.time);
+    put(&mut after, taken[0] * BLOCK + slot::NAME, &name_field(place.name));
+    recount(&mut after);
+
+    let mut named = BTreeSet::from([0, at / BLOCK]);
+    named.extend(&taken);
+    named.extend(changed_table_blocks(image, &after));
+    Ok(Changed { image: after, named, slot })
+}
+
+fn delete_directory(image: &[u8], d: &DeleteDirectory) -> Result<Changed, Refusal> {
+    let place = place(&d.path, Want::Directory, true)?;
+    let directory = place.find(image, Want::Directory)?;
+    if !entries(image, directory.first as usize).is_empty() {
+        return Err(18);
+    }
+    Ok(removed(image, &directory))
 }
 
 fn write(image: &[u8], w: &Write) -> Result<Changed, Refusal> {
-    if w.data.len() > MAX_DATA {
-        return Err(9);
-    }
-    let file = find(image, &w.name)?;
+    let place = place(&w.path, Want::File, w.data.len() <= MAX_DATA)?;
+    let file = place.find(image, Want::File)?;
     if w.offset > u64::from(file.size) {
         return Err(12);
     }
     let offset = w.offset as usize;
     let size = (file.size as usize).max(offset + w.data.len());
-    let needed = size.div_ceil(BLOCK) - file.blocks as usize;
-    let free = free_blocks(image);
-    if free.len() < needed {
-        return Err(14);
-    }
-
-    let taken = &free[..needed];
-    let mut blocks = file_chain(image, &file);
-    blocks.extend(taken);
+    let taken = lowest_free(image, size.div_ceil(BLOCK) - file.blocks as usize)?;
+    let mut blocks = file.chain(image);
+    blocks.extend(&taken);
 
     let mut after = image.to_vec();
-    for &b in taken {
-        after[b * BLOCK..(b + 1) * BLOCK].fill(0);
-    }
+    blank(&mut after, &taken);
     link(&mut after, &blocks);
     let mut named = BTreeSet::from([file.at / BLOCK]);
     for (i, &byte) in w.data.iter().enumerate() {
@@ -220,34 +276,42 @@ fn write(image: &[u8], w: &Write) -> Result<Changed, Refusal> {
 }
 
 fn delete(image: &[u8], d: &Delete) -> Result<Changed, Refusal> {
-    let file = find(image, &d.name)?;
-    let blocks = file_chain(image, &file);
+    Ok(removed(image, &find_file(image, &d.path)?))
+}
+
+/// The image without a file or an empty directory.
+fn removed(image: &[u8], entry: &Entry) -> Changed {
+    let blocks = entry.chain(image);
     let mut after = image.to_vec();
     for &b in &blocks {
         set_entry(&mut after, b, 0);
     }
-    after[file.at..file.at + SLOT].fill(0);
+    after[entry.at..entry.at + SLOT].fill(0);
     recount(&mut after);
-    let mut named = BTreeSet::from([file.at / BLOCK]);
+    let mut named = BTreeSet::from([entry.at / BLOCK]);
     if !blocks.is_empty() {
         named.insert(0);
         named.extend(blocks.iter().map(|&b| table_block_of(b)));
     }
-    Ok(Changed { image: after, named, slot: 0 })
+    Changed { image: after, named, slot: 0 }
 }
 
-/// The file of a name; weighs 9 (for the name) and 10.
-fn find(image: &[u8], name: &[u8]) -> Result<File, Refusal> {
-    if !is_good_name(name) {
-        return Err(9);
+/// So many free blocks, lowest number first; weighs 14.
+fn lowest_free(image: &[u8], count: usize) -> Result<Vec<usize>, Refusal> {
+    let free = free_blocks(image);
+    free.get(..count).map(|blocks| blocks.to_vec()).ok_or(14)
+}
+
+fn blank(image: &mut [u8], blocks: &[usize]) {
+    for &b in blocks {
+        image[b * BLOCK..(b + 1) * BLOCK].fill(0);
     }
-    files(image).into_iter().find(|file| file.name == name).ok_or(10)
 }
 
 /// A file's bytes: its blocks in chain order, cut at its size.
-fn content(image: &[u8], file: &File) -> Vec<u8> {
+fn content(image: &[u8], file: &Entry) -> Vec<u8> {
     let mut bytes = Vec::new();
-    for b in file_chain(image, file) {
+    for b in file.chain(image) {
         bytes.extend_from_slice(&image[b * BLOCK..(b + 1) * BLOCK]);
     }
     bytes.truncate(file.size as usize);

@@ -1,7 +1,9 @@
 //! The volumes and changes of the rules' worked numbers, for the tests of
 //! this crate and for those that hold another implementation against it.
 
-use crate::{format, start, Change, Create, Delete, Refusal, State, Write};
+use crate::{
+    format, start, Change, Create, CreateDirectory, Delete, DeleteDirectory, Refusal, State, Write,
+};
 
 /// A volume of `n` blocks, `d` of them for the root.
 pub fn formatted(n: usize, d: u32) -> Result<Vec<u8>, Refusal> {
@@ -13,23 +15,27 @@ pub fn fresh(n: usize, d: u32) -> State {
     State { image: formatted(n, d).unwrap(), journal: start(65_536).unwrap() }
 }
 
-pub fn create(name: &[u8]) -> Change {
-    let name = name.to_vec();
-    Change::Create(Create {
-        name,
-        kind: 0x60,
-        user: 1,
-        group: 2,
-        permissions: 3,
-        flags: 4,
-        time: 8,
-    })
+fn given(path: &[u8], kind: u8) -> Create {
+    let path = path.to_vec();
+    Create { path, kind, user: 1, group: 2, permissions: 3, flags: 4, time: 8 }
 }
 
-pub fn write(name: &[u8], offset: u64, data: &[u8]) -> Change {
-    Change::Write(Write { name: name.to_vec(), offset, data: data.to_vec(), time: 9 })
+pub fn create(path: &[u8]) -> Change {
+    Change::Create(given(path, 0x60))
 }
 
-pub fn delete(name: &[u8]) -> Change {
-    Change::Delete(Delete { name: name.to_vec() })
+pub fn write(path: &[u8], offset: u64, data: &[u8]) -> Change {
+    Change::Write(Write { path: path.to_vec(), offset, data: data.to_vec(), time: 9 })
+}
+
+pub fn delete(path: &[u8]) -> Change {
+    Change::Delete(Delete { path: path.to_vec() })
+}
+
+pub fn create_directory(path: &[u8], blocks: u32) -> Change {
+    Change::CreateDirectory(CreateDirectory { entry: given(path, 0x20), blocks })
+}
+
+pub fn delete_directory(path: &[u8]) -> Change {
+    Change::DeleteDirectory(DeleteDirectory { path: path.to_vec() })
 }

@@ -1,18 +1,18 @@
 //! The rules' "Numbers to hold it against", all of them.
 
-use reference::layout::{entry, header, number, slot_offsets, table_blocks};
-use reference::worked::{create, formatted, fresh, write};
+use reference::layout::*;
+use reference::worked::*;
 use reference::*;
 
 fn used(state: &State) -> u32 {
     number(&state.journal, 1)
 }
 
-/// n = 16, d = 2, then "A" with 513 bytes.
+/// n = 16, d = 2, then "/A" with 513 bytes.
 fn with_513_bytes() -> Applied {
-    let created = apply(&fresh(16, 2), &create(b"A")).unwrap();
+    let created = apply(&fresh(16, 2), &create(b"/A")).unwrap();
     assert_eq!((created.slot, created.record), (1, 520));
-    apply(&created.state, &write(b"A", 0, &[b'x'; 513])).unwrap()
+    apply(&created.state, &write(b"/A", 0, &[b'x'; 513])).unwrap()
 }
 
 #[test]
@@ -44,7 +44,7 @@ fn sixteen_blocks() {
     let image = formatted(16, 2).unwrap();
     assert_eq!([0, 1, 2, 3].map(|b| entry(&image, b)), [1, 1, 3, 1]);
     assert_eq!(number(&image, header::FREE), 12);
-    assert_eq!(slot_offsets(&image).len() - 2, 6);
+    assert_eq!(slot_offsets(&image, 2).len() - 2, 6);
 }
 
 #[test]
@@ -57,43 +57,44 @@ fn create_and_write_513_bytes() {
     let numbers = [0, 1, 2, 3, 4].map(|i| number(&written.state.journal, 5 + 520 + 4 + 516 * i));
     assert_eq!(numbers, [0, 1, 2, 4, 5]);
     assert_eq!(used(&written.state), 3109);
-    assert_eq!(read(image, b"A", 0, 1000).unwrap(), vec![b'x'; 513]);
+    assert_eq!(read(image, b"/A", 0, 1000).unwrap(), vec![b'x'; 513]);
 }
 
 #[test]
 fn one_more_byte_and_undo() {
     let before = with_513_bytes().state;
-    let more = apply(&before, &write(b"A", 513, b"y")).unwrap();
+    let more = apply(&before, &write(b"/A", 513, b"y")).unwrap();
     assert_eq!(more.record, 1036);
     assert_eq!(used(&more.state), 4145);
     let undone = undo(&more.state).unwrap();
     assert_eq!(undone.record, 1036);
     assert_eq!(used(&undone.state), 3109);
     assert_eq!(undone.state, before);
-    assert_eq!(apply(&before, &write(b"A", 514, b"y")), Err(12));
-    assert_eq!(apply(&before, &create(b"A")), Err(11));
+    assert_eq!(apply(&before, &write(b"/A", 514, b"y")), Err(12));
+    assert_eq!(apply(&before, &create(b"/A")), Err(11));
 }
 
 #[test]
 fn longest_name() {
     let state = fresh(16, 2);
-    assert!(apply(&state, &create(&[b'n'; 80])).is_ok());
-    assert_eq!(apply(&state, &create(&[b'n'; 81])), Err(9));
+    let path = |length| [b"/", &vec![b'n'; length][..]].concat();
+    assert!(apply(&state, &create(&path(MAX_NAME))).is_ok());
+    assert_eq!(apply(&state, &create(&path(MAX_NAME + 1))), Err(9));
 }
 
 #[test]
 fn most_data() {
-    let state = apply(&fresh(16, 2), &create(b"A")).unwrap().state;
-    assert!(apply(&state, &write(b"A", 0, &[1; 4096])).is_ok());
-    assert_eq!(apply(&state, &write(b"A", 0, &[1; 4097])), Err(9));
+    let state = apply(&fresh(16, 2), &create(b"/A")).unwrap().state;
+    assert!(apply(&state, &write(b"/A", 0, &[1; 4096])).is_ok());
+    assert_eq!(apply(&state, &write(b"/A", 0, &[1; 4097])), Err(9));
 }
 
 #[test]
 fn a_name_is_not_its_prefix() {
-    let state = apply(&fresh(16, 2), &create(b"SN1")).unwrap().state;
-    assert_eq!(lookup(&state.image, b"SN10"), Err(10));
-    assert_eq!(lookup(&state.image, b"SN"), Err(10));
-    assert!(lookup(&state.image, b"SN1").is_ok());
+    let state = apply(&fresh(16, 2), &create(b"/SN1")).unwrap().state;
+    assert_eq!(lookup(&state.image, b"/SN10"), Err(10));
+    assert_eq!(lookup(&state.image, b"/SN"), Err(10));
+    assert!(lookup(&state.image, b"/SN1").is_ok());
 }
 
 #[test]
@@ -107,7 +108,7 @@ fn listing_of_other_input() {
     assert_eq!(list(b""), b"refused 1\n");
     assert_eq!(list(&formatted(129, 1).unwrap()), b"refused 1\n");
     assert_eq!(list(&[0; 1536]), b"refused 2\n");
-    let state = apply(&fresh(3, 1), &create(b"a b\xFF~!")).unwrap().state;
+    let state = apply(&fresh(3, 1), &create(b"/a b\xFF~!")).unwrap().state;
     assert_eq!(list(&state.image), b"blocks 3 used 3 free 0\n1 0 0 a?b?~!\n");
 }
 
@@ -117,9 +118,9 @@ fn replay_of_a_run() {
     let mut run = Replay::new(first.clone());
     let gave = |number, slot, record| Answer::Changed { number, slot, record };
     assert_eq!(run.call(&Call::Undo), gave(16, 0, 0));
-    assert_eq!(run.call(&Call::Change(create(b"A"))), gave(0, 1, 520));
-    assert_eq!(run.call(&Call::Change(create(b"A"))), gave(11, 0, 0));
-    assert_eq!(run.call(&Call::Change(write(b"A", 0, &[b'x'; 513]))), gave(0, 0, 2584));
+    assert_eq!(run.call(&Call::Change(create(b"/A"))), gave(0, 1, 520));
+    assert_eq!(run.call(&Call::Change(create(b"/A"))), gave(11, 0, 0));
+    assert_eq!(run.call(&Call::Change(write(b"/A", 0, &[b'x'; 513]))), gave(0, 0, 2584));
     assert_eq!(run.replayed(), &with_513_bytes().state);
     assert_eq!(run.call(&Call::Undo), gave(0, 0, 2584));
     assert_eq!(run.call(&Call::Undo), gave(0, 0, 520));

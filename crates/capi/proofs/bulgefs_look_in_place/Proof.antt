@@ -10,12 +10,12 @@ extent-in-place-requires c κs = search needs
 cast-t6 : tie.Need-cast-t6
 cast-t6 c =
     let a = c .before .before .before .before .args in
-    omega (arith, extent-small (a .image .now) (a .name .now) (a .index))
+    omega (arith, extent-small (a .image .now) (a .path .now) (a .index))
 
 cast-t7 : tie.Need-cast-t7
 cast-t7 c =
     let a = c .before .before .before .before .before .args in
-    omega (arith, extent-small (a .image .now) (a .name .now) (a .index))
+    omega (arith, extent-small (a .image .now) (a .path .now) (a .index))
 
 returns : tie.Need-returns
 returns c =

@@ -19,7 +19,7 @@ cast-t12 c =
     let shared-slice-known = c .before .before .before .before .before .before .before .before .before .shared-slice-known in
     let a = c .before .before .before .before .before .before .before .before .before .before .args in
     let e = ap (λ (x : ReadAnswer). x .count) (read-case _ _ (c .before .count .given .1) (read .ensures .0)) in
-    omega (arith, count-small (a .image .now) (a .name .now) (a .offset) (a .buffer .now) (λ i. omega (arith, shared-slice-known .given i)))
+    omega (arith, count-small (a .image .now) (a .path .now) (a .offset) (a .buffer .now) (λ i. omega (arith, shared-slice-known .given i)))
 
 enum-known-number : tie.Need-enum-known-number
 enum-known-number c = search needs

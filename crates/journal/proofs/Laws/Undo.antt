@@ -15,7 +15,7 @@ use Rattle.journal.specs.Journal.{used, started, recordsFrom, records, w
 use Rattle.journal.specs.Run.{State, undone, recordOf, changeRefusal, afterChange, undoRefusal, afterUndo, undoAnswer}
 use Rattle.journal.specs.Replay.{RunInvariant}
 use Rattle.layout.specs.Limits.{minJournal, maxJournal}
-use Rattle.volume.proofs.Laws.Frame.{Framed, frame}
+use Rattle.volume.proofs.Laws.Framed.{Framed, frame}
 use Rattle.volume.proofs.Laws.Sound.{KeptSound}
 use Rattle.layout.proofs.Laws.Tests.{require-zero, firstOf-zero}
 use Rattle.layout.proofs.Laws.Lists.{in-some, has-eqb-in}

@@ -1,68 +1,28 @@
--- Where the slots of a sound image are, and what is known of a file and of a free slot.
-use Prim.Native.Nat.{ℕ, _+_, _-_, _*_, _/_, _%_, _≤_, _<_, suc, zero}
-use mathlib.Core.Bool.{true, _&&_, false≢true, Bool}
+-- What is known of a file of a sound image, in any directory of the tree: where its entry is, its blocks, its content.
+use Prim.Native.Nat.{ℕ, _+_, _-_, _*_, _/_, _≤_, _<_, suc, zero}
+use mathlib.Core.Bool.{true}
 use mathlib.Core.List.{List, [], _∷_}
 use mathlib.Core.Logic.{_⊎_, inl, inr, ⊎-elim, _≢_}
-use mathlib.Core.Path.{_≡_, refl, sym, ap, _∙_, subst}
-use native.Mathlib.Decide.{ℕ-discrete}
+use mathlib.Core.Path.{_≡_, refl, sym, ap, _∙_}
 use native.Mathlib.Omega.{arith}
 use lib.Dec.{eqb}
 use lib.ListN.{length, length-append, length-take, getD}
 use borrow.Author.Tests.{eqb-true}
 use lib.Seq.{take-at, drop-append-add}
-use Rattle.layout.specs.Lists.{same, joined}
+use Rattle.layout.specs.Lists.{joined}
 use Rattle.layout.specs.Bytes.{block, part}
 use Rattle.layout.specs.Geometry.{blockCount, blocksFor}
 use Rattle.layout.specs.Table.{next, chainOk}
-use Rattle.layout.specs.Directory.{slotAt, typeOf, firstBlock, sizeOf, blocksOf, isFree, isFile, nameOf, nameOk, fileSlot, freeSlot, root, fileBlocks, content}
+use Rattle.layout.specs.Directory.{slotAt, typeOf, firstBlock, sizeOf, blocksOf, isFree, isFile, nameOk, freeSlot, directory, dirs, fileBlocks, content}
 use Rattle.layout.specs.Check.{attributesOk, fileOk}
-use Rattle.layout.specs.Looks.{entryOf}
 use Rattle.layout.proofs.Laws.Bytes.{length-block, part-part}
-use Rattle.layout.proofs.Laws.Chains.{nth, length-chain, chainOk-join, chain-below, chain-differ}
-use Rattle.layout.proofs.Laws.Lists.{In, lowest-met, lowest-none, getD-in}
-use Rattle.layout.proofs.Laws.Sound.{heldAt, rootOf, dirSize, Sound, file-held, slotOk-split, length-root, getD-root, root-chain}
-use Rattle.layout.proofs.Laws.Tests.{and-split, lt-or-gt}
-use Rattle.layout.proofs.Laws.Names.{same-eq}
-
--- where the slots are
-module _ (s : List ℕ) (S : Sound s) where
-  module _ (k : ℕ) (h : k < 4 * dirSize s) where
-    pub slotAt-root : slotAt (root s) k ≡ 512 * nth (next s) (k / 4) (rootOf s) + 128 * (k % 4)
-    unfolding slotAt
-    slotAt-root = rw (getD-root s (S .d-least) (k / 4) (omega arith))
-
-    pub slot-low : 512 * rootOf s ≤ slotAt (root s) k
-    slot-low = omega (arith, slotAt-root, root-chain s S .above (k / 4) (omega arith))
-
-    pub slot-high : slotAt (root s) k + 128 ≤ length s
-    slot-high = omega (arith, slotAt-root, root-chain s S .below (k / 4) (omega arith), S .whole)
-
-  pub slots-apart : (j k : ℕ) → j < 4 * dirSize s → k < 4 * dirSize s → j ≢ k
-      → (slotAt (root s) j + 128 ≤ slotAt (root s) k) ⊎ (slotAt (root s) k + 128 ≤ slotAt (root s) j)
-  slots-apart j k hj hk ne = go (ℕ-discrete (j / 4) (k / 4))
-    where
-      b : ℕ → ℕ
-      b i = nth (next s) (i / 4) (rootOf s)
-
-      Apart : Type 0
-      Apart = (slotAt (root s) j + 128 ≤ slotAt (root s) k) ⊎ (slotAt (root s) k + 128 ≤ slotAt (root s) j)
-
-      by : (512 * b j + 128 * (j % 4) + 128 ≤ 512 * b k + 128 * (k % 4)) ⊎ (512 * b k + 128 * (k % 4) + 128 ≤ 512 * b j + 128 * (j % 4)) → Apart
-      by (inl p) = inl (omega (arith, slotAt-root j hj, slotAt-root k hk))
-      by (inr p) = inr (omega (arith, slotAt-root j hj, slotAt-root k hk))
-
-      far : b j ≢ b k → Apart
-      far n = by (⊎-elim (λ p. inl (omega arith)) (λ p. inr (omega arith)) (lt-or-gt (b j) (b k) n))
-
-      go : Dec (j / 4 ≡ k / 4) → Apart
-      go (yes e) =
-          let q : b j ≡ b k = ap (λ (z : ℕ). nth (next s) z (rootOf s)) e in
-          by (⊎-elim (λ p. inl (omega arith)) (λ p. inr (omega arith)) (lt-or-gt (j % 4) (k % 4) (λ d. ne (omega arith))))
-      go (no n) =
-          far (⊎-elim
-          (λ p. chain-differ (next s) (blockCount s) (rootOf s) (dirSize s) (root-chain s S) (S .least) (j / 4) (k / 4) p (omega arith))
-          (λ p e. chain-differ (next s) (blockCount s) (rootOf s) (dirSize s) (root-chain s S) (S .least) (k / 4) (j / 4) p (omega arith) (sym e))
-          (lt-or-gt (j / 4) (k / 4) n))
+use Rattle.layout.proofs.Laws.Chains.{length-chain, chain-below}
+use Rattle.layout.proofs.Laws.Lists.{In, lowest-met, getD-in}
+use Rattle.layout.proofs.Laws.Trees.{sizeAt, length-directory, block-above}
+use Rattle.layout.proofs.Laws.Sound.{Sound, Entry, slotOk-split}
+use Rattle.layout.proofs.Laws.Slots.{slot-entry, slot-ok}
+use Rattle.layout.proofs.Laws.Owners.{file-chained}
+use Rattle.layout.proofs.Laws.Tests.{and-split, within-split}
 
 -- an entry of the directory lies in one block of the image
 pub record Slot (s : List ℕ) (e : ℕ) : Type 0 where
@@ -94,68 +54,38 @@ pub length-fileBlocks : (s : List ℕ) (e : ℕ) → length (fileBlocks s e) ≡
 unfolding fileBlocks
 length-fileBlocks s e = length-chain (next s) (firstBlock s e) (blocksOf s e)
 
--- the slot of a name: a file of that name
-abbrev pub fits-name : List ℕ → ℕ → List ℕ → Bool
-fits-name s e name = isFile (typeOf s e) && same (nameOf s e) name
-
-module _ (s name : List ℕ) (there : fileSlot s (root s) name ≢ 0) where
-  abbrev k : ℕ
-  k = fileSlot s (root s) name
-
-  found : (1 ≤ k) × (k < 1 + (4 * length (root s) - 2)) × (fits-name s (slotAt (root s) k) name ≡ true)
-  unfolding fileSlot
-  found = lowest-met (λ j. fits-name s (slotAt (root s) j) name) 1 (4 * length (root s) - 2) there
-
-  pub named-slot : (1 ≤ k) × (k < 4 * dirSize s - 1) × (isFile (typeOf s (slotAt (root s) k)) ≡ true)
-  named-slot = (found .0, omega (arith, found .0, found .1, length-root s), and-split _ _ (found .2) .0)
-
-  pub named-name : nameOf s (slotAt (root s) k) ≡ name
-  named-name = same-eq _ _ (and-split (isFile (typeOf s (slotAt (root s) k))) (same (nameOf s (slotAt (root s) k)) name) (found .2) .1)
-
--- no slot has a name that is not found
-pub unnamed : (s name : List ℕ) → fileSlot s (root s) name ≡ 0 → (j : ℕ) → 1 ≤ j → j < 4 * dirSize s - 1 → fits-name s (slotAt (root s) j) name ≡ true → ⊥
-unfolding fileSlot
-unnamed s name none j h g =
-    lowest-none (λ i. fits-name s (slotAt (root s) i) name) 1 (4 * length (root s) - 2) (omega arith) none j h (omega (arith, length-root s))
-
--- the lowest free slot
-pub free-slot : (s : List ℕ) → freeSlot s (root s) ≢ 0 → (1 ≤ freeSlot s (root s)) × (freeSlot s (root s) < 4 * dirSize s - 1) × (typeOf s (slotAt (root s) (freeSlot s (root s))) ≡ 0)
+-- the lowest free slot of the directory at b
+pub free-slot : (s : List ℕ) (b : ℕ) → freeSlot s (directory s b) ≢ 0
+    → (1 ≤ freeSlot s (directory s b)) × (freeSlot s (directory s b) < 4 * sizeAt s b - 1) × (typeOf s (slotAt (directory s b) (freeSlot s (directory s b))) ≡ 0)
 unfolding freeSlot
-free-slot s some =
-    let r = lowest-met (λ j. isFree (typeOf s (slotAt (root s) j))) 1 (4 * length (root s) - 2) some in
-    (r .0, omega (arith, length-root s), eqb-true _ _ (r .2))
+free-slot s b some =
+    let r = lowest-met (λ j. isFree (typeOf s (slotAt (directory s b) j))) 1 (4 * length (directory s b) - 2) some in
+    (r .0, omega (arith, length-directory s b, r .0, r .1), eqb-true _ _ (r .2))
 
 module _ (s : List ℕ) (S : Sound s) where
-  pub slot-in : (k : ℕ) → k < 4 * dirSize s → Slot s (slotAt (root s) k)
-  slot-in k h =
-      let b : ℕ = nth (next s) (k / 4) (rootOf s) in
-      let l : b < blockCount s = root-chain s S .below (k / 4) (omega arith) in
-      let p : slotAt (root s) k ≡ 512 * b + 128 * (k % 4) = slotAt-root s S k h in
-      let e : slotAt (root s) k / 512 ≡ b = omega arith in
-      record { inside = rw e l; aligned = rw e (omega arith) }
+  pub entry-slot : (a : ℕ) → Entry s a → Slot s a
+  entry-slot a E =
+      let w = block-above s (blockCount s) (S .tree) (S .least) (a / 512) (E .within-tree) in
+      let h = E .aligned in
+      record { inside = w .1; aligned = omega arith }
 
-  module _ (k : ℕ) (h : 1 ≤ k) (g : k < 4 * dirSize s - 1) (t : isFile (typeOf s (slotAt (root s) k)) ≡ true) where
-    file-ok : fileOk s (slotAt (root s) k) ≡ true
-    file-ok = ⊎-elim (λ z. absurd (false≢true (rw z at t))) (λ f. f .1) (slotOk-split s (slotAt (root s) k) (S .slot k h g))
+  module _ (d : ℕ × ℕ) (di : In d (dirs s)) (k : ℕ) (h : 1 ≤ k) (g : k < 4 * sizeAt s (d .0) - 1) (t : isFile (typeOf s (slotAt (directory s (d .0)) k)) ≡ true) where
+    abbrev a : ℕ
+    a = slotAt (directory s (d .0)) k
 
-    pub file-in : File s (slotAt (root s) k)
+    pub file-right : fileOk s a ≡ true
+    file-right = ⊎-elim (λ z. let w = within-split 0x60 0x9F (typeOf s a) t in absurd (omega arith)) (λ r. ⊎-elim (λ f. f .1)
+        (λ f. let w = within-split 0x60 0x9F (typeOf s a) t in let v = within-split 0x20 0x5F (typeOf s a) (f .0) in absurd (omega arith)) r)
+        (slotOk-split s a (slot-ok s S d di k h g))
+
+    pub file-in : File s a
     unfolding fileOk
     file-in =
-        let e = slotAt (root s) k in
-        let a₁ = and-split (nameOk s e) _ file-ok in
-        let a₂ = and-split (attributesOk s e) _ (a₁ .1) in
-        let a₃ = and-split (eqb (blocksOf s e) (blocksFor (sizeOf s e))) _ (a₂ .1) in
-        record {
-          slot = slot-in k (omega arith);
-          blocks = eqb-true _ _ (a₃ .0);
-          chained = subst (λ (b : ℕ). chainOk (next s) (blockCount s) (firstBlock s e) b ≡ true) (file-held (typeOf s e) (blocksOf s e) t)
-              (chainOk-join (next s) (blockCount s) (firstBlock s e) (heldAt s (root s) k) (S .table .right k (omega arith)));
-        }
-
-  -- the file of a name
-  pub file-of : (name : List ℕ) → fileSlot s (root s) name ≢ 0 → File s (entryOf s name)
-  unfolding entryOf
-  file-of name there = let w = named-slot s name there in file-in (fileSlot s (root s) name) (w .0) (w .1) (w .2)
+        let E = slot-entry s S d di k (omega arith) in
+        let a₁ = and-split (nameOk s a) _ file-right in
+        let a₂ = and-split (attributesOk s a) _ (a₁ .1) in
+        let a₃ = and-split (eqb (blocksOf s a) (blocksFor (sizeOf s a))) _ (a₂ .1) in
+        record { slot = entry-slot a E; blocks = eqb-true _ _ (a₃ .0); chained = file-chained s S a E t }
 
   -- its blocks and its content
   pub file-inside : (e x : ℕ) → File s e → In x (fileBlocks s e) → x < blockCount s

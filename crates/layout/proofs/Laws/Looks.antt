@@ -10,140 +10,151 @@ use lib.Dec.{eqb}
 use lib.ListN.{length, getD, drop}
 use borrow.Author.Tests.{le-ltb, lt-ltb, eqb-false, not-true}
 use Rattle.layout.specs.Bytes.{part}
-use Rattle.layout.specs.Limits.{maxBlocks}
-use Rattle.layout.specs.Directory.{sizeOf, blocksOf, goodName, fileSlot, root, fileBlocks, content}
+use Rattle.layout.specs.Directory.{sizeOf, blocksOf, isFile, fileBlocks, content}
+use Rattle.layout.specs.Limits.{maxBlocks, maxLevels}
+use Rattle.layout.specs.Paths.{parts, pathOk, leading, shallow, home, pathSlot, entryOf, fileRefusal}
 use Rattle.layout.specs.Check.{check}
-use Rattle.layout.specs.Looks.{nameRefusal, entryOf, lookupRefusal, readRefusal, read, extentOf, lookInPlace, ReadAnswer}
+use Rattle.layout.specs.Looks.{lookupRefusal, readRefusal, read, extentOf, lookInPlace, ReadAnswer}
 use Rattle.layout.proofs.Laws.Bytes.{length-part, length-splice, length-take-most, be32-small}
-use Rattle.layout.proofs.Laws.Files.{File, file-of, length-fileBlocks, file-inside, content-part}
+use Rattle.layout.proofs.Laws.Files.{File, file-in, length-fileBlocks, file-inside, content-part}
+use Rattle.layout.proofs.Laws.Paths.{path-named, path-home}
 use Rattle.layout.proofs.Laws.Lists.{getD-in}
 use Rattle.layout.proofs.Laws.Sound.{sound}
 use Rattle.layout.proofs.Laws.Tests.{lt-or-ge, require-zero, firstOf-zero, accept-refused, accept-same, accept-either}
 
--- what an accepted name has
-pub good-given : (s name : List ℕ) → nameRefusal s name ≡ 0 → goodName name ≡ true
-unfolding nameRefusal
-good-given s name r = require-zero (goodName name) 8 _ r .0
+-- what an accepted path has
+module _ (s path : List ℕ) (r : fileRefusal s path ≡ 0) where
+  pub good-given : pathOk path ≡ true
+  unfolding fileRefusal
+  good-given = require-zero (pathOk path) 8 _ r .0
 
-pub file-given : (s name : List ℕ) → nameRefusal s name ≡ 0 → fileSlot s (root s) name ≢ 0
-unfolding nameRefusal
-file-given s name r =
-    let a = require-zero (goodName name) 8 _ r in
-    let b = require-zero (not (eqb (fileSlot s (root s) name) 0)) 9 _ (a .1) in
-    eqb-false _ _ (not-true _ (b .0))
+  pub short-given : shallow (leading (parts path)) ≡ true
+  unfolding fileRefusal
+  short-given = require-zero (shallow (leading (parts path))) 16 _ (require-zero (pathOk path) 8 _ r .1) .0
 
-pub name-file : (s name : List ℕ) → nameRefusal s name ≡ 0 → check s ≡ 0 → File s (entryOf s name)
-name-file s name r ok = file-of s (sound s ok) name (file-given s name r)
+  pub file-given : pathSlot isFile s path ≢ 0
+  unfolding fileRefusal
+  file-given =
+      let a = require-zero (pathOk path) 8 _ r in
+      let b = require-zero (shallow (leading (parts path))) 16 _ (a .1) in
+      let c = require-zero (not (eqb (pathSlot isFile s path) 0)) 9 _ (b .1) in
+      eqb-false _ _ (not-true _ (c .0))
+
+  pub path-file : check s ≡ 0 → File s (entryOf isFile s path)
+  unfolding entryOf
+  path-file ok =
+      let N = path-named isFile s path file-given in
+      file-in s (sound s ok) (home s path, maxLevels - length (leading (parts path))) (path-home isFile s path file-given short-given) (pathSlot isFile s path) (N .low) (N .high) (N .typed)
 
 -- an accepted look up: the image is sound, and the file is there
-module _ (s name : List ℕ) (ok : lookupRefusal s name ≡ 0) where
+module _ (s path : List ℕ) (ok : lookupRefusal s path ≡ 0) where
   pub lookup-sound : check s ≡ 0
   unfolding lookupRefusal
-  lookup-sound = firstOf-zero (check s) (nameRefusal s name) ok .0
+  lookup-sound = firstOf-zero (check s) (fileRefusal s path) ok .0
 
-  pub lookup-name : nameRefusal s name ≡ 0
+  pub lookup-path : fileRefusal s path ≡ 0
   unfolding lookupRefusal
-  lookup-name = firstOf-zero (check s) (nameRefusal s name) ok .1
+  lookup-path = firstOf-zero (check s) (fileRefusal s path) ok .1
 
-  pub lookup-given : fileSlot s (root s) name ≢ 0
-  lookup-given = file-given s name lookup-name
+  pub lookup-given : pathSlot isFile s path ≢ 0
+  lookup-given = file-given s path lookup-path
 
-  pub lookup-file : File s (entryOf s name)
-  lookup-file = name-file s name lookup-name lookup-sound
+  pub lookup-file : File s (entryOf isFile s path)
+  lookup-file = path-file s path lookup-path lookup-sound
 
 -- read leaves as long a buffer and fills no more; its count is a number of 32 bits
-module _ (s name : List ℕ) (offset : ℕ) (buffer : List ℕ) where
-  pub read-count : read s name offset buffer .count ≤ length buffer
+module _ (s path : List ℕ) (offset : ℕ) (buffer : List ℕ) where
+  pub read-count : read s path offset buffer .count ≤ length buffer
   unfolding read
   read-count =
-      let h : min (length buffer) (sizeOf s (entryOf s name) - offset) ≤ length buffer = omega arith in
+      let h : min (length buffer) (sizeOf s (entryOf isFile s path) - offset) ≤ length buffer = omega arith in
       let z : 0 ≤ length buffer = omega arith in
-      accept-either (λ (r : ReadAnswer). r .count ≤ length buffer) (readRefusal s name offset) _ _ h z
+      accept-either (λ (r : ReadAnswer). r .count ≤ length buffer) (readRefusal s path offset) _ _ h z
 
-  pub read-length : length (read s name offset buffer .buffer) ≡ length buffer
+  pub read-length : length (read s path offset buffer .buffer) ≡ length buffer
   unfolding read
   read-length =
-      let count : ℕ = min (length buffer) (sizeOf s (entryOf s name) - offset) in
-      let bytes : List ℕ = part (content s (entryOf s name)) offset count in
-      let h : length bytes ≤ count = length-take-most count (drop offset (content s (entryOf s name))) in
-      accept-either (λ (r : ReadAnswer). length (r .buffer) ≡ length buffer) (readRefusal s name offset) _ _ (length-splice buffer 0 bytes (omega arith)) refl
+      let count : ℕ = min (length buffer) (sizeOf s (entryOf isFile s path) - offset) in
+      let bytes : List ℕ = part (content s (entryOf isFile s path)) offset count in
+      let h : length bytes ≤ count = length-take-most count (drop offset (content s (entryOf isFile s path))) in
+      accept-either (λ (r : ReadAnswer). length (r .buffer) ≡ length buffer) (readRefusal s path offset) _ _ (length-splice buffer 0 bytes (omega arith)) refl
 
-  pub count-small : ((i : ℕ) → getD s i 0 < 256) → read s name offset buffer .count < 0x100000000
+  pub count-small : ((i : ℕ) → getD s i 0 < 256) → read s path offset buffer .count < 0x100000000
   unfolding read
   count-small f =
-      let h : min (length buffer) (sizeOf s (entryOf s name) - offset) < 0x100000000 = omega (arith, be32-small s (entryOf s name + 8) f) in
+      let h : min (length buffer) (sizeOf s (entryOf isFile s path) - offset) < 0x100000000 = omega (arith, be32-small s (entryOf isFile s path + 8) f) in
       let z : 0 < 0x100000000 = omega arith in
-      accept-either (λ (r : ReadAnswer). r .count < 0x100000000) (readRefusal s name offset) _ _ h z
+      accept-either (λ (r : ReadAnswer). r .count < 0x100000000) (readRefusal s path offset) _ _ h z
 
 -- look in place: the part of block i of a file, as numbers
-module _ (s name : List ℕ) (i : ℕ) where
-  pub extent-refused : lookupRefusal s name ≢ 0 → extentOf s name i ≡ record { start = 0; size = 0 }
+module _ (s path : List ℕ) (i : ℕ) where
+  pub extent-refused : lookupRefusal s path ≢ 0 → extentOf s path i ≡ record { start = 0; size = 0 }
   unfolding extentOf
-  extent-refused h = accept-refused (lookupRefusal s name) _ _ h
+  extent-refused h = accept-refused (lookupRefusal s path) _ _ h
 
-  pub extent-past : blocksOf s (entryOf s name) ≤ i → extentOf s name i ≡ record { start = 0; size = 0 }
+  pub extent-past : blocksOf s (entryOf isFile s path) ≤ i → extentOf s path i ≡ record { start = 0; size = 0 }
   unfolding extentOf
-  extent-past h = rw (le-ltb i (blocksOf s (entryOf s name)) h) (accept-same (lookupRefusal s name) _)
+  extent-past h = rw (le-ltb i (blocksOf s (entryOf isFile s path)) h) (accept-same (lookupRefusal s path) _)
 
-  pub extent-found : lookupRefusal s name ≡ 0 → i < blocksOf s (entryOf s name)
-      → extentOf s name i ≡ record { start = 512 * getD (fileBlocks s (entryOf s name)) i 0; size = min 512 (sizeOf s (entryOf s name) - 512 * i) }
+  pub extent-found : lookupRefusal s path ≡ 0 → i < blocksOf s (entryOf isFile s path)
+      → extentOf s path i ≡ record { start = 512 * getD (fileBlocks s (entryOf isFile s path)) i 0; size = min 512 (sizeOf s (entryOf isFile s path) - 512 * i) }
   unfolding extentOf
-  extent-found ok h = rw (ok, lt-ltb i (blocksOf s (entryOf s name)) h)
+  extent-found ok h = rw (ok, lt-ltb i (blocksOf s (entryOf isFile s path)) h)
 
   -- it lies inside the image
-  pub extent-inside : extentOf s name i .start + extentOf s name i .size ≤ length s
-  extent-inside = go (ℕ-discrete (lookupRefusal s name) 0) (lt-or-ge i (blocksOf s (entryOf s name)))
+  pub extent-inside : extentOf s path i .start + extentOf s path i .size ≤ length s
+  extent-inside = go (ℕ-discrete (lookupRefusal s path) 0) (lt-or-ge i (blocksOf s (entryOf isFile s path)))
     where
-      go : Dec (lookupRefusal s name ≡ 0) → (i < blocksOf s (entryOf s name)) ⊎ (blocksOf s (entryOf s name) ≤ i)
-          → extentOf s name i .start + extentOf s name i .size ≤ length s
+      go : Dec (lookupRefusal s path ≡ 0) → (i < blocksOf s (entryOf isFile s path)) ⊎ (blocksOf s (entryOf isFile s path) ≤ i)
+          → extentOf s path i .start + extentOf s path i .size ≤ length s
       go (no r) w = rw (extent-refused r) (omega arith)
       go (yes ok) (inr h) = rw (extent-past h) (omega arith)
       go (yes ok) (inl h) =
-          let S = sound s (lookup-sound s name ok) in
-          let e = entryOf s name in
+          let S = sound s (lookup-sound s path ok) in
+          let e = entryOf isFile s path in
           let m = getD-in (fileBlocks s e) i 0 (omega (arith, length-fileBlocks s e)) in
-          rw (extent-found ok h) (omega (arith, file-inside s S e _ (lookup-file s name ok) m, S .whole))
+          rw (extent-found ok h) (omega (arith, file-inside s S e _ (lookup-file s path ok) m, S .whole))
 
   -- that part of the file's content
-  pub look-content : lookupRefusal s name ≡ 0 → i < blocksOf s (entryOf s name)
-      → lookInPlace s name i ≡ part (content s (entryOf s name)) (512 * i) (min 512 (sizeOf s (entryOf s name) - 512 * i))
+  pub look-content : lookupRefusal s path ≡ 0 → i < blocksOf s (entryOf isFile s path)
+      → lookInPlace s path i ≡ part (content s (entryOf isFile s path)) (512 * i) (min 512 (sizeOf s (entryOf isFile s path) - 512 * i))
   unfolding lookInPlace
   look-content ok h =
       rw (extent-found ok h)
-      (content-part s (sound s (lookup-sound s name ok)) (entryOf s name) (lookup-file s name ok) i (min 512 (sizeOf s (entryOf s name) - 512 * i)) h (omega arith) (omega arith))
+      (content-part s (sound s (lookup-sound s path ok)) (entryOf isFile s path) (lookup-file s path ok) i (min 512 (sizeOf s (entryOf isFile s path) - 512 * i)) h (omega arith) (omega arith))
 
-  pub extent-small : extentOf s name i .start + extentOf s name i .size ≤ 512 * maxBlocks
-  extent-small = go (ℕ-discrete (lookupRefusal s name) 0)
+  pub extent-small : extentOf s path i .start + extentOf s path i .size ≤ 512 * maxBlocks
+  extent-small = go (ℕ-discrete (lookupRefusal s path) 0)
     where
-      go : Dec (lookupRefusal s name ≡ 0) → extentOf s name i .start + extentOf s name i .size ≤ 512 * maxBlocks
-      go (yes e) = let S = sound s (lookup-sound s name e) in omega (arith, extent-inside, S .whole, S .most)
+      go : Dec (lookupRefusal s path ≡ 0) → extentOf s path i .start + extentOf s path i .size ≤ 512 * maxBlocks
+      go (yes e) = let S = sound s (lookup-sound s path e) in omega (arith, extent-inside, S .whole, S .most)
       go (no e) = rw (extent-refused e) (omega arith)
 
-  pub length-look : length (lookInPlace s name i) ≡ extentOf s name i .size
+  pub length-look : length (lookInPlace s path i) ≡ extentOf s path i .size
   unfolding lookInPlace
-  length-look = length-part s (extentOf s name i .start) (extentOf s name i .size) extent-inside
+  length-look = length-part s (extentOf s path i .start) (extentOf s path i .size) extent-inside
 
-  pub look-short : length (lookInPlace s name i) ≤ 512
-  look-short = go (ℕ-discrete (lookupRefusal s name) 0) (lt-or-ge i (blocksOf s (entryOf s name)))
+  pub look-short : length (lookInPlace s path i) ≤ 512
+  look-short = go (ℕ-discrete (lookupRefusal s path) 0) (lt-or-ge i (blocksOf s (entryOf isFile s path)))
     where
-      go : Dec (lookupRefusal s name ≡ 0) → (i < blocksOf s (entryOf s name)) ⊎ (blocksOf s (entryOf s name) ≤ i) → length (lookInPlace s name i) ≤ 512
+      go : Dec (lookupRefusal s path ≡ 0) → (i < blocksOf s (entryOf isFile s path)) ⊎ (blocksOf s (entryOf isFile s path) ≤ i) → length (lookInPlace s path i) ≤ 512
       go (no r) w = rw (length-look, extent-refused r) (omega arith)
       go (yes ok) (inr h) = rw (length-look, extent-past h) (omega arith)
       go (yes ok) (inl h) = rw (length-look, extent-found ok h) (omega arith)
 
   -- "It hands back an empty part exactly if it refuses or i is not below the file's blocks."
-  pub look-empty : (lookupRefusal s name ≢ 0) ⊎ (blocksOf s (entryOf s name) ≤ i) → lookInPlace s name i ≡ []
+  pub look-empty : (lookupRefusal s path ≢ 0) ⊎ (blocksOf s (entryOf isFile s path) ≤ i) → lookInPlace s path i ≡ []
   unfolding lookInPlace
   look-empty (inl r) = rw (extent-refused r)
   look-empty (inr h) = rw (extent-past h)
 
-  pub look-empty-only : lookInPlace s name i ≡ [] → (lookupRefusal s name ≢ 0) ⊎ (blocksOf s (entryOf s name) ≤ i)
-  look-empty-only e = go (ℕ-discrete (lookupRefusal s name) 0) (lt-or-ge i (blocksOf s (entryOf s name)))
+  pub look-empty-only : lookInPlace s path i ≡ [] → (lookupRefusal s path ≢ 0) ⊎ (blocksOf s (entryOf isFile s path) ≤ i)
+  look-empty-only e = go (ℕ-discrete (lookupRefusal s path) 0) (lt-or-ge i (blocksOf s (entryOf isFile s path)))
     where
-      go : Dec (lookupRefusal s name ≡ 0) → (i < blocksOf s (entryOf s name)) ⊎ (blocksOf s (entryOf s name) ≤ i)
-          → (lookupRefusal s name ≢ 0) ⊎ (blocksOf s (entryOf s name) ≤ i)
+      go : Dec (lookupRefusal s path ≡ 0) → (i < blocksOf s (entryOf isFile s path)) ⊎ (blocksOf s (entryOf isFile s path) ≤ i)
+          → (lookupRefusal s path ≢ 0) ⊎ (blocksOf s (entryOf isFile s path) ≤ i)
       go (no r) w = inl r
       go (yes ok) (inr h) = inr h
       go (yes ok) (inl h) =
-          let z : 0 ≡ min 512 (sizeOf s (entryOf s name) - 512 * i) = ap length (sym e) ∙ length-look ∙ rw (extent-found ok h) in
-          absurd (omega (arith, lookup-file s name ok .blocks))
+          let z : 0 ≡ min 512 (sizeOf s (entryOf isFile s path) - 512 * i) = ap length (sym e) ∙ length-look ∙ rw (extent-found ok h) in
+          absurd (omega (arith, lookup-file s path ok .blocks))

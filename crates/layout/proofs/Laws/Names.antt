@@ -1,14 +1,14 @@
 -- Byte strings compared, padding, and good names.
 use Prim.Native.Nat.{ℕ, zero, suc, _≤_, _<_, _+_, _-_}
-use mathlib.Core.Bool.{true, _&&_, and-assoc, false≢true}
+use mathlib.Core.Bool.{true, not, _&&_, and-assoc, false≢true}
 use mathlib.Core.List.{List, [], _∷_, _++_}
 use mathlib.Core.Logic.{_≢_}
 use mathlib.Core.Path.{_≡_, refl, sym, ap}
-use native.Mathlib.Nat.{le-of-suc-le-suc, not-suc-le-zero, suc-ne-zero}
+use native.Mathlib.Nat.{le-of-suc-le-suc, not-suc-le-zero}
 use native.Mathlib.Omega.{arith}
 use lib.Dec.{eqb}
 use lib.ListN.{length, getD, take, drop, length-append}
-use borrow.Author.Tests.{eqb-false, eqb-true, ne-eqb, not-true}
+use borrow.Author.Tests.{eqb-false, eqb-true, not-true}
 use Rattle.layout.specs.Limits.{maxName}
 use Rattle.layout.specs.Lists.{within, every, same}
 use Rattle.layout.specs.Directory.{nameByte, goodName, unpadded, nameOf, nameOk, padded}
@@ -49,12 +49,7 @@ unpadded-most [] = omega arith
 unpadded-most (zero ∷ xs) = omega arith
 unpadded-most (suc x ∷ xs) = let r = unpadded-most xs in omega arith
 
-pub unpadded-bytes : (f : List ℕ) → every nameByte (unpadded f) ≡ true
-unpadded-bytes [] = refl
-unpadded-bytes (zero ∷ xs) = refl
-unpadded-bytes (suc x ∷ xs) = rw (ne-eqb (suc x) 0 (suc-ne-zero x)) (unpadded-bytes xs)
-
--- a good name has 1 to 80 bytes, none of them 0
+-- a good name has 1 to 80 bytes, none of them 0 or `/`
 pub goodName-split : (name : List ℕ) → goodName name ≡ true → (1 ≤ length name) × (length name ≤ maxName) × (every nameByte name ≡ true)
 unfolding goodName
 goodName-split name e =
@@ -66,7 +61,8 @@ pub goodName-length : (name : List ℕ) → goodName name ≡ true → length na
 goodName-length name e = goodName-split name e .1
 
 pub goodName-byte : (name : List ℕ) (i : ℕ) → goodName name ≡ true → i < length name → getD name i 0 ≢ 0
-goodName-byte name i e h = eqb-false _ _ (not-true _ (every-in nameByte name (getD name i 0) (goodName-split name e .2) (getD-in name i 0 h)))
+goodName-byte name i e h =
+    eqb-false _ _ (not-true _ (and-split (not (eqb (getD name i 0) 0)) _ (every-in nameByte name (getD name i 0) (goodName-split name e .2) (getD-in name i 0 h)) .0))
 
 -- a name and its padding
 unpadded-zeros : (k : ℕ) → unpadded (zeros k) ≡ []

@@ -1,229 +1,278 @@
--- What a change of one slot leaves: the bytes of every other slot, the blocks and content of every other file, where names are found, and every
--- answer about another name.
-use Prim.Native.Nat.{ℕ, _+_, _-_, _*_, _/_, _≤_, _<_, zero, suc}
-use mathlib.Core.Path.{_≡_, sym, ap, _∙_, subst, refl}
-use mathlib.Core.Bool.{true, false, Bool}
-use mathlib.Core.List.{List}
-use mathlib.Core.Logic.{_⊎_, inl, ⊎-elim, _≢_, inr}
+-- What a change of one entry of a file leaves: the tree, the bytes of every other entry, the blocks and content of every other file, where every path
+-- leads that does not name it.
+use Prim.Native.Nat.{ℕ, zero, suc, _+_, _-_, _*_, _/_, _≤_, _<_}
+use mathlib.Core.Path.{_≡_, refl, sym, ap, _∙_, subst}
+use mathlib.Core.Bool.{Bool, true, false, _&&_, cond}
+use mathlib.Core.List.{List, [], _∷_}
+use mathlib.Core.Logic.{_⊎_, inl, inr, ⊎-elim, _≢_}
 use native.Mathlib.Omega.{arith}
 use native.Mathlib.Decide.{ℕ-discrete}
-use borrow.Author.Tests.{le-ltb, eq-eqb}
+use borrow.Author.Tests.{le-ltb, eq-eqb, leb-true}
 use lib.ListN.{length, getD, take}
+use lib.Dec.{eqb}
+use Rattle.layout.specs.Limits.{maxLevels}
 use Rattle.layout.specs.Lists.{same, joined}
-use Rattle.layout.specs.Bytes.{part, block, be32}
-use Rattle.layout.specs.Geometry.{blockCount}
+use Rattle.layout.specs.Bytes.{be32, part, block}
+use Rattle.layout.specs.Geometry.{blockCount, rootBlock}
 use Rattle.layout.specs.Table.{next}
-use Rattle.layout.specs.Directory.{slotAt, typeOf, sizeOf, blocksOf, isFile, nameOf, fileSlot, root, fileBlocks, content, goodName}
-use Rattle.layout.specs.Looks.{lookInPlace, extentOf, entryOf, nameRefusal, lookupRefusal, readRefusal, read, lookup}
+use Rattle.layout.specs.Directory.{slotAt, slots, typeOf, firstBlock, sizeOf, blocksOf, isFile, isDirectory, nameOf, slotOf, directory, rootOf, dirs, fileBlocks, content}
+use Rattle.layout.specs.Looks.{lookInPlace, extentOf, lookupRefusal, readRefusal, read, lookup}
 use Rattle.layout.specs.Check.{check}
-use Rattle.layout.specs.Claims.{Untouched}
-use Rattle.layout.proofs.Laws.Tests.{and-split, is-false, lt-or-gt, lt-or-ge, and-join, true-not-false}
-use Rattle.layout.proofs.Laws.Names.{same-eq, same-refl}
-use Rattle.layout.proofs.Laws.Frames.{Same, same-then, same-part, same-inner, before-next}
-use Rattle.layout.proofs.Laws.Chains.{nth, chain-agree}
-use Rattle.layout.proofs.Laws.Sound.{firstAt, heldAt, rootOf, dirSize, Sound, length-root}
-use Rattle.layout.proofs.Laws.Files.{slot-low, slot-high, slots-apart, fits-name, named-slot, named-name}
-use Rattle.layout.proofs.Laws.Entries.{same-type, same-field, same-name}
-use Rattle.layout.proofs.Laws.Changed.{root-same}
-use Rattle.layout.proofs.Laws.Lists.{select-same, lowest-only, lowest-zero, joined-same}
-use Rattle.layout.proofs.Laws.Owners.{held-below, root-apart, root-first, root-held, file-holds, file-at, slot-elsewhere}
 use Rattle.layout.proofs.Laws.Bytes.{be32-part}
-use Rattle.layout.proofs.Laws.Looks.{look-content, lookup-given}
+use Rattle.layout.proofs.Laws.Looks.{look-content, lookup-given, lookup-path, short-given}
+use Rattle.layout.specs.Paths.{fileRefusal, pathOk, parts, leading, lastPart, shallow, childOf, resolve, home, pathSlot, entryOf}
+use Rattle.layout.proofs.Laws.Tests.{and-join, true-not-false, lt-or-ge}
+use Rattle.layout.proofs.Laws.Lists.{In, joined-same}
+use Rattle.layout.proofs.Laws.Joins.{select-agree}
+use Rattle.layout.proofs.Laws.Names.{same-refl}
+use Rattle.layout.proofs.Laws.Chains.{nth, chain-agree}
+use Rattle.layout.proofs.Laws.Frames.{same-part}
+use Rattle.layout.proofs.Laws.Trees.{sizeAt, root-in, same-slot-place}
+use Rattle.layout.proofs.Laws.Sound.{Sound, Entry, heldAt}
+use Rattle.layout.proofs.Laws.Slots.{in-slots, slot-entry, entry-high}
+use Rattle.layout.proofs.Laws.Owners.{file-holds, file-at}
+use Rattle.layout.proofs.Laws.Paths.{slot-named, child-in-tree, home-in-tree, path-named, path-home}
+use Rattle.layout.proofs.Laws.Changed.{OneSlot, type-stays, field-stays, name-stays, blocks-stay}
+use Rattle.layout.specs.Claims.{Reached, Untouched}
 
--- a file that stays, in slot j: its entry, the table's entries of its blocks, and their bytes are as they were
-module _ (s : List ℕ) (S : Sound s) (s′ : List ℕ) (len : length s′ ≡ length s) (j : ℕ) (h : j < 4 * dirSize s - 1) (file : isFile (typeOf s (slotAt (root s) j)) ≡ true)
-    (entry : Same s s′ (slotAt (root s) j) 128)
-    (values : (x : ℕ) → x < heldAt s (root s) j → next s′ (nth (next s) x (firstAt s (root s) j)) ≡ next s (nth (next s) x (firstAt s (root s) j)))
-    (stuff : (x : ℕ) → x < heldAt s (root s) j → block s′ (nth (next s) x (firstAt s (root s) j)) ≡ block s (nth (next s) x (firstAt s (root s) j)))
-  where
-    abbrev place : ℕ
-    place = slotAt (root s) j
-
-    fit : place + 128 ≤ length s
-    fit = slot-high s S j (omega arith)
-
-    blocks-stay : fileBlocks s′ place ≡ fileBlocks s place
-    unfolding fileBlocks
-    blocks-stay =
-        rw (same-field s s′ place len fit entry 4 (omega arith), same-field s s′ place len fit entry 12 (omega arith))
-        (chain-agree (next s) (next s′) (firstAt s (root s) j) (blocksOf s place) (λ y b. values y (omega (arith, file-holds s S j h file))))
-
-    content-stay : content s′ place ≡ content s place
-    unfolding content
-    content-stay =
-        let a : joined (block s′) (fileBlocks s place) ≡ joined (block s) (fileBlocks s place) =
-        joined-same (block s) (block s′) (fileBlocks s place) (λ q i. let r = file-at s S j h file q i in rw (r .2) (stuff (r .0) (r .1))) in
-        rw (same-field s s′ place len fit entry 8 (omega arith), blocks-stay) (ap (take (sizeOf s place)) a)
-
--- what is left after a change of slot k
-pub record Others (s s′ : List ℕ) (k : ℕ) : Type 0 where
-  pub size : length s′ ≡ length s
-  pub rooted : root s′ ≡ root s
-  pub bytes : (j : ℕ) → j < 4 * dirSize s → j ≢ k → part s′ (slotAt (root s) j) 128 ≡ part s (slotAt (root s) j) 128
-  pub blocks : (j : ℕ) → 1 ≤ j → j < 4 * dirSize s - 1 → j ≢ k → isFile (typeOf s (slotAt (root s) j)) ≡ true → fileBlocks s′ (slotAt (root s) j) ≡ fileBlocks s (slotAt (root s) j)
-  pub contents : (j : ℕ) → 1 ≤ j → j < 4 * dirSize s - 1 → j ≢ k → isFile (typeOf s (slotAt (root s) j)) ≡ true → content s′ (slotAt (root s) j) ≡ content s (slotAt (root s) j)
-  pub type : (j : ℕ) → j < 4 * dirSize s → j ≢ k → typeOf s′ (slotAt (root s) j) ≡ typeOf s (slotAt (root s) j)
-  pub name : (j : ℕ) → j < 4 * dirSize s → j ≢ k → nameOf s′ (slotAt (root s) j) ≡ nameOf s (slotAt (root s) j)
-
-module _ (s s′ : List ℕ) (S : Sound s) (k : ℕ) (k₁ : 1 ≤ k) (k₂ : k < 4 * dirSize s - 1) (len : length s′ ≡ length s) (head : Same s s′ 0 20) (tail : Same s s′ 28 4)
-    (slots : (j : ℕ) → j < 4 * dirSize s → j ≢ k → Same s s′ (slotAt (root s) j) 128)
-    (values : (j : ℕ) → j < 4 * dirSize s - 1 → j ≢ k → (x : ℕ) → x < heldAt s (root s) j → next s′ (nth (next s) x (firstAt s (root s) j)) ≡ next s (nth (next s) x (firstAt s (root s) j)))
-    (stuff : (j : ℕ) → 1 ≤ j → j < 4 * dirSize s - 1 → j ≢ k → (x : ℕ) → x < heldAt s (root s) j → block s′ (nth (next s) x (firstAt s (root s) j)) ≡ block s (nth (next s) x (firstAt s (root s) j)))
-  where
-    dir : (x : ℕ) → x < dirSize s → next s′ (nth (next s) x (rootOf s)) ≡ next s (nth (next s) x (rootOf s))
-    dir x h = rw (root-first s S) at (values 0 (omega arith) (λ e. omega arith) x (omega (arith, root-held s S)))
-
-    others : Others s s′ k
-    others =
-        record {
-          size = len;
-          rooted = root-same s s′ S k k₁ k₂ len head tail slots dir;
-          bytes = λ j h ne. same-part s s′ (slotAt (root s) j) 128 (slotAt (root s) j) 128 (slots j h ne) (omega arith) (omega arith) (slot-high s S j h) len;
-          blocks = λ j h g ne file. blocks-stay s S s′ len j g file (slots j (omega arith) ne) (values j g ne) (stuff j h g ne);
-          contents = λ j h g ne file. content-stay s S s′ len j g file (slots j (omega arith) ne) (values j g ne) (stuff j h g ne);
-          type = λ j h ne. same-type s s′ (slotAt (root s) j) len (slot-high s S j h) (slots j h ne);
-          name = λ j h ne. same-name s s′ (slotAt (root s) j) len (slot-high s S j h) (slots j h ne);
-        }
-
--- the names of two files differ
-pub other-name : (s : List ℕ) → Sound s → (k : ℕ) → 1 ≤ k → k < 4 * dirSize s - 1 → isFile (typeOf s (slotAt (root s) k)) ≡ true
-    → (j : ℕ) → 1 ≤ j → j < 4 * dirSize s - 1 → j ≢ k → isFile (typeOf s (slotAt (root s) j)) ≡ true → nameOf s (slotAt (root s) j) ≢ nameOf s (slotAt (root s) k)
-other-name s S k k₁ k₂ file j h g ne fj q = ⊎-elim (λ lt. S .names j k h lt k₂ fj file q) (λ lt. S .names k j k₁ lt g file fj (sym q)) (lt-or-gt j k ne)
-
--- where names are found after a change of slot k
-module _ (s s′ : List ℕ) (k : ℕ) (k₁ : 1 ≤ k) (k₂ : k < 4 * dirSize s - 1) (O : Others s s′ k) (name : List ℕ) where
-  test-same : (j : ℕ) → j < 4 * dirSize s → j ≢ k → fits-name s′ (slotAt (root s) j) name ≡ fits-name s (slotAt (root s) j) name
-  test-same j h ne = rw (O .type j h ne, O .name j h ne)
-
-  pub found-same : fits-name s′ (slotAt (root s) k) name ≡ fits-name s (slotAt (root s) k) name → fileSlot s′ (root s′) name ≡ fileSlot s (root s) name
-  unfolding fileSlot
-  found-same e =
-      rw (O .rooted)
-      (ap (λ (r : List ℕ). getD r 0 0) (select-same (λ j. fits-name s (slotAt (root s) j) name) (λ j. fits-name s′ (slotAt (root s) j) name) (4 * length (root s) - 2) 1
-      (λ j h g. at j (omega (arith, length-root s)) (ℕ-discrete j k))))
-    where
-      at : (j : ℕ) → j < 4 * dirSize s → Dec (j ≡ k) → fits-name s′ (slotAt (root s) j) name ≡ fits-name s (slotAt (root s) j) name
-      at j h (yes q) = subst (λ (z : ℕ). fits-name s′ (slotAt (root s) z) name ≡ fits-name s (slotAt (root s) z) name) (sym q) e
-      at j h (no ne) = test-same j h ne
-
-  -- in no other slot before
-  module _ (none : (j : ℕ) → 1 ≤ j → j < 4 * dirSize s - 1 → j ≢ k → fits-name s (slotAt (root s) j) name ≡ false) where
-    pub found-new : fits-name s′ (slotAt (root s) k) name ≡ true → fileSlot s′ (root s′) name ≡ k
-    unfolding fileSlot
-    found-new e =
-        rw (O .rooted)
-        (lowest-only (λ j. fits-name s′ (slotAt (root s) j) name) 1 (4 * length (root s) - 2) (omega arith) k k₁ (omega (arith, length-root s)) e
-        (λ j h g ne. test-same j (omega (arith, length-root s)) ne ∙ none j h (omega (arith, length-root s)) ne))
-
-    pub found-gone : fits-name s′ (slotAt (root s) k) name ≡ false → fileSlot s′ (root s′) name ≡ 0
-    unfolding fileSlot
-    found-gone e =
-        rw (O .rooted) (lowest-zero (λ j. fits-name s′ (slotAt (root s) j) name) 1 (4 * length (root s) - 2) (omega arith) (λ j h g. at j h (omega (arith, length-root s)) (ℕ-discrete j k)))
-      where
-        at : (j : ℕ) → 1 ≤ j → j < 4 * dirSize s - 1 → Dec (j ≡ k) → fits-name s′ (slotAt (root s) j) name ≡ false
-        at j h g (yes q) = subst (λ (z : ℕ). fits-name s′ (slotAt (root s) z) name ≡ false) (sym q) e
-        at j h g (no ne) = test-same j (omega arith) ne ∙ none j h g ne
-
--- no other slot has the name of slot k
-pub only-name : (s : List ℕ) → Sound s → (k : ℕ) → 1 ≤ k → k < 4 * dirSize s - 1 → (name : List ℕ) → isFile (typeOf s (slotAt (root s) k)) ≡ true → nameOf s (slotAt (root s) k) ≡ name
-    → (j : ℕ) → 1 ≤ j → j < 4 * dirSize s - 1 → j ≢ k → fits-name s (slotAt (root s) j) name ≡ false
-only-name s S k k₁ k₂ name file is j h g ne = is-false _ λ t.
-    let w = and-split (isFile (typeOf s (slotAt (root s) j))) (same (nameOf s (slotAt (root s) j)) name) t in
-    other-name s S k k₁ k₂ file j h g ne (w .0) (same-eq _ _ (w .1) ∙ sym is)
-
--- first the table and the data change, from s to u, and then slot k, from u to s′
-module _ (s : List ℕ) (S : Sound s) (k : ℕ) (k₁ : 1 ≤ k) (k₂ : k < 4 * dirSize s - 1) where
+module _ (s s′ : List ℕ) (S : Sound s) (d₀ : ℕ × ℕ) (i₀ : In d₀ (dirs s)) (k : ℕ) (k₁ : 1 ≤ k) (k₂ : k < 4 * sizeAt s (d₀ .0) - 1) where
   abbrev e : ℕ
-  e = slotAt (root s) k
+  e = slotAt (directory s (d₀ .0)) k
 
-  module _ (u : List ℕ) (lu : length u ≡ length s) (head : Same s u 0 20) (tail : Same s u 28 4) (slots : (j : ℕ) → j < 4 * dirSize s → Same s u (slotAt (root s) j) 128)
-      (values : (j : ℕ) → j < 4 * dirSize s - 1 → j ≢ k → (x : ℕ) → x < heldAt s (root s) j → next u (nth (next s) x (firstAt s (root s) j)) ≡ next s (nth (next s) x (firstAt s (root s) j)))
-      (stuff : (j : ℕ) → 1 ≤ j → j < 4 * dirSize s - 1 → j ≢ k → (x : ℕ) → x < heldAt s (root s) j → block u (nth (next s) x (firstAt s (root s) j)) ≡ block s (nth (next s) x (firstAt s (root s) j)))
-      (s′ : List ℕ) (len : length s′ ≡ length u) (outside : (a w : ℕ) → (a + w ≤ e) ⊎ (e + 128 ≤ a) → Same u s′ a w)
+  all : (d : ℕ × ℕ) → In d (dirs s) → In d (dirs s)
+  all d i = i
+
+  module _ (O : OneSlot s (dirs s) s′ e) where
+    -- an entry that is not e
+    module _ (a : ℕ) (E : Entry s a) (ne : a ≢ e) where
+      pub other-bytes : part s′ a 128 ≡ part s a 128
+      other-bytes = same-part s s′ a 128 a 128 (O .slots a E ne) (omega arith) (omega arith) (entry-high s S a E) (O .len)
+
+      pub other-type : typeOf s′ a ≡ typeOf s a
+      other-type = type-stays s s′ S (dirs s) all d₀ i₀ k k₁ k₂ O a E ne
+
+      pub other-field : (i : ℕ) → i + 4 ≤ 128 → be32 s′ (a + i) ≡ be32 s (a + i)
+      other-field = field-stays s s′ S (dirs s) all d₀ i₀ k k₁ k₂ O a E ne
+
+      pub other-name : nameOf s′ a ≡ nameOf s a
+      other-name = name-stays s s′ S (dirs s) all d₀ i₀ k k₁ k₂ O a E ne
+
+      -- a file, whose chain and data stay
+      module _ (file : isFile (typeOf s a) ≡ true)
+          (values : (x : ℕ) → x < heldAt s a → next s′ (nth (next s) x (firstBlock s a)) ≡ next s (nth (next s) x (firstBlock s a)))
+        where
+          pub other-blocks : fileBlocks s′ a ≡ fileBlocks s a
+          unfolding fileBlocks
+          other-blocks =
+              rw (other-field 4 (omega arith), other-field 12 (omega arith))
+              (chain-agree (next s) (next s′) (firstBlock s a) (blocksOf s a) (λ y h. values y (omega (arith, file-holds s S a E file))))
+
+          pub other-content : ((x : ℕ) → x < heldAt s a → block s′ (nth (next s) x (firstBlock s a)) ≡ block s (nth (next s) x (firstBlock s a))) → content s′ a ≡ content s a
+          unfolding content
+          other-content stuff =
+              let w : joined (block s′) (fileBlocks s a) ≡ joined (block s) (fileBlocks s a) =
+              joined-same (block s) (block s′) (fileBlocks s a) (λ q i. let r = file-at s S a E file q i in rw (r .2) (stuff (r .0) (r .1))) in
+              rw (other-field 8 (omega arith), other-blocks) (ap (take (sizeOf s a)) w)
+
+    -- a slot of a name, where the test at e is the same before and after
+    pub test-slot : (type : ℕ → Bool) (name : List ℕ) (d : ℕ × ℕ) (di : In d (dirs s))
+        → ((j : ℕ) → j < 4 * sizeAt s (d .0) → slotAt (directory s (d .0)) j ≡ e → (type (typeOf s′ e) && same (nameOf s′ e) name) ≡ (type (typeOf s e) && same (nameOf s e) name))
+        → slotOf type s′ (directory s′ (d .0)) name ≡ slotOf type s (directory s (d .0)) name
+    unfolding slotOf
+    test-slot type name d di f =
+        rw (blocks-stay s s′ S (dirs s) all d₀ i₀ k k₁ k₂ O d di)
+        (ap (λ (l : List ℕ). getD l 0 0) (select-agree (λ j. type (typeOf s (slotAt (directory s (d .0)) j)) && same (nameOf s (slotAt (directory s (d .0)) j)) name)
+        (λ j. type (typeOf s′ (slotAt (directory s (d .0)) j)) && same (nameOf s′ (slotAt (directory s (d .0)) j)) name) (slots (directory s (d .0)))
+        (λ j i. let w = in-slots s (d .0) j i in at j (omega arith) (ℕ-discrete (slotAt (directory s (d .0)) j) e))))
+      where
+        at : (j : ℕ) → j < 4 * sizeAt s (d .0) → Dec (slotAt (directory s (d .0)) j ≡ e)
+            → (type (typeOf s′ (slotAt (directory s (d .0)) j)) && same (nameOf s′ (slotAt (directory s (d .0)) j)) name)
+            ≡ (type (typeOf s (slotAt (directory s (d .0)) j)) && same (nameOf s (slotAt (directory s (d .0)) j)) name)
+        at j h (yes q) = rw q (f j h q)
+        at j h (no ne) = let E = slot-entry s S d di j h in rw (other-type (slotAt (directory s (d .0)) j) E ne, other-name (slotAt (directory s (d .0)) j) E ne)
+
+    module _ (was : isDirectory (typeOf s e) ≡ false) (now : isDirectory (typeOf s′ e) ≡ false) where
+      -- one part of a path
+      pub child-same : (b left : ℕ) → In (b, left) (dirs s) → (name : List ℕ) → childOf s′ b name ≡ childOf s b name
+      unfolding childOf
+      child-same b left i name =
+          let q : slotOf isDirectory s′ (directory s′ b) name ≡ slotOf isDirectory s (directory s b) name = test-slot isDirectory name (b, left) i (λ j l z. rw (was, now)) in
+          rw (q, blocks-stay s s′ S (dirs s) all d₀ i₀ k k₁ k₂ O (b, left) i) (go (ℕ-discrete (slotOf isDirectory s (directory s b) name) 0))
+        where
+          x : ℕ
+          x = slotOf isDirectory s (directory s b) name
+
+          go : Dec (slotOf isDirectory s (directory s b) name ≡ 0)
+              → cond (eqb (slotOf isDirectory s (directory s b) name) 0) 0 (firstBlock s′ (slotAt (directory s b) (slotOf isDirectory s (directory s b) name)))
+              ≡ cond (eqb (slotOf isDirectory s (directory s b) name) 0) 0 (firstBlock s (slotAt (directory s b) (slotOf isDirectory s (directory s b) name)))
+          go (yes z) = rw (eq-eqb _ 0 z)
+          go (no ne) =
+              let N = slot-named isDirectory s b name ne in
+              let a : ℕ = slotAt (directory s b) (slotOf isDirectory s (directory s b) name) in
+              let h = N .high in
+              let E = slot-entry s S (b, left) i (slotOf isDirectory s (directory s b) name) (omega arith) in
+              let away : a ≢ e = λ p. true-not-false {a = isDirectory (typeOf s e)} (subst (λ (w : ℕ). isDirectory (typeOf s w) ≡ true) p (N .typed)) was in
+              rw (other-field a E away 4 (omega arith))
+
+      -- all parts
+      pub resolve-same : (ps : List (List ℕ)) (b left : ℕ) → In (b, left) (dirs s) → length ps ≤ left → resolve s′ b ps ≡ resolve s b ps
+      unfolding resolve
+      resolve-same [] b left i h = refl
+      resolve-same (p ∷ ps) b zero i h = absurd (omega arith)
+      resolve-same (p ∷ ps) b (suc left) i h =
+          rw (child-same b (suc left) i p) (go (ℕ-discrete (childOf s b p) 0) (λ m. resolve-same ps (childOf s b p) left m (omega arith)))
+        where
+          go : Dec (childOf s b p ≡ 0) → (In (childOf s b p, left) (dirs s) → resolve s′ (childOf s b p) ps ≡ resolve s (childOf s b p) ps)
+              → cond (eqb (childOf s b p) 0) 0 (resolve s′ (childOf s b p) ps) ≡ cond (eqb (childOf s b p) 0) 0 (resolve s (childOf s b p) ps)
+          go (yes z) ih = rw (eq-eqb _ 0 z)
+          go (no ne) ih = rw (ih (child-in-tree s b p left i ne))
+
+      pub home-same : (path : List ℕ) → shallow (leading (parts path)) ≡ true → home s′ path ≡ home s path
+      unfolding home shallow
+      home-same path h =
+          ap (λ (x : ℕ). resolve s′ (rootBlock (x / 512)) (leading (parts path))) (O .len)
+          ∙ resolve-same (leading (parts path)) (rootOf s) maxLevels (root-in s (blockCount s)) (leb-true _ _ h)
+
+      -- A PATH THAT DOES NOT NAME THE ENTRY: in another directory, or with a name that it has neither before nor after
+      module _ (path : List ℕ) (h : shallow (leading (parts path)) ≡ true) (type : ℕ → Bool)
+          (aside : (home s path ≢ d₀ .0) ⊎ ((type (typeOf s′ e) && same (nameOf s′ e) (lastPart (parts path))) ≡ (type (typeOf s e) && same (nameOf s e) (lastPart (parts path)))))
+        where
+          pub path-same : pathSlot type s′ path ≡ pathSlot type s path
+          unfolding pathSlot
+          path-same = rw (home-same path h) (go (ℕ-discrete (home s path) 0))
+            where
+              go : Dec (home s path ≡ 0)
+                  → cond (eqb (home s path) 0) 0 (slotOf type s′ (directory s′ (home s path)) (lastPart (parts path)))
+                  ≡ cond (eqb (home s path) 0) 0 (slotOf type s (directory s (home s path)) (lastPart (parts path)))
+              go (yes z) = rw (eq-eqb _ 0 z)
+              go (no ne) =
+                  let i = home-in-tree s path h ne in
+                  let l : ℕ = maxLevels - length (leading (parts path)) in
+                  ap (λ (x : ℕ). cond (eqb (home s path) 0) 0 x)
+                  (test-slot type (lastPart (parts path)) (home s path, l) i
+                  (λ j g q. ⊎-elim (λ away. absurd (away (elsewhere l i j g q))) (λ t. t) aside))
+                where
+                  elsewhere : (l : ℕ) → In (home s path, l) (dirs s) → (j : ℕ) → j < 4 * sizeAt s (home s path) → slotAt (directory s (home s path)) j ≡ e → home s path ≡ d₀ .0
+                  elsewhere l i j g q =
+                      ap (λ (w : ℕ × ℕ). w .0) (same-slot-place s (blockCount s) (S .tree) (S .least) (home s path, l) d₀ i i₀ j k g (omega arith) q .0)
+
+          pub entry-same : pathSlot type s path ≢ 0 → entryOf type s′ path ≡ entryOf type s path
+          unfolding entryOf
+          entry-same ne =
+              rw (home-same path h, path-same) (ap (λ (ds : List ℕ). slotAt ds (pathSlot type s path))
+              (blocks-stay s s′ S (dirs s) all d₀ i₀ k k₁ k₂ O (home s path, maxLevels - length (leading (parts path))) (path-home type s path ne h)))
+
+-- a path that names a file is in a directory of the tree
+pub reached-entry : (s : List ℕ) (S : Sound s) (other : List ℕ) → Reached s other → Entry s (entryOf isFile s other)
+unfolding entryOf
+reached-entry s S other r =
+    let N = path-named isFile s other (r .1) in
+    let h = N .high in
+    slot-entry s S (home s other, maxLevels - length (leading (parts other))) (path-home isFile s other (r .1) (r .0)) (pathSlot isFile s other) (omega arith)
+
+pub reached-file : (s : List ℕ) (other : List ℕ) → Reached s other → (isFile (typeOf s (entryOf isFile s other)) ≡ true) × (nameOf s (entryOf isFile s other) ≡ lastPart (parts other))
+unfolding entryOf
+reached-file s other r = let N = path-named isFile s other (r .1) in (N .typed, N .named)
+
+module _ (s s′ : List ℕ) (S : Sound s) (d₀ : ℕ × ℕ) (i₀ : In d₀ (dirs s)) (k : ℕ) (k₁ : 1 ≤ k) (k₂ : k < 4 * sizeAt s (d₀ .0) - 1) where
+  abbrev e₀ : ℕ
+  e₀ = slotAt (directory s (d₀ .0)) k
+
+  -- the table's entries and the bytes of every other entry's blocks stay; the entry is no file of the other path's name, before or after
+  module _ (O : OneSlot s (dirs s) s′ e₀) (was : isDirectory (typeOf s e₀) ≡ false) (now : isDirectory (typeOf s′ e₀) ≡ false)
+      (values : (a : ℕ) → Entry s a → a ≢ e₀ → (x : ℕ) → x < heldAt s a → next s′ (nth (next s) x (firstBlock s a)) ≡ next s (nth (next s) x (firstBlock s a)))
+      (stuff : (a : ℕ) → Entry s a → a ≢ e₀ → isFile (typeOf s a) ≡ true → (x : ℕ) → x < heldAt s a → block s′ (nth (next s) x (firstBlock s a)) ≡ block s (nth (next s) x (firstBlock s a)))
+      (other : List ℕ)
+      (before : (home s other ≢ d₀ .0) ⊎ ((isFile (typeOf s e₀) && same (nameOf s e₀) (lastPart (parts other))) ≡ false))
+      (after : (home s other ≢ d₀ .0) ⊎ ((isFile (typeOf s′ e₀) && same (nameOf s′ e₀) (lastPart (parts other))) ≡ false))
     where
-      before : Same u s′ 0 (512 * rootOf s)
-      before = outside 0 (512 * rootOf s) (inl (omega (arith, slot-low s S k (omega arith))))
+      aside : (home s other ≢ d₀ .0) ⊎ ((isFile (typeOf s′ e₀) && same (nameOf s′ e₀) (lastPart (parts other))) ≡ (isFile (typeOf s e₀) && same (nameOf s e₀) (lastPart (parts other))))
+      aside = ⊎-elim (λ x. inl x) (λ p. ⊎-elim (λ x. inl x) (λ q. inr (q ∙ sym p)) after) before
 
-      pub slot-changed : Others s s′ k
-      slot-changed =
-          others s s′ S k k₁ k₂ (len ∙ lu) (same-then s u s′ 0 20 head (same-inner u s′ 0 (512 * rootOf s) 0 20 before (omega arith) (omega arith)))
-          (same-then s u s′ 28 4 tail (same-inner u s′ 0 (512 * rootOf s) 28 4 before (omega arith) (omega arith)))
-          (λ j h ne. same-then s u s′ (slotAt (root s) j) 128 (slots j h) (outside (slotAt (root s) j) 128 (slots-apart s S j k h (omega arith) ne)))
-          (λ j h ne x g. before-next u s′ (blockCount s) before (nth (next s) x (firstAt s (root s) j)) (omega (arith, held-below s S j h x g)) ∙ values j h ne x g)
-          (λ j h g ne x y. slot-elsewhere s S k (omega arith) u s′ lu len outside (nth (next s) x (firstAt s (root s) j)) (held-below s S j g x y)
-          (root-apart s S j g x y (λ z. omega arith) (k / 4) (omega arith)) ∙ stuff j h g ne x y)
+      -- it is not the entry that changed
+      away : Reached s other → entryOf isFile s other ≢ e₀
+      unfolding entryOf
+      away r q = ⊎-elim
+          (λ ne. ne (ap (λ (w : ℕ × ℕ). w .0) (same-slot-place s (blockCount s) (S .tree) (S .least) (home s other, maxLevels - length (leading (parts other))) d₀ (path-home isFile s other (r .1) (r .0)) i₀
+          (pathSlot isFile s other) k (let h = path-named isFile s other (r .1) .high in omega arith) (omega arith) q .0)))
+          (λ p. let f = reached-file s other r in
+          true-not-false {a = isFile (typeOf s e₀) && same (nameOf s e₀) (lastPart (parts other))}
+          (subst (λ (x : ℕ). (isFile (typeOf s x) && same (nameOf s x) (lastPart (parts other))) ≡ true) q (and-join (f .0) (rw (f .1) (same-refl (lastPart (parts other)))))) p)
+          before
 
--- the test at the changed slot does not see the other name, before or after
-module _ (s s′ : List ℕ) (k : ℕ) (k₁ : 1 ≤ k) (k₂ : k < 4 * dirSize s - 1) (O : Others s s′ k) (other : List ℕ)
-    (was : fits-name s (slotAt (root s) k) other ≡ false) (now : fits-name s′ (slotAt (root s) k) other ≡ false)
+      pub untouched : Untouched s s′ other
+      untouched =
+          record {
+            slot = λ h. path-same s s′ S d₀ i₀ k k₁ k₂ O was now other h isFile aside;
+            entry = λ r. entry-same s s′ S d₀ i₀ k k₁ k₂ O was now other (r .0) isFile aside (r .1);
+            bytes = λ r. other-bytes s s′ S d₀ i₀ k k₁ k₂ O (entryOf isFile s other) (reached-entry s S other r) (away r);
+            blocks = λ r. let E = reached-entry s S other r in
+                other-blocks s s′ S d₀ i₀ k k₁ k₂ O (entryOf isFile s other) E (away r) (reached-file s other r .0) (values (entryOf isFile s other) E (away r));
+            contents = λ r. let E = reached-entry s S other r in
+                other-content s s′ S d₀ i₀ k k₁ k₂ O (entryOf isFile s other) E (away r) (reached-file s other r .0) (values (entryOf isFile s other) E (away r))
+                (stuff (entryOf isFile s other) E (away r) (reached-file s other r .0));
+          }
+
+-- read backwards
+pub untouched-back : (s s′ other : List ℕ) → Untouched s′ s other → Untouched s s′ other
+untouched-back s s′ other U =
+    record {
+      slot = λ h. sym (U .slot h);
+      entry = λ r. sym (U .entry (back r));
+      bytes = λ r. rw (U .entry (back r)) (sym (U .bytes (back r)));
+      blocks = λ r. rw (U .entry (back r)) (sym (U .blocks (back r)));
+      contents = λ r. rw (U .entry (back r)) (sym (U .contents (back r)));
+    }
   where
-    same-place : fileSlot s′ (root s′) other ≡ fileSlot s (root s) other
-    same-place = found-same s s′ k k₁ k₂ O other (now ∙ sym was)
-
-    away : fileSlot s (root s) other ≢ 0 → fileSlot s (root s) other ≢ k
-    away ne q =
-        let w = named-slot s other ne in
-        let t : fits-name s (slotAt (root s) (fileSlot s (root s) other)) other ≡ true = and-join (w .2) (rw (named-name s other ne) (same-refl other)) in
-        true-not-false (subst (λ (z : ℕ). fits-name s (slotAt (root s) z) other ≡ true) q t) was
-
-    pub untouched : Untouched s s′ other
-    unfolding entryOf
-    untouched =
-        record {
-          slot = same-place;
-          entry = rw (same-place, O .rooted);
-          bytes = λ ne. let w = named-slot s other ne in O .bytes (fileSlot s (root s) other) (omega arith) (away ne);
-          blocks = λ ne. let w = named-slot s other ne in O .blocks (fileSlot s (root s) other) (w .0) (w .1) (away ne) (w .2);
-          contents = λ ne. let w = named-slot s other ne in O .contents (fileSlot s (root s) other) (w .0) (w .1) (away ne) (w .2);
-        }
-
--- the test at an entry of another name, and at a free one
-pub not-named : (s : List ℕ) (e : ℕ) (name other : List ℕ) → nameOf s e ≡ name → other ≢ name → fits-name s e other ≡ false
-not-named s e name other q ne =
-    is-false _ (λ t. ne (sym (same-eq (nameOf s e) other (and-split (isFile (typeOf s e)) (same (nameOf s e) other) t .1)) ∙ q))
-
-pub not-file : (s : List ℕ) (e : ℕ) (other : List ℕ) → typeOf s e ≡ 0 → fits-name s e other ≡ false
-not-file s e other z = rw z
+    back : Reached s other → Reached s′ other
+    back r = (r .0, λ z. r .1 (U .slot (r .0) ∙ z))
 
 -- what an answer says of it
 module _ (s s′ other : List ℕ) (ok : check s ≡ 0) (ok′ : check s′ ≡ 0) (U : Untouched s s′ other) where
-  field : fileSlot s (root s) other ≢ 0 → (i : ℕ) → i + 4 ≤ 128 → be32 s′ (entryOf s other + i) ≡ be32 s (entryOf s other + i)
+  field : Reached s other → (i : ℕ) → i + 4 ≤ 128 → be32 s′ (entryOf isFile s other + i) ≡ be32 s (entryOf isFile s other + i)
   field ne i h =
-      let e = entryOf s other in
+      let e = entryOf isFile s other in
       sym (be32-part s′ e 128 i h) ∙ ap (λ (b : List ℕ). be32 b i) (U .bytes ne) ∙ be32-part s e 128 i h
 
   pub lookup-stays : lookup s′ other ≡ lookup s other
-  unfolding lookup lookupRefusal nameRefusal
-  lookup-stays = go (ℕ-discrete (fileSlot s (root s) other) 0) (goodName other) refl
+  unfolding lookup lookupRefusal fileRefusal
+  lookup-stays = go (pathOk other) refl (shallow (leading (parts other))) refl (ℕ-discrete (pathSlot isFile s other) 0)
     where
-      go : Dec (fileSlot s (root s) other ≡ 0) → (g : Bool) → goodName other ≡ g → lookup s′ other ≡ lookup s other
-      go (no ne) g q = rw (ok, ok′, U .slot, U .entry, field ne 8 (omega arith), field ne 12 (omega arith))
-      go (yes z) true q = rw (ok, ok′, q, U .slot, eq-eqb (fileSlot s (root s) other) 0 z)
-      go (yes z) false q = rw (ok, ok′, q)
+      go : (g : Bool) → pathOk other ≡ g → (w : Bool) → shallow (leading (parts other)) ≡ w → Dec (pathSlot isFile s other ≡ 0) → lookup s′ other ≡ lookup s other
+      go false q w v z = rw (ok, ok′, q)
+      go true q false v z = rw (ok, ok′, q, v)
+      go true q true v (no ne) = rw (ok, ok′, U .slot v, U .entry (v, ne), field (v, ne) 8 (omega arith), field (v, ne) 12 (omega arith))
+      go true q true v (yes z) = rw (ok, ok′, q, v, U .slot v, eq-eqb (pathSlot isFile s other) 0 z)
 
   pub read-stays : (offset : ℕ) (buffer : List ℕ) → read s′ other offset buffer ≡ read s other offset buffer
-  unfolding read readRefusal lookupRefusal nameRefusal
-  read-stays offset buffer = go (ℕ-discrete (fileSlot s (root s) other) 0) (goodName other) refl
+  unfolding read readRefusal lookupRefusal fileRefusal
+  read-stays offset buffer = go (pathOk other) refl (shallow (leading (parts other))) refl (ℕ-discrete (pathSlot isFile s other) 0)
     where
-      go : Dec (fileSlot s (root s) other ≡ 0) → (g : Bool) → goodName other ≡ g → read s′ other offset buffer ≡ read s other offset buffer
-      go (no ne) g q = rw (ok, ok′, U .slot, U .entry, field ne 8 (omega arith), U .contents ne)
-      go (yes z) true q = rw (ok, ok′, q, U .slot, eq-eqb (fileSlot s (root s) other) 0 z)
-      go (yes z) false q = rw (ok, ok′, q)
+      go : (g : Bool) → pathOk other ≡ g → (w : Bool) → shallow (leading (parts other)) ≡ w → Dec (pathSlot isFile s other ≡ 0) → read s′ other offset buffer ≡ read s other offset buffer
+      go false q w v z = rw (ok, ok′, q)
+      go true q false v z = rw (ok, ok′, q, v)
+      go true q true v (no ne) = rw (ok, ok′, U .slot v, U .entry (v, ne), field (v, ne) 8 (omega arith), U .contents (v, ne))
+      go true q true v (yes z) = rw (ok, ok′, q, v, U .slot v, eq-eqb (pathSlot isFile s other) 0 z)
 
   refusal-stays : lookupRefusal s′ other ≡ lookupRefusal s other
-  unfolding lookupRefusal nameRefusal
-  refusal-stays = rw (ok, ok′, U .slot)
+  unfolding lookupRefusal fileRefusal
+  refusal-stays = go (shallow (leading (parts other))) refl
+    where
+      go : (w : Bool) → shallow (leading (parts other)) ≡ w → lookupRefusal s′ other ≡ lookupRefusal s other
+      go true v = rw (ok, ok′, U .slot v)
+      go false v = rw (ok, ok′, v)
 
   pub look-stays : (i : ℕ) → lookInPlace s′ other i ≡ lookInPlace s other i
   unfolding lookInPlace extentOf
-  look-stays i = go (lookupRefusal s other) refl (lt-or-ge i (blocksOf s (entryOf s other)))
+  look-stays i = go (lookupRefusal s other) refl (lt-or-ge i (blocksOf s (entryOf isFile s other)))
     where
-      go : (r : ℕ) → lookupRefusal s other ≡ r → (i < blocksOf s (entryOf s other)) ⊎ (blocksOf s (entryOf s other) ≤ i) → lookInPlace s′ other i ≡ lookInPlace s other i
+      go : (r : ℕ) → lookupRefusal s other ≡ r → (i < blocksOf s (entryOf isFile s other)) ⊎ (blocksOf s (entryOf isFile s other) ≤ i) → lookInPlace s′ other i ≡ lookInPlace s other i
       go (suc r) q o = rw (refusal-stays, q)
       go zero q (inl h) =
-          let ne = lookup-given s other q in
-          let e : blocksOf s′ (entryOf s′ other) ≡ blocksOf s (entryOf s other) = rw (U .entry) (field ne 12 (omega arith)) in
-          look-content s′ other i (refusal-stays ∙ q) (omega arith) ∙ rw (U .entry, field ne 8 (omega arith), U .contents ne) (sym (look-content s other i q h))
+          let ne : Reached s other = (short-given s other (lookup-path s other q), lookup-given s other q) in
+          let e : blocksOf s′ (entryOf isFile s′ other) ≡ blocksOf s (entryOf isFile s other) = rw (U .entry ne) (field ne 12 (omega arith)) in
+          look-content s′ other i (refusal-stays ∙ q) (omega arith) ∙ rw (U .entry ne, field ne 8 (omega arith), U .contents ne) (sym (look-content s other i q h))
       go zero q (inr h) =
-          let e : blocksOf s′ (entryOf s′ other) ≡ blocksOf s (entryOf s other) = rw (U .entry) (field (lookup-given s other q) 12 (omega arith)) in
-          rw (refusal-stays, q, e, le-ltb i (blocksOf s (entryOf s other)) h)
+          let ne : Reached s other = (short-given s other (lookup-path s other q), lookup-given s other q) in
+          let e : blocksOf s′ (entryOf isFile s′ other) ≡ blocksOf s (entryOf isFile s other) = rw (U .entry ne) (field ne 12 (omega arith)) in
+          rw (refusal-stays, q, e, le-ltb i (blocksOf s (entryOf isFile s other)) h)

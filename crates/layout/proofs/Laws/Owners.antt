@@ -1,149 +1,155 @@
--- The blocks of a sound image: those that its slots hold (slot 0: the root's own), in the volume, in use and of one owner only; and the free ones.
+-- The blocks of a sound image: those that its entries own (a self entry: its directory's), in the volume, in use and of one owner only; the free ones.
 use Prim.Native.Nat.{ℕ, _+_, _-_, _*_, _/_, _≤_, _<_}
-use mathlib.Core.Path.{_≡_, refl, sym, ap, _∙_}
-use mathlib.Core.Bool.{true}
+use mathlib.Core.Path.{_≡_, refl, sym, ap, _∙_, subst}
+use mathlib.Core.Bool.{true, false, or-true}
 use mathlib.Core.List.{List}
 use mathlib.Core.Logic.{_⊎_, inl, inr, ⊎-elim, _≢_}
 use native.Mathlib.Omega.{arith}
 use native.Mathlib.Decide.{ℕ-discrete}
-use borrow.Author.Tests.{eqb-true, eq-eqb}
-use lib.ListN.{length, length-take, take, drop, take-append-drop}
+use borrow.Author.Tests.{eqb-true, eq-eqb, ne-eqb}
+use lib.ListN.{length, take, drop, length-take, take-append-drop}
 use lib.Dec.{eqb}
 use lib.Seq.{getD-take}
-use Rattle.layout.specs.Looks.{entryOf}
-use Rattle.layout.specs.Directory.{fileSlot, nameOf, slotAt, typeOf, blocksOf, isFile, root, fileBlocks}
-use Rattle.layout.specs.Geometry.{blockCount, tableBlocks}
-use Rattle.layout.specs.Table.{next, chain, freeBlocks, occupied}
 use Rattle.layout.specs.Bytes.{block, be32}
 use Rattle.layout.specs.Lists.{interval, select, distinct}
+use Rattle.layout.specs.Geometry.{blockCount, tableBlocks}
+use Rattle.layout.specs.Table.{next, chain, chainOk, freeBlocks, occupied}
+use Rattle.layout.specs.Directory.{typeOf, firstBlock, blocksOf, isFile, isDirectory, dirs, fileBlocks}
 use Rattle.layout.specs.Claims.{LowestFree}
-use Rattle.layout.proofs.Laws.Tests.{lt-or-gt, lt-or-ge}
+use Rattle.layout.proofs.Laws.Tests.{lt-or-gt, lt-or-ge, within-split, is-false}
 use Rattle.layout.proofs.Laws.Lists.{In, has-eqb-in, in-has-eqb, distinct-left, in-take, select-in, select-ascends, select-lowest, select-distinct, select-split}
-use Rattle.layout.proofs.Laws.Chains.{nth, chain-used, in-chain}
-use Rattle.layout.proofs.Laws.Sound.{firstAt, heldAt, file-held, rootOf, dirSize, Sound, firstAt-zero, heldAt-zero}
-use Rattle.layout.proofs.Laws.Files.{slotAt-root, named-slot, named-name}
+use Rattle.layout.proofs.Laws.Chains.{nth, chain-used, in-chain, chainOk-join}
+use Rattle.layout.proofs.Laws.Joins.{of-join}
 use Rattle.layout.proofs.Laws.Frames.{Same, same-part}
+use Rattle.layout.proofs.Laws.Visits.{dirBlocks, blocksIn}
+use Rattle.layout.proofs.Laws.Trees.{sizeAt, in-directory, slotAt-zero}
+use Rattle.layout.proofs.Laws.Sound.{held, heldAt, Sound, Entry}
+use Rattle.layout.proofs.Laws.Slots.{right-dir, dir-least, slot-entry}
 
--- the blocks of slot k: of the root (k = 0), of a file, or none
+-- what an entry holds, by its type
+pub file-held : (type b : ℕ) → isFile type ≡ true → held type b ≡ b
+file-held type b f = rw (f, or-true (eqb type 1))
+
+pub free-held : (type b : ℕ) → type ≡ 0 → held type b ≡ 0
+free-held type b e = rw e
+
+pub self-held : (type b : ℕ) → type ≡ 1 → held type b ≡ b
+self-held type b e = rw e
+
+pub dir-none : (type b : ℕ) → isDirectory type ≡ true → held type b ≡ 0
+dir-none type b t =
+    let w = within-split 0x20 0x5F type t in
+    rw (ne-eqb type 1 (λ q. omega arith), is-false (isFile type) (λ f. let v = within-split 0x60 0x9F type f in omega arith))
+
+-- a file has a type between 0x60 and 0x9F
+pub file-no-dir : (type : ℕ) → isFile type ≡ true → isDirectory type ≡ false
+file-no-dir type f = is-false _ (λ t. let a = within-split 0x20 0x5F type t in let b = within-split 0x60 0x9F type f in omega arith)
+
+pub file-used-type : (type : ℕ) → isFile type ≡ true → type ≢ 0
+file-used-type type f z = let w = within-split 0x60 0x9F type f in omega arith
+
+-- the blocks that the entry at a owns
 abbrev pub blocksAt : List ℕ → ℕ → List ℕ
-blocksAt s k = chain (next s) (firstAt s (root s) k) (heldAt s (root s) k)
+blocksAt s a = chain (next s) (firstBlock s a) (heldAt s a)
 
 module _ (s : List ℕ) (S : Sound s) where
   abbrev n : ℕ
   n = blockCount s
 
-  abbrev f : ℕ → ℕ
-  f = firstAt s (root s)
+  -- a directory's self entry owns its blocks
+  module _ (d : ℕ × ℕ) (di : In d (dirs s)) where
+    pub self-first : firstBlock s (512 * d .0) ≡ d .0
+    self-first = right-dir s S d di .1 .self-block
 
-  abbrev l : ℕ → ℕ
-  l = heldAt s (root s)
+    pub self-size : heldAt s (512 * d .0) ≡ sizeAt s (d .0)
+    self-size = self-held (typeOf s (512 * d .0)) (sizeAt s (d .0)) (right-dir s S d di .1 .self-type)
 
-  pub root-first : f 0 ≡ rootOf s
-  root-first = firstAt-zero s (S .d-least) (S .self-type) (S .self-block)
+    pub self-entry : Entry s (512 * d .0)
+    self-entry = let h = dir-least s S d di in rw (slotAt-zero s (d .0) h) at (slot-entry s S d di 0 (omega arith))
 
-  pub root-held : l 0 ≡ dirSize s
-  root-held = heldAt-zero s (S .d-least) (S .self-type) (S .self-block)
-
-  -- block x of slot j
-  module _ (j : ℕ) (h : j < 4 * dirSize s - 1) (x : ℕ) (g : x < l j) where
+  -- block x of the entry a
+  module _ (a : ℕ) (E : Entry s a) (x : ℕ) (g : x < heldAt s a) where
     abbrev q : ℕ
-    q = nth (next s) x (f j)
+    q = nth (next s) x (firstBlock s a)
 
     pub held-above : tableBlocks n < q
-    held-above = S .table .right j h .above x g
+    held-above = S .table .right a E .above x g
 
     pub held-below : q < n
-    held-below = S .table .right j h .below x g
+    held-below = S .table .right a E .below x g
 
     pub held-used : next s q ≢ 0
-    held-used = chain-used (next s) n (f j) (l j) (S .table .right j h) (S .least) x g
+    held-used = chain-used (next s) n (firstBlock s a) (heldAt s a) (S .table .right a E) (S .least) x g
 
-    pub held-apart : (k : ℕ) → k < 4 * dirSize s - 1 → j ≢ k → (y : ℕ) → y < l k → q ≢ nth (next s) y (f k)
-    held-apart k hk ne y gy = S .table .apart j k h hk ne x y g gy
+    pub held-apart : (c : ℕ) → Entry s c → a ≢ c → (y : ℕ) → y < heldAt s c → q ≢ nth (next s) y (firstBlock s c)
+    held-apart c F ne y h = S .table .apart a c E F ne x y g h
 
-    pub root-apart : j ≢ 0 → (y : ℕ) → y < dirSize s → nth (next s) y (rootOf s) ≢ q
-    root-apart ne y gy e = held-apart 0 (omega (arith, S .d-least)) ne y (omega (arith, root-held)) (sym e ∙ ap (nth (next s) y) (sym root-first))
+    -- it is no directory block, if the entry is no self entry
+    pub tree-apart : ((d : ℕ × ℕ) → In d (dirs s) → a ≢ 512 * d .0) → In q (dirBlocks s) → ⊥
+    tree-apart no-self i =
+        let r = of-join (blocksIn s) (dirs s) q i in
+        let y = in-directory s (r .0 .0) q (r .2) in
+        held-apart (512 * r .0 .0) (self-entry (r .0) (r .1)) (no-self (r .0) (r .1)) (y .0) (omega (arith, self-size (r .0) (r .1), y .1))
+        (y .2 ∙ ap (nth (next s) (y .0)) (sym (self-first (r .0) (r .1))))
 
-  -- a slot lies beside every block that is not its block of the directory
-  module _ (k : ℕ) (h : k < 4 * dirSize s) where
-    pub slot-beside : (q : ℕ) → nth (next s) (k / 4) (rootOf s) ≢ q → (512 * q + 512 ≤ slotAt (root s) k) ⊎ (slotAt (root s) k + 128 ≤ 512 * q)
-    slot-beside q ne =
-        let e = slotAt-root s S k h in
-        ⊎-elim (λ a. inr (omega arith)) (λ a. inl (omega arith)) (lt-or-gt (nth (next s) (k / 4) (rootOf s)) q ne)
+  -- an entry lies beside every block that is not its own
+  pub entry-beside : (a : ℕ) → Entry s a → (q : ℕ) → a / 512 ≢ q → (512 * q + 512 ≤ a) ⊎ (a + 128 ≤ 512 * q)
+  entry-beside a E q ne =
+      let h = E .aligned in
+      ⊎-elim (λ lt. inr (omega arith)) (λ lt. inl (omega arith)) (lt-or-gt (a / 512) q ne)
 
-    -- a change of the slot's bytes alone leaves every other block
-    pub slot-elsewhere : (t t′ : List ℕ) → length t ≡ length s → length t′ ≡ length t → ((a w : ℕ) → (a + w ≤ slotAt (root s) k) ⊎ (slotAt (root s) k + 128 ≤ a) → Same t t′ a w)
-        → (q : ℕ) → q < n → nth (next s) (k / 4) (rootOf s) ≢ q → block t′ q ≡ block t q
-    slot-elsewhere t t′ lt len outside q qn ne =
-        same-part t t′ (512 * q) 512 (512 * q) 512 (outside (512 * q) 512 (slot-beside q ne)) (omega arith) (omega arith) (omega (arith, S .whole)) len
+  pub entry-elsewhere : (a : ℕ) → Entry s a → (t t′ : List ℕ) → length t ≡ length s → length t′ ≡ length t → ((i w : ℕ) → (i + w ≤ a) ⊎ (a + 128 ≤ i) → Same t t′ i w)
+      → (q : ℕ) → q < n → a / 512 ≢ q → block t′ q ≡ block t q
+  entry-elsewhere a E t t′ lt len outside q qn ne =
+      same-part t t′ (512 * q) 512 (512 * q) 512 (outside (512 * q) 512 (entry-beside a E q ne)) (omega arith) (omega arith) (omega (arith, S .whole)) len
 
-  -- a file
-  module _ (k : ℕ) (k₂ : k < 4 * dirSize s - 1) (file : isFile (typeOf s (slotAt (root s) k)) ≡ true) where
-    abbrev e : ℕ
-    e = slotAt (root s) k
-
-    pub file-holds : l k ≡ blocksOf s e
-    file-holds = file-held (typeOf s e) (blocksOf s e) file
-
-    pub file-at : (q : ℕ) → In q (fileBlocks s e) → (x : ℕ) × (x < l k) × (q ≡ nth (next s) x (f k))
-    unfolding fileBlocks
-    file-at q i = let r = in-chain (next s) (f k) (blocksOf s e) q i in (r .0, omega (arith, file-holds), r .2)
-
-    pub file-above : (q : ℕ) → In q (fileBlocks s e) → tableBlocks n < q
-    file-above q i = let r = file-at q i in rw (r .2) (held-above k k₂ (r .0) (r .1))
-
-    pub file-below : (q : ℕ) → In q (fileBlocks s e) → q < n
-    file-below q i = let r = file-at q i in rw (r .2) (held-below k k₂ (r .0) (r .1))
-
-    pub file-used : (q : ℕ) → In q (fileBlocks s e) → next s q ≢ 0
-    file-used q i = let r = file-at q i in rw (r .2) (held-used k k₂ (r .0) (r .1))
-
-    pub file-apart : (j : ℕ) → j < 4 * dirSize s - 1 → j ≢ k → (x : ℕ) → x < l j → In (nth (next s) x (f j)) (fileBlocks s e) → ⊥
-    file-apart j h ne x g i = let r = file-at (nth (next s) x (f j)) i in held-apart j h x g k k₂ ne (r .0) (r .1) (r .2)
-
-    pub file-blocks : blocksAt s k ≡ fileBlocks s e
-    unfolding fileBlocks
-    file-blocks = ap (chain (next s) (f k)) file-holds
-
-  pub root-blocks : blocksAt s 0 ≡ root s
-  unfolding root
-  root-blocks = rw (root-first, root-held)
-
-  -- a block stands among the blocks of one slot only
-  pub one-owner : (b j k : ℕ) → j < 4 * dirSize s - 1 → k < 4 * dirSize s - 1 → In b (blocksAt s j) → In b (blocksAt s k) → j ≡ k
-  one-owner b j k hj hk p r = go (ℕ-discrete j k)
+  -- a block stands among the blocks of one entry only
+  pub one-owner : (b a c : ℕ) → Entry s a → Entry s c → In b (blocksAt s a) → In b (blocksAt s c) → a ≡ c
+  one-owner b a c E F p r = go (ℕ-discrete a c)
     where
-      go : Dec (j ≡ k) → j ≡ k
+      go : Dec (a ≡ c) → a ≡ c
       go (yes e) = e
       go (no ne) =
-          let x = in-chain (next s) (f j) (l j) b p in
-          let y = in-chain (next s) (f k) (l k) b r in
-          absurd (S .table .apart j k hj hk ne (x .0) (y .0) (x .1) (y .1) (sym (x .2) ∙ y .2))
+          let x = in-chain (next s) (firstBlock s a) (heldAt s a) b p in
+          let y = in-chain (next s) (firstBlock s c) (heldAt s c) b r in
+          absurd (S .table .apart a c E F ne (x .0) (y .0) (x .1) (y .1) (sym (x .2) ∙ y .2))
 
-  -- by names: two files, and a file and the root
-  module _ (name : List ℕ) (there : fileSlot s (root s) name ≢ 0) (b : ℕ) (mine : In b (fileBlocks s (entryOf s name))) where
-    abbrev k : ℕ
-    k = fileSlot s (root s) name
+  -- a file, in slot k of the directory d
+  module _ (a : ℕ) (E : Entry s a) (file : isFile (typeOf s a) ≡ true) where
+    pub file-holds : heldAt s a ≡ blocksOf s a
+    file-holds = file-held (typeOf s a) (blocksOf s a) file
 
-    here : In b (blocksAt s k)
-    unfolding entryOf
-    here = let w = named-slot s name there in rw (file-blocks k (w .1) (w .2)) mine
+    pub file-blocks : blocksAt s a ≡ fileBlocks s a
+    unfolding fileBlocks
+    file-blocks = ap (chain (next s) (firstBlock s a)) file-holds
 
-    pub root-owner : In b (root s) → ⊥
-    root-owner i =
-        let w = named-slot s name there in
-        let z = one-owner b 0 k (omega (arith, S .d-least)) (w .1) (rw root-blocks i) here in
-        omega (arith, w .0)
+    pub file-at : (q : ℕ) → In q (fileBlocks s a) → (x : ℕ) × (x < heldAt s a) × (q ≡ nth (next s) x (firstBlock s a))
+    unfolding fileBlocks
+    file-at q i = let r = in-chain (next s) (firstBlock s a) (blocksOf s a) q i in (r .0, omega (arith, file-holds, r .1), r .2)
 
-    pub file-owner : (other : List ℕ) → fileSlot s (root s) other ≢ 0 → In b (fileBlocks s (entryOf s other)) → name ≡ other
-    unfolding entryOf
-    file-owner other too i =
-        let w = named-slot s name there in
-        let v = named-slot s other too in
-        let q : k ≡ fileSlot s (root s) other = one-owner b k (fileSlot s (root s) other) (w .1) (v .1) here (rw (file-blocks (fileSlot s (root s) other) (v .1) (v .2)) i) in
-        sym (named-name s name there) ∙ ap (λ (j : ℕ). nameOf s (slotAt (root s) j)) q ∙ named-name s other too
+    pub file-above : (q : ℕ) → In q (fileBlocks s a) → tableBlocks n < q
+    file-above q i = let r = file-at q i in rw (r .2) (held-above a E (r .0) (r .1))
 
--- the free blocks are as many as the header tells
+    pub file-below : (q : ℕ) → In q (fileBlocks s a) → q < n
+    file-below q i = let r = file-at q i in rw (r .2) (held-below a E (r .0) (r .1))
+
+    pub file-used : (q : ℕ) → In q (fileBlocks s a) → next s q ≢ 0
+    file-used q i = let r = file-at q i in rw (r .2) (held-used a E (r .0) (r .1))
+
+    pub file-apart : (c : ℕ) → Entry s c → c ≢ a → (x : ℕ) → x < heldAt s c → In (nth (next s) x (firstBlock s c)) (fileBlocks s a) → ⊥
+    file-apart c F ne x g i = let r = file-at (nth (next s) x (firstBlock s c)) i in held-apart c F x g a E ne (r .0) (r .1) (r .2)
+
+    pub file-chained : chainOk (next s) n (firstBlock s a) (blocksOf s a) ≡ true
+    file-chained = subst (λ (b : ℕ). chainOk (next s) n (firstBlock s a) b ≡ true) file-holds (chainOk-join (next s) n (firstBlock s a) (heldAt s a) (S .table .right a E))
+
+    -- a file is no self entry
+    pub file-no-self : (d : ℕ × ℕ) → In d (dirs s) → a ≢ 512 * d .0
+    file-no-self d di q =
+        let z : typeOf s a ≡ 1 = ap (typeOf s) q ∙ right-dir s S d di .1 .self-type in
+        let w = within-split 0x60 0x9F (typeOf s a) file in
+        omega arith
+
+-- the free blocks are as many as the header says
 pub free-count : (s : List ℕ) → Sound s → length (freeBlocks (next s) (blockCount s)) ≡ be32 s 24
 unfolding freeBlocks occupied
 free-count s S = let a = select-split (λ b. eqb (next s b) 0) (blockCount s) 0 in let b = S .free-is in omega arith

@@ -5,7 +5,7 @@ use mathlib.Core.List.{List, [], _∷_, _++_, append-assoc, append-nil}
 use mathlib.Core.Path.{_≡_, refl, sym, _∙_, subst, ap}
 use native.Mathlib.Omega.{arith}
 use lib.Dec.{eqb}
-use lib.ListN.{length, getD, set, replicate, length-set}
+use lib.ListN.{length, getD, set, length-set}
 use lib.Seq.{append-snoc, getD-set-other, getD-set-same}
 use borrow.Author.Tests.{eqb-false, eqb-true}
 use Rattle.layout.specs.Lists.{interval, every, has, distinct, joined}
@@ -23,9 +23,8 @@ use Rattle.layout.proofs.Laws.Tests.{and-split, true-not-false, is-fals
 pub record Marked (m os : List ℕ) : Type 0 where
   pub at : (x : ℕ) → eqb (getD m x 0) 0 ≡ not (has eqb x os)
 
-pub marked-none : (k : ℕ) → Marked (replicate k 0) []
-unfolding zeros
-marked-none k = record { at = λ x. rw (getD-zeros k x) }
+pub marked-zeros : (k : ℕ) → Marked (zeros k) []
+marked-zeros k = record { at = λ x. rw (getD-zeros k x) }
 
 has-snoc : (x b : ℕ) (os : List ℕ) → has eqb x (os ++ (b ∷ [])) ≡ has eqb x os || eqb x b
 has-snoc x b [] = or-false (eqb x b)

@@ -7,15 +7,15 @@ use native.Mathlib.Nat.{le-of-suc-le-suc, not-suc-le-zero, suc-ne-zero}
 use native.Mathlib.Numerals.{add-one}
 use native.Mathlib.Omega.{arith}
 use lib.Dec.{eqb}
-use lib.ListN.{length, getD, drop, replicate, length-drop}
+use lib.ListN.{length, getD, take, drop, replicate, length-drop}
 use lib.Seq.{drop-cons, drop-length}
 use borrow.Author.Tests.{le-leb, lt-leb, ne-eqb}
 use Rattle.layout.specs.Limits.{maxName}
 use Rattle.layout.specs.Lists.{every, same}
 use Rattle.layout.specs.Bytes.{zeros}
-use Rattle.layout.specs.Directory.{nameByte, goodName, unpadded}
+use Rattle.layout.specs.Directory.{slash, nameByte, goodName, unpadded}
 use Rattle.layout.specs.Walks.Entries.{fieldOk, allZero}
-use Rattle.layout.proofs.Laws.Names.{same-eq, same-refl, same-append, take-unpadded, unpadded-most, unpadded-bytes, goodName-split}
+use Rattle.layout.proofs.Laws.Names.{same-eq, same-refl, same-append, take-unpadded, goodName-split}
 use Rattle.layout.proofs.Laws.Tests.{and-split, is-false}
 
 pub same-lengths : (a b : List ℕ) → (length a ≡ length b → ⊥) → same a b ≡ false
@@ -56,18 +56,21 @@ module _ (f : List ℕ) (i : ℕ) (h : i < length f) where
   pub unpadded-next : (getD f i 0 ≡ 0 → ⊥) → unpadded (drop i f) ≡ getD f i 0 ∷ unpadded (drop (i + 1) f)
   unpadded-next z = rw (drop-cons f i 0 h, add-one) (nonzero (getD f i 0) (drop (suc i) f) z)
 
-module _ (f : List ℕ) where
-  pub fieldOk-empty : length (unpadded f) ≡ 0 → fieldOk f ≡ false
-  unfolding fieldOk goodName
-  fieldOk-empty e = rw (lt-leb 1 (length (unpadded f)) (omega arith))
+module _ (f : List ℕ) (k : ℕ) (ek : k ≡ length (unpadded f)) where
+  name-part : take k f ≡ unpadded f
+  name-part = rw (ek, take-unpadded f)
 
-  pub fieldOk-rest : length f ≡ 80 → (length (unpadded f) ≡ 0 → ⊥) → fieldOk f ≡ allZero (drop (length (unpadded f)) f)
-  unfolding fieldOk goodName zeros
+  pub fieldOk-bad : false ≡ goodName (take k f) → false ≡ fieldOk f
+  unfolding fieldOk
+  fieldOk-bad h = rw (← name-part, ← h)
+
+  pub fieldOk-rest : length f ≡ 80 → true ≡ goodName (take k f) → allZero (drop k f) ≡ fieldOk f
+  unfolding fieldOk zeros
   fieldOk-rest e h =
-      let m = unpadded-most f in
+      let g : goodName (unpadded f) ≡ true = rw (← name-part) (sym h) in
+      let l = goodName-split (unpadded f) g in
       let r : 80 - length (unpadded f) ≡ length (drop (length (unpadded f)) f) = simp length-drop (omega arith) in
-      rw (le-leb 1 (length (unpadded f)) (omega arith), le-leb (length (unpadded f)) maxName (omega arith), unpadded-bytes f)
-      (same-append f (unpadded f) (replicate (80 - length (unpadded f)) 0) (omega arith) ∙ rw (take-unpadded f, same-refl (unpadded f), r, allZero-same))
+      rw (ek, g) (sym (same-append f (unpadded f) (replicate (80 - length (unpadded f)) 0) (omega arith) ∙ rw (take-unpadded f, same-refl (unpadded f), r, allZero-same)))
 
 -- a good name
 module _ (name : List ℕ) where
@@ -86,8 +89,12 @@ module _ (name : List ℕ) where
   pub nameBytes-zero : (i : ℕ) → i < length name → getD name i 0 ≡ 0 → every nameByte (drop i name) ≡ false
   nameBytes-zero i h z = rw (drop-cons name i 0 h, z)
 
-  pub nameBytes-next : (i : ℕ) → i < length name → (getD name i 0 ≡ 0 → ⊥) → every nameByte (drop i name) ≡ every nameByte (drop (i + 1) name)
-  nameBytes-next i h z = rw (drop-cons name i 0 h, ne-eqb (getD name i 0) 0 z, add-one)
+  pub nameBytes-slash : (i : ℕ) → i < length name → getD name i 0 ≡ slash → every nameByte (drop i name) ≡ false
+  nameBytes-slash i h z = rw (drop-cons name i 0 h, z)
+
+  pub nameBytes-next : (i : ℕ) → i < length name → (getD name i 0 ≡ 0 → ⊥) → (getD name i 0 ≡ slash → ⊥)
+      → every nameByte (drop i name) ≡ every nameByte (drop (i + 1) name)
+  nameBytes-next i h z w = rw (drop-cons name i 0 h, ne-eqb (getD name i 0) 0 z, ne-eqb (getD name i 0) slash w, add-one)
 
   pub nameBytes-end : (i : ℕ) → i ≡ length name → every nameByte (drop i name) ≡ true
   nameBytes-end i e = rw (e, drop-length name)

@@ -2,7 +2,7 @@
 use Prim.Native.Nat.{ℕ, _+_, _-_, _*_, _/_, _≤_, _<_}
 use mathlib.Core.Bool.{Bool, true, false}
 use mathlib.Core.List.{List}
-use mathlib.Core.Path.{_≡_, refl, sym, _∙_}
+use mathlib.Core.Path.{_≡_, refl, sym, ap, _∙_, subst}
 use native.Mathlib.Omega.{arith}
 use lib.Dec.{eqb, leb}
 use lib.ListN.{length}
@@ -10,17 +10,21 @@ use lib.Seq.{take-take}
 use borrow.Author.Tests.{eq-eqb, eqb-true, le-leb, leb-true, lt-leb, ne-eqb}
 use Rattle.layout.specs.Limits.{minBlocks, maxBlocks}
 use Rattle.layout.specs.Lists.{within}
-use Rattle.layout.specs.Refusals.{require}
-use Rattle.layout.specs.Bytes.{be32, part}
-use Rattle.layout.specs.Geometry.{blockCount}
+use Rattle.layout.specs.Refusals.{require, firstOf}
+use Rattle.layout.specs.Bytes.{be32, part, zeros}
+use Rattle.layout.specs.Geometry.{blockCount, tableBlocks}
 use Rattle.layout.specs.Table.{next, occupied}
-use Rattle.layout.specs.Check.{stage1, stage2, stage3, stage4, stage5, stage6, stage7, check}
-use Rattle.layout.specs.Walks.Chains.{walked, allOnes, restFree, countUsed}
+use Rattle.layout.specs.Check.{stage1, stage2, stage3, visitRoot, faultOf, stage6, stage7, check}
+use Rattle.layout.specs.Walks.Chains.{countUsed}
 use Rattle.layout.specs.Walks.Shapes.{Shape}
-use Rattle.layout.specs.Walks.Stages.{followFiles, followTable, headerOk, countsOk, headStage, filesStage, bodyStage}
+use Rattle.layout.specs.Walks.Stages.{Seen, visited, walkRoot, followTable, headerOk, countsOk, headStage, tableStage, bodyStage}
 use Rattle.layout.proofs.Laws.Bytes.{be32-part}
-use Rattle.layout.proofs.Laws.Tests.{and-split}
+use Rattle.layout.proofs.Laws.Tests.{and-split, firstOf-refused}
+use Rattle.layout.proofs.Laws.Visits.{Tree, dirBlocks, tree, visit-tree}
+use Rattle.layout.proofs.Walks.Marks.{Marked}
+use Rattle.layout.proofs.Walks.Owned.{stage6-tied}
 use Rattle.layout.proofs.Walks.Shapes.{shape-blockCount}
+use Rattle.layout.proofs.Walks.Tree.{visit-tied}
 
 -- 1
 module _ (s : List ℕ) where
@@ -86,21 +90,6 @@ stage7-counts s n used h e =
     let z : blockCount s ≡ n = shape-blockCount s n h in
     rw (be32-part s 0 512 20 (omega arith), be32-part s 0 512 24 (omega arith), e, z)
 
--- 6
-module _ (s : List ℕ) (t n : ℕ) (ds : List ℕ) (d : ℕ) (m m′ : List ℕ) where
-  pub followTable-chains : walked false m′ ≡ followFiles s n ds 1 (4 * d - 2) m → followTable s t n ds d m ≡ false
-  unfolding followTable
-  followTable-chains e = rw (← e)
-
-  module _ (e : walked true m′ ≡ followFiles s n ds 1 (4 * d - 2) m) where
-    pub followTable-ones : false ≡ allOnes (next s) 0 (t + 1) → followTable s t n ds d m ≡ false
-    unfolding followTable
-    followTable-ones h = rw (← e, ← h)
-
-    pub followTable-rest : true ≡ allOnes (next s) 0 (t + 1) → followTable s t n ds d m ≡ restFree (next s) m′ (t + 1) (128 * t - (t + 1))
-    unfolding followTable
-    followTable-rest h = rw (← e, ← h)
-
 -- the two halves
 module _ (s : List ℕ) where
   pub headStage-1 : false ≡ stage1 s → headStage s ≡ 1
@@ -125,16 +114,18 @@ module _ (s : List ℕ) where
   unfolding check headStage
   check-head r e h = go (stage1 s) (stage2 s) (stage3 s) (λ z. h (e ∙ z)) ∙ sym e
     where
+      rest : ℕ
+      rest = firstOf (faultOf (visitRoot s)) (require (stage6 s) 6 (require (stage7 s) 7 0))
+
       go : (a b c : Bool) → (require a 1 (require b 2 (require c 3 0)) ≡ 0 → ⊥)
-          → require a 1 (require b 2 (require c 3 (require (stage4 s) 4 (require (stage5 s) 5 (require (stage6 s) 6 (require (stage7 s) 7 0))))))
-          ≡ require a 1 (require b 2 (require c 3 0))
+          → require a 1 (require b 2 (require c 3 rest)) ≡ require a 1 (require b 2 (require c 3 0))
       go true true true z = absurd (z refl)
       go true true false z = refl
       go true false c z = refl
       go false b c z = refl
 
   pub check-body : headStage s ≡ 0 → (check s ≡ bodyStage s) × (true ≡ stage1 s)
-  unfolding check headStage filesStage bodyStage
+  unfolding check headStage tableStage bodyStage
   check-body e = go (stage1 s) (stage2 s) (stage3 s) refl refl refl e
     where
       go : (a b c : Bool) → stage1 s ≡ a → stage2 s ≡ b → stage3 s ≡ c → require a 1 (require b 2 (require c 3 0)) ≡ 0
@@ -144,30 +135,46 @@ module _ (s : List ℕ) where
       go true false c x y w z = absurd (omega arith)
       go false b c x y w z = absurd (omega arith)
 
--- the last four stages
-module _ (s : List ℕ) where
-  pub bodyStage-4 : false ≡ stage4 s → bodyStage s ≡ 4
+-- a visit, and a walk over the table, with marks that were all 0
+pub visited-fresh : (s : List ℕ) (n : ℕ) (m₀ : List ℕ) {m₁ : List ℕ} → visited 0 m₁ ≡ walkRoot s n m₀ → m₀ ≡ zeros (length m₀) → length m₁ ≡ length m₀ → visited 0 m₁ ≡ walkRoot s n (zeros (length m₁))
+visited-fresh s n m₀ {m₁} e f k = e ∙ ap (walkRoot s n) (f ∙ ap zeros (sym k))
+
+pub table-fresh : (s : List ℕ) (t n : ℕ) (ds m : List ℕ) {r : Bool} → r ≡ followTable s t n ds m → t ≡ tableBlocks n → m ≡ zeros (length m) → r ≡ followTable s (tableBlocks n) n ds (zeros (length m))
+table-fresh s t n ds m e h f = e ∙ ap (λ (x : ℕ). followTable s x n ds m) h ∙ ap (followTable s (tableBlocks n) n ds) f
+
+-- the last four stages: the visit, then the table and the counts
+module _ (s : List ℕ) (n : ℕ) (shape : Shape s n) (r : ℕ) (m : List ℕ) (size : ℕ) (room : n ≤ size) (given : visited r m ≡ walkRoot s n (zeros size)) where
+  met-fault : r ≡ faultOf (visitRoot s)
+  met-fault = ap (λ (w : Seen). w .why) given ∙ visit-tied s n shape size room .why
+
+  pub bodyStage-fault : (r ≡ 0 → ⊥) → r ≡ bodyStage s
   unfolding bodyStage
-  bodyStage-4 h = rw (← h)
+  bodyStage-fault h = met-fault ∙ sym (firstOf-refused (faultOf (visitRoot s)) (tableStage s) (λ z. h (met-fault ∙ z)))
 
-  pub bodyStage-files : true ≡ stage4 s → bodyStage s ≡ filesStage s
-  unfolding bodyStage
-  bodyStage-files h = rw (← h)
+  module _ (z : r ≡ 0) where
+    table-tree : Tree s n
+    table-tree = subst (Tree s) (shape-blockCount s n shape) (tree s (sym met-fault ∙ z))
 
-  pub filesStage-5 : false ≡ stage5 s → filesStage s ≡ 5
-  unfolding filesStage
-  filesStage-5 h = rw (← h)
+    dirs-marked : Marked m (dirBlocks s)
+    dirs-marked =
+        let q : n ≡ blockCount s = sym (shape-blockCount s n shape) in
+        subst (λ (w : Seen). Marked (w .marks) (dirBlocks s)) (sym given) (visit-tied s n shape size room .marks (dirBlocks s) (visit-tree s (subst (Tree s) q table-tree)))
 
-  module _ (h₅ : true ≡ stage5 s) where
-    pub filesStage-6 : false ≡ stage6 s → filesStage s ≡ 6
-    unfolding filesStage
-    filesStage-6 h = rw (← h₅, ← h)
+    table-stage : (ok : Bool) (more : ℕ) → n ≤ more → ok ≡ followTable s (tableBlocks n) n m (zeros more) → ok ≡ stage6 s
+    table-stage ok more enough e = e ∙ stage6-tied s n m shape table-tree dirs-marked more enough
 
-    module _ (h₆ : true ≡ stage6 s) where
-      pub filesStage-7 : false ≡ stage7 s → filesStage s ≡ 7
-      unfolding filesStage
-      filesStage-7 h = rw (← h₅, ← h₆, ← h)
+    module _ (ok : Bool) (more : ℕ) (enough : n ≤ more) (e : ok ≡ followTable s (tableBlocks n) n m (zeros more)) where
+      body-table : bodyStage s ≡ require ok 6 (require (stage7 s) 7 0)
+      unfolding bodyStage tableStage
+      body-table =
+          let q : faultOf (visitRoot s) ≡ 0 = sym met-fault ∙ z in
+          rw (q, ← table-stage ok more enough e)
 
-      pub filesStage-0 : true ≡ stage7 s → filesStage s ≡ 0
-      unfolding filesStage
-      filesStage-0 h = rw (← h₅, ← h₆, ← h)
+      pub bodyStage-6 : ok ≡ false → 6 ≡ bodyStage s
+      bodyStage-6 h = sym (body-table ∙ rw h)
+
+      pub bodyStage-7 : ok ≡ true → false ≡ stage7 s → 7 ≡ bodyStage s
+      bodyStage-7 h g = sym (body-table ∙ rw (h, ← g))
+
+      pub bodyStage-0 : ok ≡ true → true ≡ stage7 s → 0 ≡ bodyStage s
+      bodyStage-0 h g = sym (body-table ∙ rw (h, ← g))

@@ -1,13 +1,12 @@
 -- The loops over a directory's slots, from slot k on.
 use Prim.Native.Nat.{ℕ, _+_, _*_, _/_, _%_, _<_}
 use mathlib.Core.Bool.{Bool, cond, _&&_}
-use mathlib.Core.List.{List, map}
+use mathlib.Core.List.{List}
 use mathlib.Core.Path.{_≡_}
 use lib.Dec.{eqb}
 use lib.ListN.{getD}
-use Rattle.layout.specs.Lists.{interval, every, has, distinct, same, select, lowest}
-use Rattle.layout.specs.Directory.{slotAt, typeOf, isFree, isFile, nameOf}
-use Rattle.layout.specs.Check.{slotOk}
+use Rattle.layout.specs.Lists.{interval, every, same, lowest}
+use Rattle.layout.specs.Directory.{slotAt, typeOf, isFree, nameOf}
 
 -- b is the block of slot k, and j slots from k on stand before the end slot
 pub record Place (ds : List ℕ) (d b k j : ℕ) : Type 0 where
@@ -22,19 +21,9 @@ entryAt b k = 512 * b + 128 * (k % 4)
 unfoldable pub slotBlock : (ℕ → ℕ) → ℕ → ℕ → ℕ
 slotBlock v b k = cond (eqb (k % 4) 0) (v b) b
 
--- of the slots k to k + j − 1 of a directory: each is free or a good file; a file has the name; no two files have the same; the files' chains
-unfoldable pub slotsOk : List ℕ → List ℕ → ℕ → ℕ → Bool
-slotsOk s ds k j = every (λ x. slotOk s (slotAt ds x)) (interval k j)
-
-unfoldable pub nameIn : List ℕ → List ℕ → List ℕ → ℕ → ℕ → Bool
-nameIn s ds name k j = has same name (map (λ x. nameOf s (slotAt ds x)) (select (λ x. isFile (typeOf s (slotAt ds x))) (interval k j)))
-
-unfoldable pub namesApart : List ℕ → List ℕ → ℕ → ℕ → Bool
-namesApart s ds k j = distinct same (map (λ x. nameOf s (slotAt ds x)) (select (λ x. isFile (typeOf s (slotAt ds x))) (interval k j)))
-
--- the tests that a search makes of an entry: a file of the name; a free slot
-abbrev pub fileNamed : List ℕ → List ℕ → ℕ → Bool
-fileNamed s name e = isFile (typeOf s e) && same (nameOf s e) name
+-- the tests that a search makes of an entry: its type passes, and it has the name; a free slot
+abbrev pub entryNamed : (ℕ → Bool) → List ℕ → List ℕ → ℕ → Bool
+entryNamed type s name e = type (typeOf s e) && same (nameOf s e) name
 
 abbrev pub slotFree : List ℕ → ℕ → Bool
 slotFree s e = isFree (typeOf s e)
@@ -42,6 +31,10 @@ slotFree s e = isFree (typeOf s e)
 -- the lowest of the slots k to k + j − 1 whose entry passes a test, or 0
 unfoldable pub slotFrom : (ℕ → Bool) → List ℕ → ℕ → ℕ → ℕ
 slotFrom test ds k j = lowest (λ x. test (slotAt ds x)) (interval k j)
+
+-- the slots k to k + j − 1 are free
+unfoldable pub allFree : List ℕ → List ℕ → ℕ → ℕ → Bool
+allFree s ds k j = every (λ x. isFree (typeOf s (slotAt ds x))) (interval k j)
 
 -- k is the slot x that a search gives, 0 if there is none; b is its block, 0 if there is none
 pub record Stands (ds : List ℕ) (n x k b : ℕ) : Type 0 where

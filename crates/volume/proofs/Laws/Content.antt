@@ -1,182 +1,146 @@
--- Reads give the bytes last written, other files stay, a new file is empty, and a deleted one is not found.
-use Prim.Native.Nat.{ℕ, _+_, _-_, _*_, _≤_, _<_, min, max}
-use mathlib.Core.Logic.{_≢_}
-use mathlib.Core.Path.{_≡_, sym, _∙_, refl}
-use mathlib.Core.Bool.{true}
-use mathlib.Core.List.{List, []}
-use native.Mathlib.Omega.{arith}
-use borrow.Author.Tests.{eq-eqb, ne-eqb, le-leb}
+-- Changes of files by paths: the files of all other paths stay, and every answer about them.
+use Prim.Native.Nat.{ℕ, suc, _-_}
+use mathlib.Core.Path.{_≡_, refl, sym, _∙_}
+use mathlib.Core.Bool.{Bool, true, false, _&&_}
+use mathlib.Core.List.{List}
+use mathlib.Core.Logic.{_⊎_, inl, inr, _≢_}
 use lib.ListN.{length}
-use Rattle.layout.specs.Looks.{entryOf, nameRefusal, lookupRefusal, readRefusal, read}
-use Rattle.layout.specs.Directory.{slotAt, typeOf, sizeOf, isFile, fileSlot, freeSlot, root, content}
-use Rattle.layout.specs.Bytes.{part, splice}
+use lib.Dec.{leb}
+use borrow.Author.Tests.{leb-true}
+use Rattle.layout.specs.Limits.{maxLevels, maxDirectory}
+use Rattle.layout.specs.Lists.{same, within}
+use Rattle.layout.specs.Geometry.{blockCount}
+use Rattle.layout.specs.Table.{next, freeBlocks}
+use Rattle.layout.specs.Directory.{slotAt, typeOf, isFile, isDirectory, nameOf, directory, dirs, freeSlot}
 use Rattle.layout.specs.Check.{check}
-use Rattle.volume.specs.Entries.{entryBytes}
-use Rattle.volume.specs.Create.{createSlot}
-use Rattle.volume.specs.Change.{create, write, delete, refusal, after, slotGiven, Change}
+use Rattle.layout.specs.Paths.{parts, pathOk, leading, lastPart, shallow, home, pathSlot, entryOf, fileRefusal}
+use Rattle.volume.specs.Create.{createRefusal, createImage, placeRefusal}
+use Rattle.volume.specs.Write.{writeAt, writeRefusal}
+use Rattle.volume.specs.Delete.{deleteAt}
+use Rattle.volume.specs.Entries.{directoryMade}
+use Rattle.volume.specs.Directories.{createDirectoryRefusal, newDirectoryBlocks, createDirectoryImage, createDirectoryNamed}
+use Rattle.volume.specs.Change.{createDirectory, refusal, after, named}
+use Rattle.volume.proofs.Laws.CreateDirectory.{made-untouched}
+use Rattle.volume.proofs.Laws.Framed.{frame}
+use Rattle.volume.proofs.Laws.Places.{path-levels, file-at-path, write-given, path-name, place-is, place-home, place-free, place-new, place-there}
+use Rattle.volume.proofs.Laws.Write.{written-file, written-slot, written-next, written-block}
+use Rattle.volume.proofs.Laws.Delete.{deleted-slot, deleted-type, deleted-next, deleted-block}
+use Rattle.volume.proofs.Laws.Create.{created-slot, created-no-dir, created-name, created-next, created-block}
+use Rattle.layout.proofs.Laws.Tests.{and-split, is-false, true-not-false, require-zero, firstOf-zero, within-split}
+use Rattle.layout.proofs.Laws.Names.{same-eq}
+use Rattle.layout.proofs.Laws.Lists.{In}
+use Rattle.layout.proofs.Laws.Sound.{Sound, sound}
+use Rattle.layout.proofs.Laws.Owners.{file-no-dir}
 use Rattle.layout.specs.Claims.{Untouched}
-use Rattle.volume.specs.Claims.{subject, Written}
-use Rattle.volume.proofs.Laws.Create.{created-bytes, created-name, created-content, created-others, created-found}
-use Rattle.volume.proofs.Laws.Accepted.{CreateGiven, create-given, WriteGiven, write-given}
-use Rattle.volume.proofs.Laws.Sound.{kept}
-use Rattle.volume.proofs.Laws.Delete.{deleted-others, deleted-type}
-use Rattle.volume.proofs.Laws.Write.{written-others, written-file}
-use Rattle.layout.proofs.Laws.Bytes.{splice-whole, part-splice}
-use Rattle.layout.proofs.Laws.Sound.{dirSize, Sound, sound}
-use Rattle.layout.proofs.Laws.Files.{named-slot, named-name, free-slot, file-of, length-content}
-use Rattle.layout.proofs.Laws.Looks.{file-given, good-given}
-use Rattle.layout.proofs.Laws.Others.{Others, found-same, found-gone, only-name, untouched, not-named, not-file}
+use Rattle.layout.proofs.Laws.Others.{untouched}
+use Rattle.layout.proofs.Laws.Ways.{other-path}
 
-module _ (s : List ℕ) (ok : check s ≡ 0) where
+-- a path of more than 8 directories names no file
+deep-untouched : (s s′ other : List ℕ) → shallow (leading (parts other)) ≡ false → Untouched s s′ other
+deep-untouched s s′ other f =
+    record {
+      slot = λ h. absurd (true-not-false h f);
+      entry = λ r. absurd (true-not-false (r .0) f);
+      bytes = λ r. absurd (true-not-false (r .0) f);
+      blocks = λ r. absurd (true-not-false (r .0) f);
+      contents = λ r. absurd (true-not-false (r .0) f);
+    }
+
+-- the entry of a path is no file of another path's name
+beside : (s t : List ℕ) (e : ℕ) (path other : List ℕ) → nameOf t e ≡ lastPart (parts path) → (home s other ≢ home s path) ⊎ (lastPart (parts other) ≢ lastPart (parts path))
+    → (home s other ≢ home s path) ⊎ ((isFile (typeOf t e) && same (nameOf t e) (lastPart (parts other))) ≡ false)
+beside s t e path other q (inl ne) = inl ne
+beside s t e path other q (inr ne) = inr (is-false _ (λ y. ne (sym (same-eq (nameOf t e) (lastPart (parts other)) (and-split (isFile (typeOf t e)) _ y .1)) ∙ q)))
+
+no-file : (t : List ℕ) (e : ℕ) (name : List ℕ) → typeOf t e ≡ 0 → (isFile (typeOf t e) && same (nameOf t e) name) ≡ false
+no-file t e name z = rw z
+
+module _ (s path other : List ℕ) (ok : check s ≡ 0) (good : pathOk other ≡ true) (ne : other ≢ path) where
   S : Sound s
   S = sound s ok
 
-  -- write
-  module _ (name : List ℕ) (offset : ℕ) (bytes : List ℕ) (time : ℕ) (r : refusal s (write name offset bytes time) ≡ 0) where
-    abbrev write-slot : ℕ
-    write-slot = fileSlot s (root s) name
+  by-depth : (s′ : List ℕ) → (shallow (leading (parts other)) ≡ true → Untouched s s′ other) → Untouched s s′ other
+  by-depth s′ f = go (shallow (leading (parts other))) refl
+    where
+      go : (w : Bool) → shallow (leading (parts other)) ≡ w → Untouched s s′ other
+      go true v = f v
+      go false v = deep-untouched s s′ other v
 
-    abbrev written : List ℕ
-    written = after s (write name offset bytes time)
+  pub write-untouched : (offset : ℕ) (bytes : List ℕ) (time : ℕ) → writeRefusal s path offset (length bytes) ≡ 0 → Untouched s (writeAt s (entryOf isFile s path) offset bytes time) other
+  unfolding entryOf
+  write-untouched offset bytes time r = by-depth (writeAt s (entryOf isFile s path) offset bytes time) λ v.
+      let G = write-given s path offset (length bytes) r in
+      let A = G .there in
+      let N = A .named in
+      let d : ℕ × ℕ = (home s path, A .level) in
+      let k : ℕ = pathSlot isFile s path in
+      let e : ℕ = slotAt (directory s (home s path)) k in
+      let W = written-file s S d (A .home-in) k (N .low) (N .high) (N .typed) offset bytes time (G .room) (G .within-size) in
+      let p = other-path s S path other (A .good) good (A .short) v (A .there) ne in
+      untouched s (writeAt s e offset bytes time) S d (A .home-in) k (N .low) (N .high)
+      (written-slot s S d (A .home-in) k (N .low) (N .high) (N .typed) offset bytes time (G .room))
+      (file-no-dir (typeOf s e) (N .typed)) (rw (W .type) (file-no-dir (typeOf s e) (N .typed)))
+      (written-next s S d (A .home-in) k (N .low) (N .high) (N .typed) offset bytes time (G .room))
+      (written-block s S d (A .home-in) k (N .low) (N .high) (N .typed) offset bytes time (G .room))
+      other (beside s s e path other (N .named) p) (beside s (writeAt s e offset bytes time) e path other (W .name ∙ N .named) p)
 
-    write-has : WriteGiven s name offset (length bytes)
-    unfolding refusal
-    write-has = write-given s name offset (length bytes) r
+  pub delete-untouched : fileRefusal s path ≡ 0 → Untouched s (deleteAt s (entryOf isFile s path)) other
+  unfolding entryOf
+  delete-untouched r = by-depth (deleteAt s (entryOf isFile s path)) λ v.
+      let A = file-at-path s path r in
+      let N = A .named in
+      let d : ℕ × ℕ = (home s path, A .level) in
+      let k : ℕ = pathSlot isFile s path in
+      let e : ℕ = slotAt (directory s (home s path)) k in
+      let z = deleted-type s S d (A .home-in) k (N .low) (N .high) (N .typed) in
+      let p = other-path s S path other (A .good) good (A .short) v (A .there) ne in
+      untouched s (deleteAt s e) S d (A .home-in) k (N .low) (N .high)
+      (deleted-slot s S d (A .home-in) k (N .low) (N .high) (N .typed))
+      (file-no-dir (typeOf s e) (N .typed)) (rw z)
+      (deleted-next s S d (A .home-in) k (N .low) (N .high) (N .typed))
+      (λ a E q f x g. deleted-block s S d (A .home-in) k (N .low) (N .high) (N .typed) a E q x g f)
+      other (beside s s e path other (N .named) p) (inr (no-file (deleteAt s e) e (lastPart (parts other)) z))
 
-    write-place : (1 ≤ fileSlot s (root s) name) × (fileSlot s (root s) name < 4 * dirSize s - 1) × (isFile (typeOf s (slotAt (root s) (fileSlot s (root s) name))) ≡ true)
-    write-place = named-slot s name (write-has .there)
+  pub create-untouched : (type user group permissions flags time : ℕ) → createRefusal s path type ≡ 0 → Untouched s (createImage s path type user group permissions flags time) other
+  unfolding createRefusal createImage
+  create-untouched type user group permissions flags time r = by-depth (createImage s path type user group permissions flags time) λ v.
+      let a = require-zero (pathOk path && isFile type) 8 _ r in
+      let b = and-split (pathOk path) (isFile type) (a .0) in
+      let h = require-zero (shallow (leading (parts path))) 16 _ (a .1) in
+      let w = place-free s path (h .1) in
+      let d : ℕ × ℕ = (home s path, maxLevels - length (leading (parts path))) in
+      let di = place-home s path (h .1) (h .0) in
+      let k : ℕ = freeSlot s (directory s (home s path)) in
+      let e : ℕ = slotAt (directory s (home s path)) k in
+      let name : List ℕ = lastPart (parts path) in
+      let gn = path-name path (b .0) in
+      let new = place-new s path (h .1) in
+      let p = other-path s S path other (b .0) good (h .0) v (place-there s path (h .1)) ne in
+      rw (place-is s path (h .1))
+      (untouched s _ S d di k (w .0) (w .1)
+      (created-slot s S d di k (w .0) (w .1) (w .2) name gn new type user group permissions flags time (b .1))
+      (rw (w .2)) (created-no-dir s S d di k (w .0) (w .1) (w .2) name gn new type user group permissions flags time (b .1))
+      (λ x E q. created-next s S d di k (w .0) (w .1) (w .2) name gn new type user group permissions flags time (b .1) x E)
+      (λ x E q f y g. created-block s S d di k (w .0) (w .1) (w .2) name gn new type user group permissions flags time (b .1) x E y g f)
+      other (inr (no-file s e (lastPart (parts other)) (w .2)))
+      (beside s _ e path other (created-name s S d di k (w .0) (w .1) (w .2) name gn new type user group permissions flags time (b .1)) p))
 
-    -- the file, by its entry: content, size, blocks and fields
-    pub write-entry : Written s written (entryOf s name) offset bytes time
-    unfolding after entryOf
-    write-entry = written-file s S write-slot (write-place .0) (write-place .1) (write-place .2) offset bytes time (write-has .room) (write-has .within-size)
-
-    pub write-others : Others s written write-slot
-    unfolding after entryOf
-    write-others = written-others s S write-slot (write-place .0) (write-place .1) (write-place .2) offset bytes time (write-has .room)
-
-    -- all names are found where they were
-    pub write-found : (other : List ℕ) → fileSlot written (root written) other ≡ fileSlot s (root s) other
-    unfolding entryOf
-    write-found other = found-same s written write-slot (write-place .0) (write-place .1) write-others other (rw (write-entry .type, write-entry .name))
-
-    pub write-entry-same : entryOf written name ≡ entryOf s name
-    unfolding entryOf
-    write-entry-same = rw (write-found name, write-others .rooted)
-
-    pub write-content : content written (entryOf written name) ≡ splice (content s (entryOf s name)) offset bytes
-    write-content = rw write-entry-same (write-entry .contents)
-
-    pub write-untouched : (other : List ℕ) → other ≢ name → Untouched s written other
-    unfolding entryOf
-    write-untouched other ne =
-        let q = named-name s name (write-has .there) in
-        untouched s written write-slot (write-place .0) (write-place .1) write-others other (not-named s (slotAt (root s) write-slot) name other q ne) (not-named written (slotAt (root s) write-slot) name other (write-entry .name ∙ q) ne)
-
-    -- a buffer as long as the data, read where it was written
-    module _ (buffer : List ℕ) (l : length buffer ≡ length bytes) where
-      size : sizeOf written (entryOf written name) ≡ max (sizeOf s (entryOf s name)) (offset + length bytes)
-      size = rw write-entry-same (write-entry .size)
-
-      found : fileSlot written (root written) name ≢ 0
-      found = rw (write-found name) (write-has .there)
-
-      accepted : readRefusal written name offset ≡ 0
-      unfolding readRefusal lookupRefusal nameRefusal
-      accepted = rw (kept s (write name offset bytes time) ok r, write-has .good, ne-eqb (fileSlot written (root written) name) 0 found, le-leb offset (sizeOf written (entryOf written name)) (omega (arith, size)))
-
-      there : part (content written (entryOf written name)) offset (length bytes) ≡ bytes
-      there =
-          rw write-content
-          (part-splice (content s (entryOf s name)) offset bytes (length bytes) refl (omega (arith, length-content s S (entryOf s name) (file-of s S name (write-has .there)), write-has .within-size)))
-
-      pub read-back : read written name offset buffer ≡ record { number = 0; count = length bytes; buffer = bytes }
-      unfolding read
-      read-back =
-          let c : min (length buffer) (sizeOf written (entryOf written name) - offset) ≡ length bytes = omega (arith, size) in
-          rw (accepted, c, there, splice-whole buffer bytes (sym l))
-
-  -- delete
-  module _ (name : List ℕ) (r : refusal s (delete name) ≡ 0) where
-    abbrev delete-slot : ℕ
-    delete-slot = fileSlot s (root s) name
-
-    abbrev deleted : List ℕ
-    deleted = after s (delete name)
-
-    delete-has : fileSlot s (root s) name ≢ 0
-    unfolding refusal
-    delete-has = file-given s name r
-
-    delete-place : (1 ≤ fileSlot s (root s) name) × (fileSlot s (root s) name < 4 * dirSize s - 1) × (isFile (typeOf s (slotAt (root s) (fileSlot s (root s) name))) ≡ true)
-    delete-place = named-slot s name delete-has
-
-    pub delete-others : Others s deleted delete-slot
-    unfolding after entryOf
-    delete-others = deleted-others s S delete-slot (delete-place .0) (delete-place .1) (delete-place .2)
-
-    freed-slot : typeOf deleted (slotAt (root s) delete-slot) ≡ 0
-    unfolding after entryOf
-    freed-slot = deleted-type s S delete-slot (delete-place .0) (delete-place .1) (delete-place .2)
-
-    -- the name is not found
-    pub delete-gone : fileSlot deleted (root deleted) name ≡ 0
-    delete-gone =
-        found-gone s deleted delete-slot (delete-place .0) (delete-place .1) delete-others name (only-name s S delete-slot (delete-place .0) (delete-place .1) name (delete-place .2) (named-name s name delete-has)) (not-file deleted (slotAt (root s) delete-slot) name freed-slot)
-
-    pub delete-refused : lookupRefusal deleted name ≡ 10
-    unfolding refusal lookupRefusal nameRefusal
-    delete-refused = rw (kept s (delete name) ok r, good-given s name r, eq-eqb (fileSlot deleted (root deleted) name) 0 delete-gone)
-
-    pub delete-untouched : (other : List ℕ) → other ≢ name → Untouched s deleted other
-    delete-untouched other ne =
-        untouched s deleted delete-slot (delete-place .0) (delete-place .1) delete-others other (not-named s (slotAt (root s) delete-slot) name other (named-name s name delete-has) ne) (not-file deleted (slotAt (root s) delete-slot) other freed-slot)
-
-  -- create
-  module _ (name : List ℕ) (type user group permissions flags time : ℕ) (r : refusal s (create name type user group permissions flags time) ≡ 0) where
-    abbrev create-slot : ℕ
-    create-slot = freeSlot s (root s)
-
-    abbrev created : List ℕ
-    created = after s (create name type user group permissions flags time)
-
-    create-has : CreateGiven s name type
-    unfolding refusal
-    create-has = create-given s name type r
-
-    create-place : (1 ≤ freeSlot s (root s)) × (freeSlot s (root s) < 4 * dirSize s - 1) × (typeOf s (slotAt (root s) (freeSlot s (root s))) ≡ 0)
-    create-place = free-slot s (create-has .some)
-
-    pub create-others : Others s created create-slot
-    unfolding after
-    create-others = created-others s S name type user group permissions flags time create-has
-
-    -- the slot that is given is where the name is found, and it was free
-    pub create-found : fileSlot created (root created) name ≡ slotGiven s (create name type user group permissions flags time)
-    unfolding after slotGiven createSlot
-    create-found = created-found s S name type user group permissions flags time create-has
-
-    pub create-entry-is : entryOf created name ≡ slotAt (root s) create-slot
-    unfolding entryOf slotGiven createSlot
-    create-entry-is = rw (create-found, create-others .rooted)
-
-    -- the entry's bytes, and the content
-    pub create-bytes : part created (entryOf created name) 128 ≡ entryBytes type user group permissions 0 0 0 time flags name
-    unfolding after
-    create-bytes = rw create-entry-is (created-bytes s S name type user group permissions flags time create-has)
-
-    pub create-content : content created (entryOf created name) ≡ []
-    unfolding after
-    create-content = rw create-entry-is (created-content s S name type user group permissions flags time create-has)
-
-    pub create-untouched : (other : List ℕ) → other ≢ name → Untouched s created other
-    unfolding after
-    create-untouched other ne =
-        untouched s created create-slot (create-place .0) (create-place .1) create-others other (not-file s (slotAt (root s) create-slot) other (create-place .2))
-        (not-named created (slotAt (root s) create-slot) name other (created-name s S name type user group permissions flags time create-has) ne)
-
-  -- every change leaves the files of all other names
-  pub others-untouched : (c : Change) → refusal s c ≡ 0 → (other : List ℕ) → other ≢ subject c → Untouched s (after s c) other
-  others-untouched (create name type user group permissions flags time) r other ne = create-untouched name type user group permissions flags time r other ne
-  others-untouched (write name offset bytes time) r other ne = write-untouched name offset bytes time r other ne
-  others-untouched (delete name) r other ne = delete-untouched name r other ne
+-- a directory created: the file of every path stays
+pub create-directory-untouched : (s path other : List ℕ) → check s ≡ 0 → (type user group permissions flags time d : ℕ) → createDirectoryRefusal s path type d ≡ 0
+    → Untouched s (createDirectoryImage s path type user group permissions flags time d) other
+unfolding createDirectoryRefusal createDirectoryImage newDirectoryBlocks directoryMade createDirectoryNamed after named
+create-directory-untouched s path other c type user group permissions flags time d r =
+    let a = require-zero (pathOk path && (isDirectory type && within 1 maxDirectory d)) 8 _ r in
+    let b = and-split (pathOk path) _ (a .0) in
+    let f = and-split (isDirectory type) _ (b .1) in
+    let g = within-split 1 maxDirectory d (f .1) in
+    let h = require-zero (shallow (parts path)) 16 _ (a .1) in
+    let i = firstOf-zero (placeRefusal s path) _ (h .1) in
+    let m = require-zero (leb d (length (freeBlocks (next s) (blockCount s)))) 13 _ (i .1) in
+    let l = path-levels path (b .0) (h .0) in
+    let w = place-free s path (i .0) in
+    let home-in : In (home s path, suc (maxLevels - suc (length (leading (parts path))))) (dirs s) = rw (l .1) (place-home s path (i .0) (l .0)) in
+    let framed = frame s (createDirectory path type user group permissions flags time d) c (unfold refusal in r) .agree in
+    rw (place-is s path (i .0)) (made-untouched s (sound s c) (home s path) (maxLevels - suc (length (leading (parts path)))) home-in
+    (freeSlot s (directory s (home s path))) (w .0) (w .1) (w .2) (lastPart (parts path)) (path-name path (b .0)) (place-new s path (i .0)) type user group permissions flags time (f .0)
+    d (g .0) (g .1) (leb-true _ _ (m .0)) (rw (place-is s path (i .0)) at framed) other)

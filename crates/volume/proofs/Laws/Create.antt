@@ -1,128 +1,134 @@
--- Create: the new entry; the image after it is sound, and the other files stay.
+-- Create: the new entry; the image after it is sound.
 use Prim.Native.Nat.{ℕ, _+_, _-_, _*_, _≤_, _<_}
-use mathlib.Core.Path.{_≡_, sym, ap, _∙_, refl}
-use mathlib.Core.Bool.{true, or-true}
-use mathlib.Core.List.{List, []}
+use mathlib.Core.Path.{_≡_, sym, ap, _∙_, refl, subst}
+use mathlib.Core.Bool.{true, false, _&&_, or-true}
+use mathlib.Core.List.{List}
 use mathlib.Core.Logic.{inl, inr, ⊎-elim, _≢_, _⊎_}
 use native.Mathlib.Omega.{arith}
 use lib.ListN.{length}
-use Rattle.layout.specs.Bytes.{be32, bytes4, part, splice}
-use Rattle.layout.specs.Directory.{slotAt, typeOf, blocksOf, isFree, isFile, padded, nameOf, fileSlot, freeSlot, root, sizeOf, content}
+use Rattle.layout.specs.Limits.{maxLevels}
+use Rattle.layout.specs.Bytes.{be32, bytes4, part, splice, block}
+use Rattle.layout.specs.Directory.{slotAt, typeOf, firstBlock, blocksOf, isFree, isFile, isDirectory, padded, nameOf, goodName, directory, dirs, freeSlot}
 use Rattle.layout.specs.Check.{attributesOk, fileOk, slotOk, check}
+use Rattle.layout.specs.Paths.{parts, pathOk, leading, lastPart, shallow, home}
 use Rattle.volume.specs.Entries.{entryBytes}
-use Rattle.volume.specs.Create.{createRefusal, createSlot, createImage}
+use Rattle.volume.specs.Create.{createRefusal, createImage}
 use Rattle.volume.proofs.Laws.Entries.{entry-type, entry-first, entry-size, entry-blocks, entry-attribute, entry-attribute-size, entry-named, entry-length}
-use Rattle.volume.proofs.Laws.Accepted.{create-given, CreateGiven}
-use Rattle.layout.proofs.Laws.Bytes.{length-splice, part-splice}
-use Rattle.layout.proofs.Laws.Tests.{and-join, is-false}
-use Rattle.layout.proofs.Laws.Names.{same-refl, padded-length, name-is, name-ok}
-use Rattle.layout.proofs.Laws.Frames.{same-beside, Same}
-use Rattle.layout.proofs.Laws.Sound.{held, firstAt, heldAt, dirSize, file-held, Sound, sound, check-zero}
-use Rattle.layout.proofs.Laws.Files.{slot-high, unnamed, free-slot}
-use Rattle.layout.proofs.Laws.Steps.{midway-start, midway-end}
-use Rattle.layout.proofs.Laws.Others.{Others, found-new, slot-changed}
+use Rattle.volume.proofs.Laws.Places.{path-name, place-is, place-home, place-free, place-new}
+use Rattle.layout.proofs.Laws.Bytes.{length-splice}
+use Rattle.layout.proofs.Laws.Tests.{and-split, is-false, require-zero, within-split}
+use Rattle.layout.proofs.Laws.Names.{padded-length, name-is, name-ok}
+use Rattle.layout.proofs.Laws.Lists.{In}
+use Rattle.layout.proofs.Laws.Frames.{same-beside, Same, before-next}
+use Rattle.layout.proofs.Laws.Trees.{sizeAt}
+use Rattle.layout.proofs.Laws.Sound.{heldAt, Sound, Entry, sound, check-zero}
+use Rattle.layout.proofs.Laws.Slots.{slot-entry, right-dir, entry-high, entry-low}
+use Rattle.layout.proofs.Laws.Owners.{file-held, free-held, file-no-self, held-below, entry-elsewhere, tree-apart}
+use Rattle.layout.proofs.Laws.Visits.{dirBlocks}
+use Rattle.layout.proofs.Laws.Chains.{nth}
+use Rattle.layout.proofs.Laws.Changed.{OneSlot}
+use Rattle.layout.specs.Table.{next}
+use Rattle.layout.specs.Geometry.{blockCount, rootBlock}
+use Rattle.layout.proofs.Laws.Steps.{midway-start, midway-end, one-slot}
 
-module _ (s : List ℕ) (S : Sound s) (name : List ℕ) (type user group permissions flags time : ℕ) (given : CreateGiven s name type) where
-  abbrev k : ℕ
-  k = freeSlot s (root s)
+-- a good name in a free slot k of a directory d of the tree, in which no slot has that name
+module _ (s : List ℕ) (S : Sound s) (d : ℕ × ℕ) (di : In d (dirs s)) (k : ℕ) (k₁ : 1 ≤ k) (k₂ : k < 4 * sizeAt s (d .0) - 1) (free : typeOf s (slotAt (directory s (d .0)) k) ≡ 0)
+    (name : List ℕ) (good : goodName name ≡ true)
+    (none : (j : ℕ) → 1 ≤ j → j < 4 * sizeAt s (d .0) - 1 → typeOf s (slotAt (directory s (d .0)) j) ≢ 0 → name ≢ nameOf s (slotAt (directory s (d .0)) j))
+    (type user group permissions flags time : ℕ) (file : isFile type ≡ true)
+  where
+    abbrev e : ℕ
+    e = slotAt (directory s (d .0)) k
 
-  abbrev e : ℕ
-  e = slotAt (root s) k
+    abbrev p : List ℕ
+    p = entryBytes type user group permissions 0 0 0 time flags name
 
-  abbrev p : List ℕ
-  p = entryBytes type user group permissions 0 0 0 time flags name
+    abbrev done : List ℕ
+    done = splice s e p
 
-  abbrev done : List ℕ
-  done = splice s e p
+    mine : Entry s e
+    mine = slot-entry s S d di k (omega arith)
 
-  create-is : createImage s name type user group permissions flags time ≡ done
-  unfolding createImage createSlot
-  create-is = refl
+    fits : e + 128 ≤ length s
+    fits = entry-high s S e mine
 
-  place : (1 ≤ k) × (k < 4 * dirSize s - 1) × (typeOf s e ≡ 0)
-  place = free-slot s (given .some)
+    eighty : length (padded name) ≡ 80
+    eighty = padded-length name good
 
-  fits : e + 128 ≤ length s
-  fits = slot-high s S k (omega (arith, place .1))
+    long : length p ≡ 128
+    long = entry-length name eighty type user group permissions 0 0 0 time flags
 
-  eighty : length (padded name) ≡ 80
-  eighty = padded-length name (given .good)
+    outside : (a w : ℕ) → (a + w ≤ e) ⊎ (e + 128 ≤ a) → Same s done a w
+    outside a w h = same-beside s e p (omega (arith, long, fits)) a w (⊎-elim (λ x. inl x) (λ x. inr (omega (arith, long))) h)
 
-  long : length p ≡ 128
-  long = entry-length name eighty type user group permissions 0 0 0 time flags
+    done-type : typeOf done e ≡ type
+    done-type = entry-type name eighty type user group permissions 0 0 0 time flags s e fits
 
-  outside : (a w : ℕ) → (a + w ≤ e) ⊎ (e + 128 ≤ a) → Same s done a w
-  outside a w h = same-beside s e p (omega (arith, long, fits)) a w (⊎-elim (λ x. inl x) (λ x. inr (omega (arith, long))) h)
+    field : part done (e + 48) 80 ≡ padded name
+    field = entry-named name eighty type user group permissions 0 0 0 time flags s e fits
 
-  done-length : length done ≡ length s
-  done-length = length-splice s e p (omega (arith, long, fits))
+    slot-ok : slotOk done e ≡ true
+    unfolding slotOk fileOk attributesOk be32 bytes4
+    slot-ok =
+        rw (
+          name-ok name good done e field,
+          done-type,
+          file,
+          entry-first name eighty type user group permissions 0 0 0 time flags s e fits,
+          entry-size name eighty type user group permissions 0 0 0 time flags s e fits,
+          entry-blocks name eighty type user group permissions 0 0 0 time flags s e fits,
+          entry-attribute name eighty type user group permissions 0 0 0 time flags s e fits,
+          entry-attribute-size name eighty type user group permissions 0 0 0 time flags s e fits,
+        )
+        (or-true (isFree type))
 
-  -- the entry
-  done-type : typeOf done e ≡ type
-  done-type = entry-type name eighty type user group permissions 0 0 0 time flags s e fits
+    no-self : (x : ℕ × ℕ) → In x (dirs s) → 512 * x .0 ≢ e
+    no-self x i q = let z = right-dir s S x i .1 .self-type in let w : typeOf s (512 * x .0) ≡ 0 = ap (typeOf s) q ∙ free in omega arith
 
-  field : part done (e + 48) 80 ≡ padded name
-  field = entry-named name eighty type user group permissions 0 0 0 time flags s e fits
+    no-dir : isDirectory (typeOf done e) ≡ false
+    no-dir = rw done-type (is-false (isDirectory type) (λ t. let a = within-split 0x20 0x5F type t in let b = within-split 0x60 0x9F type file in omega arith))
 
-  done-name : nameOf done e ≡ name
-  done-name = name-is name (given .good) done e field
+    held-none : heldAt s e ≡ 0
+    held-none = free-held (typeOf s e) (blocksOf s e) free
 
-  pub created-bytes : part (createImage s name type user group permissions flags time) e 128 ≡ p
-  created-bytes =
-      rw create-is
-      (part-splice s e p 128 long (omega (arith, fits)))
+    held-new : heldAt done e ≡ heldAt s e
+    unfolding be32 bytes4
+    held-new = rw (done-type, entry-blocks name eighty type user group permissions 0 0 0 time flags s e fits) (file-held type 0 file ∙ sym held-none)
 
-  pub created-name : nameOf (createImage s name type user group permissions flags time) e ≡ name
-  created-name = rw create-is done-name
+    pub created-sound : Sound done
+    created-sound =
+        midway-end s S d di k k₁ k₂ s (firstBlock s e) (heldAt s e) (midway-start s S e mine no-self) done (length-splice s e p (omega (arith, long, fits))) outside
+        (rw free) no-dir slot-ok (λ u j h g ne used q. none j h g used (sym (name-is name good done e field) ∙ q)) (λ pos. absurd (omega (arith, held-none))) held-new
 
-  pub created-content : content (createImage s name type user group permissions flags time) e ≡ []
-  unfolding content be32 bytes4
-  created-content = let z : sizeOf done e ≡ 0 = entry-size name eighty type user group permissions 0 0 0 time flags s e fits in rw (create-is, z)
+    -- every other entry stays, with its blocks
+    pub created-slot : OneSlot s (dirs s) done e
+    created-slot = one-slot s S d di k k₁ k₂ s (firstBlock s e) (heldAt s e) (midway-start s S e mine no-self) done (length-splice s e p (omega (arith, long, fits))) outside
 
-  -- the image is sound
-  slot-ok : slotOk done e ≡ true
-  unfolding slotOk fileOk attributesOk be32 bytes4
-  slot-ok =
-      rw (
-        name-ok name (given .good) done e field,
-        done-type,
-        given .file,
-        entry-first name eighty type user group permissions 0 0 0 time flags s e fits,
-        entry-size name eighty type user group permissions 0 0 0 time flags s e fits,
-        entry-blocks name eighty type user group permissions 0 0 0 time flags s e fits,
-        entry-attribute name eighty type user group permissions 0 0 0 time flags s e fits,
-        entry-attribute-size name eighty type user group permissions 0 0 0 time flags s e fits,
-      )
-      (or-true (isFree type))
+    pub created-no-dir : isDirectory (typeOf done e) ≡ false
+    created-no-dir = no-dir
 
-  none-held : heldAt s (root s) k ≡ 0
-  none-held = ap (λ (z : ℕ). held z (blocksOf s e)) (place .2)
+    pub created-name : nameOf done e ≡ name
+    created-name = name-is name good done e field
 
-  done-held : held (typeOf done e) (blocksOf done e) ≡ heldAt s (root s) k
-  unfolding be32 bytes4
-  done-held = rw (done-type, entry-blocks name eighty type user group permissions 0 0 0 time flags s e fits) (file-held type 0 (given .file) ∙ sym none-held)
+    module _ (a : ℕ) (A : Entry s a) (x : ℕ) (g : x < heldAt s a) where
+      abbrev q : ℕ
+      q = nth (next s) x (firstBlock s a)
 
-  new-name : (j : ℕ) → 1 ≤ j → j < 4 * dirSize s - 1 → isFile (typeOf s (slotAt (root s) j)) ≡ true → name ≢ nameOf s (slotAt (root s) j)
-  new-name j h g f q = unnamed s name (given .none) j h g (and-join f (rw (← q) (same-refl name)))
+      pub created-next : next done q ≡ next s q
+      created-next = before-next s done (blockCount s) (outside 0 (512 * rootBlock (blockCount s)) (inl (omega (arith, entry-low s S e mine)))) q (omega (arith, held-below s S a A x g))
 
-  pub created-sound : Sound (createImage s name type user group permissions flags time)
-  created-sound =
-      rw create-is
-      (midway-end s S k (place .0) (place .1) s (firstAt s (root s) k) (heldAt s (root s) k) (midway-start s S k (place .0) (place .1)) done done-length outside
-      slot-ok (λ t j h g ne f q. new-name j h g f (sym done-name ∙ q)) (λ pos. absurd (omega (arith, none-held))) done-held)
+      pub created-block : isFile (typeOf s a) ≡ true → block done q ≡ block s q
+      created-block f =
+          entry-elsewhere s S e mine s done refl (length-splice s e p (omega (arith, long, fits))) outside q (held-below s S a A x g)
+          (λ z. tree-apart s S a A x g (file-no-self s S a A f) (subst (λ (y : ℕ). In y (dirBlocks s)) z (mine .within-tree)))
 
-  -- the others stay, and the name is found
-  pub created-others : Others s (createImage s name type user group permissions flags time) k
-  created-others =
-      rw create-is
-      (slot-changed s S k (place .0) (place .1) s refl (λ i h. refl) (λ i h. refl) (λ j h i g. refl) (λ j h ne x g. refl) (λ j h g ne x y. refl) done done-length outside)
-
-  pub created-found : fileSlot (createImage s name type user group permissions flags time) (root (createImage s name type user group permissions flags time)) name ≡ k
-  created-found =
-      found-new s (createImage s name type user group permissions flags time) k (place .0) (place .1) created-others name
-      (λ j h g ne. is-false _ (λ t. unnamed s name (given .none) j h g t))
-      (rw (create-is, done-type, done-name) (and-join (given .file) (same-refl name)))
-
-pub kept-create : (s name : List ℕ) (type user group permissions flags time : ℕ) → check s ≡ 0 → createRefusal s name type ≡ 0
-    → check (createImage s name type user group permissions flags time) ≡ 0
-kept-create s name type user group permissions flags time c r = check-zero _ (created-sound s (sound s c) name type user group permissions flags time (create-given s name type r))
+pub kept-create : (s path : List ℕ) (type user group permissions flags time : ℕ) → check s ≡ 0 → createRefusal s path type ≡ 0
+    → check (createImage s path type user group permissions flags time) ≡ 0
+unfolding createRefusal createImage
+kept-create s path type user group permissions flags time c r =
+    let a = require-zero (pathOk path && isFile type) 8 _ r in
+    let b = and-split (pathOk path) (isFile type) (a .0) in
+    let h = require-zero (shallow (leading (parts path))) 16 _ (a .1) in
+    let w = place-free s path (h .1) in
+    rw (place-is s path (h .1)) (check-zero _ (created-sound s (sound s c) (home s path, maxLevels - length (leading (parts path))) (place-home s path (h .1) (h .0))
+    (freeSlot s (directory s (home s path))) (w .0) (w .1) (w .2) (lastPart (parts path)) (path-name path (b .0)) (place-new s path (h .1)) type user group permissions flags time (b .1)))

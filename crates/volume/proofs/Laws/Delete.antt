@@ -1,139 +1,140 @@
--- Delete: its steps, each of which frees the first block of the chain; the image after it is sound, and the other files stay.
-use Prim.Native.Nat.{ℕ, zero, suc, _+_, _-_, _*_, _≤_, _<_}
-use mathlib.Core.Path.{_≡_, refl, sym, _∙_}
-use mathlib.Core.Bool.{true}
+-- Delete, of a file: the image after it is sound, and every other entry stays.
+use Prim.Native.Nat.{ℕ, _+_, _-_, _*_, _≤_, _<_}
+use mathlib.Core.Path.{_≡_, sym, _∙_, subst}
+use mathlib.Core.Bool.{true, false, not}
 use mathlib.Core.List.{List}
 use mathlib.Core.Logic.{_⊎_, inl, inr, ⊎-elim, _≢_}
 use native.Mathlib.Omega.{arith}
 use lib.ListN.{length}
-use Rattle.layout.specs.Bytes.{zeros, splice, block}
-use Rattle.layout.specs.Geometry.{blockCount}
-use Rattle.layout.specs.Table.{next, chain}
-use Rattle.layout.specs.Directory.{slotAt, typeOf, isFile, fileSlot, root, fileBlocks}
+use lib.Dec.{eqb}
+use borrow.Author.Tests.{eqb-false, not-true}
+use Rattle.layout.specs.Limits.{maxLevels}
+use Rattle.layout.specs.Lists.{distinct}
+use Rattle.layout.specs.Bytes.{be32, zeros, splice, block}
+use Rattle.layout.specs.Geometry.{blockCount, rootBlock}
+use Rattle.layout.specs.Table.{next}
+use Rattle.layout.specs.Directory.{slotAt, typeOf, firstBlock, blocksOf, isFile, isDirectory, directory, dirs, fileBlocks}
 use Rattle.layout.specs.Check.{slotOk, check}
-use Rattle.layout.specs.Looks.{nameRefusal, entryOf}
-use Rattle.volume.specs.Entries.{released, freed}
+use Rattle.layout.specs.Paths.{parts, pathOk, leading, shallow, home, pathSlot, entryOf, fileRefusal}
+use Rattle.volume.specs.Entries.{released}
 use Rattle.volume.specs.Delete.{deleteAt}
-use Rattle.volume.proofs.Laws.Table.{released-next, freed-size, freed-same, freed-at, freed-other, freed-used, freed-free}
-use Rattle.volume.proofs.Laws.Frame.{entries-low, released-agree}
+use Rattle.volume.proofs.Laws.Release.{released-steps}
 use Rattle.layout.proofs.Laws.Bytes.{length-splice, length-zeros, splice-first}
-use Rattle.layout.proofs.Laws.Tests.{true-not-false}
-use Rattle.layout.proofs.Laws.Frames.{Same, same-then, same-beside, agree-block}
-use Rattle.layout.proofs.Laws.Chains.{nth, Chain, chain-used, rest-same}
-use Rattle.layout.proofs.Laws.Sound.{firstAt, heldAt, rootOf, dirSize, Sound, sound, check-zero}
-use Rattle.layout.proofs.Laws.Files.{slot-low, slot-high, named-slot}
-use Rattle.layout.proofs.Laws.Tables.{table-popped}
-use Rattle.layout.proofs.Laws.Looks.{file-given}
-use Rattle.layout.proofs.Laws.Owners.{held-above, file-holds, file-below, file-apart}
-use Rattle.layout.proofs.Laws.Steps.{Midway, midway-start, dir-apart, over, over-same, over-other, midway-end}
-use Rattle.layout.proofs.Laws.Others.{Others, slot-changed}
+use Rattle.layout.proofs.Laws.Tests.{require-zero}
+use Rattle.layout.proofs.Laws.Lists.{In}
+use Rattle.layout.proofs.Laws.Frames.{Same, same-be32, same-beside, before-next, agree-block}
+use Rattle.layout.proofs.Laws.Trees.{sizeAt}
+use Rattle.layout.proofs.Laws.Sound.{heldAt, Sound, Entry, sound, check-zero}
+use Rattle.layout.proofs.Laws.Slots.{slot-entry, entry-high, entry-low}
+use Rattle.layout.proofs.Laws.Owners.{file-holds, file-no-dir, file-no-self, file-chained, file-below, file-used, file-apart, held-above, held-below, entry-elsewhere, tree-apart}
+use Rattle.layout.proofs.Laws.Visits.{dirBlocks}
+use Rattle.layout.proofs.Laws.Chains.{nth, chain-distinct, chainOk-split}
+use Rattle.layout.proofs.Laws.Files.{length-fileBlocks}
+use Rattle.layout.proofs.Laws.Changed.{OneSlot}
+use Rattle.volume.proofs.Laws.Frame.{entries-low, released-agree}
+use Rattle.volume.proofs.Laws.Table.{released-next, released-occupied}
+use Rattle.layout.proofs.Laws.Steps.{Midway, staying, midway-start, midway-end, one-slot}
+use Rattle.layout.proofs.Laws.Paths.{path-named, path-home}
 
-module _ (s : List ℕ) (S : Sound s) (k : ℕ) (k₁ : 1 ≤ k) (k₂ : k < 4 * dirSize s - 1) where
-  abbrev f : ℕ → ℕ
-  f = firstAt s (root s)
+-- the slot is zeroed last
+module _ (t : List ℕ) (e : ℕ) (fit : e + 128 ≤ length t) where
+  fits : e + length (zeros 128) ≤ length t
+  fits = omega (arith, length-zeros 128)
 
-  abbrev l : ℕ → ℕ
-  l = heldAt s (root s)
+  pub zeroed-length : length (splice t e (zeros 128)) ≡ length t
+  zeroed-length = length-splice t e (zeros 128) fits
 
+  pub zeroed-outside : (a w : ℕ) → (a + w ≤ e) ⊎ (e + 128 ≤ a) → Same t (splice t e (zeros 128)) a w
+  zeroed-outside a w h = same-beside t e (zeros 128) fits a w (⊎-elim (λ x. inl x) (λ x. inr (omega (arith, length-zeros 128))) h)
+
+  pub zeroed-type : typeOf (splice t e (zeros 128)) e ≡ 0
+  unfolding zeros
+  zeroed-type = splice-first t e (zeros 128) fits (omega (arith, length-zeros 128))
+
+-- a file, in slot k of a directory of the tree
+module _ (s : List ℕ) (S : Sound s) (d : ℕ × ℕ) (di : In d (dirs s)) (k : ℕ) (k₁ : 1 ≤ k) (k₂ : k < 4 * sizeAt s (d .0) - 1) (file : isFile (typeOf s (slotAt (directory s (d .0)) k)) ≡ true) where
   abbrev n : ℕ
   n = blockCount s
 
-  abbrev m : ℕ
-  m = 4 * dirSize s - 1
-
-  -- the first block of the chain is freed
-  module _ (t : List ℕ) (b c : ℕ) (I : Midway s k t b (suc c)) where
-    mine : Chain (next t) n b (suc c)
-    mine = rw (over-same k b f, over-same k (suc c) l) at (I .table .right k k₂)
-
-    bn : b < n
-    bn = mine .below 0 (omega arith)
-
-    fit : 512 + 4 * b + 4 ≤ length t
-    fit = omega (arith, I .len, S .whole, S .least, bn)
-
-    used-b : next t b ≢ 0
-    used-b = chain-used (next t) n b (suc c) mine (S .least) 0 (omega arith)
-
-    freed-step : Midway s k (freed t n b) (next t b) c
-    freed-step =
-        record {
-          len = freed-size t n b fit ∙ I .len;
-          head = same-then s t (freed t n b) 0 20 (I .head) (freed-same t n b fit 0 20 (inl (omega arith)) (inl (omega arith)));
-          tail = same-then s t (freed t n b) 28 4 (I .tail) (freed-same t n b fit 28 4 (inr (omega arith)) (inl (omega arith)));
-          slots = λ j h. same-then s t (freed t n b) (slotAt (root s) j) 128 (I .slots j h)
-              (freed-same t n b fit (slotAt (root s) j) 128 (inr (omega (arith, slot-low s S j h))) (inr (omega (arith, slot-low s S j h, bn))));
-          dir = λ x h. freed-other t n b fit (nth (next s) x (rootOf s)) (dir-apart s S k k₁ k₂ t b (suc c) I x 0 h (omega arith)) ∙ I .dir x h;
-          table = table-popped n m (next t) (over k b f) (over k (suc c) l) (I .table) (S .least) k k₂ (next (freed t n b)) (over k (next t b) f) (over k c l)
-              (λ j h ne. over-other k (next t b) f j ne ∙ sym (over-other k b f j ne)) (λ j h ne. over-other k c l j ne ∙ sym (over-other k (suc c) l j ne))
-              (rw (over-same k (suc c) l) (omega arith)) (rw (over-same k b f) (freed-at t n b fit)) (λ x h ne. freed-other t n b fit x (rw (over-same k b f) at ne))
-              (rw (over-same k (next t b) f, over-same k b f)) (omega (arith, over-same k c l, over-same k (suc c) l));
-          used = freed-used t n b fit bn used-b (I .used) (S .most);
-          free = freed-free t n b fit bn used-b (I .used) (S .most);
-        }
-
-  -- then all of them
-  released-steps : (c : ℕ) (t : List ℕ) (b : ℕ) → Midway s k t b c → (z : ℕ) × Midway s k (released t n (chain (next t) b c)) z 0
-  unfolding released chain
-  released-steps zero t b I = (b, I)
-  released-steps (suc c) t b I =
-      let e : suc c - 1 ≡ c = omega arith in
-      let q : chain (next (freed t n b)) (next t b) c ≡ chain (next t) (next t b) c =
-      rw e at (rest-same (next t) (next (freed t n b)) n b (suc c) (mine t b c I) (S .least) (omega arith) (λ x h ne. freed-other t n b (fit t b c I) x ne)) in
-      let r = released-steps c (freed t n b) (next t b) (freed-step t b c I) in
-      (r .0, rw q at (r .1))
-
   abbrev e : ℕ
-  e = slotAt (root s) k
+  e = slotAt (directory s (d .0)) k
 
-  module _ (file : isFile (typeOf s e) ≡ true) where
-    abbrev old : List ℕ
-    old = fileBlocks s e
+  mine : Entry s e
+  mine = slot-entry s S d di k (omega arith)
 
-    abbrev freer : List ℕ
-    freer = released s n (fileBlocks s e)
+  no-self : (x : ℕ × ℕ) → In x (dirs s) → 512 * x .0 ≢ e
+  no-self x i q = file-no-self s S e mine file x i (sym q)
 
-    done : (z : ℕ) × Midway s k freer z 0
-    unfolding fileBlocks
-    done = rw (file-holds s S k k₂ file) at (released-steps (l k) s (f k) (midway-start s S k k₁ k₂))
+  abbrev freer : List ℕ
+  freer = released s n (fileBlocks s e)
 
-    fits : e + length (zeros 128) ≤ length freer
-    fits = omega (arith, length-zeros 128, slot-high s S k (omega arith), done .1 .len)
+  done : (z : ℕ) × Midway s (dirs s) (Entry s) e freer z 0
+  unfolding fileBlocks
+  done = rw (file-holds s S e mine file) at (released-steps s S (dirs s) (Entry s) e (staying s S e mine no-self) (heldAt s e) s (firstBlock s e) (midway-start s S e mine no-self))
 
-    outside : (a w : ℕ) → (a + w ≤ e) ⊎ (e + 128 ≤ a) → Same freer (splice freer e (zeros 128)) a w
-    outside a w h = same-beside freer e (zeros 128) fits a w (⊎-elim (λ x. inl x) (λ x. inr (omega (arith, length-zeros 128))) h)
+  fit : e + 128 ≤ length freer
+  fit = omega (arith, entry-high s S e mine, done .1 .len)
 
-    pub deleted-type : typeOf (deleteAt s e) e ≡ 0
-    unfolding deleteAt zeros
-    deleted-type = splice-first freer e (zeros 128) fits (omega (arith, length-zeros 128))
+  no-dir : isDirectory (typeOf s e) ≡ false
+  no-dir = file-no-dir (typeOf s e) file
 
-    pub deleted-sound : Sound (deleteAt s e)
-    unfolding deleteAt slotOk
-    deleted-sound =
-        midway-end s S k k₁ k₂ freer (done .0) 0 (done .1) (deleteAt s e) (length-splice freer e (zeros 128) fits) outside
-        (rw deleted-type) (λ t′. absurd (true-not-false (rw deleted-type at t′) refl)) (λ pos. absurd (omega arith)) (rw deleted-type)
+  pub deleted-sound : Sound (deleteAt s e)
+  unfolding deleteAt slotOk
+  deleted-sound =
+      let z = zeroed-type freer e fit in
+      midway-end s S d di k k₁ k₂ freer (done .0) 0 (done .1) (deleteAt s e) (zeroed-length freer e fit) (zeroed-outside freer e fit) no-dir (rw z) (rw z) (λ u. absurd (u z))
+      (λ pos. absurd (omega arith)) (rw z)
 
-    -- the blocks freed are not those of another slot
-    module _ (j : ℕ) (h : j < m) (ne : j ≢ k) (x : ℕ) (g : x < l j) where
-      abbrev q : ℕ
-      q = nth (next s) x (f j)
+  -- every other entry stays, with its blocks
+  pub deleted-slot : OneSlot s (dirs s) (deleteAt s e) e
+  unfolding deleteAt
+  deleted-slot = one-slot s S d di k k₁ k₂ freer (done .0) 0 (done .1) (deleteAt s e) (zeroed-length freer e fit) (zeroed-outside freer e fit)
 
-      next-kept : next freer q ≡ next s q
-      next-kept = released-next n (S .least) old s q (S .whole) (file-below s S k k₂ file) (file-apart s S k k₂ file j h ne x g)
+  pub deleted-type : typeOf (deleteAt s e) e ≡ 0
+  unfolding deleteAt
+  deleted-type = zeroed-type freer e fit
 
-      data-kept : block freer q ≡ block s q
-      data-kept =
-          agree-block q (released-agree n (S .least) old s (S .whole) (file-below s S k k₂ file))
-          (λ i. omega (arith, held-above s S j h x g, entries-low n old (file-below s S k k₂ file) q i))
+  -- as many blocks less are in use as it has
+  once : distinct eqb (fileBlocks s e) ≡ true
+  unfolding fileBlocks
+  once = chain-distinct (next s) n (firstBlock s e) (blocksOf s e) (chainOk-split (next s) n (firstBlock s e) (blocksOf s e) (file-chained s S e mine file)) (S .least)
 
-    pub deleted-others : Others s (deleteAt s e) k
+  pub deleted-used : be32 s 20 ≡ blocksOf s e + be32 (deleteAt s e) 20
+  unfolding deleteAt
+  deleted-used =
+      let l = length-fileBlocks s e in
+      let o = released-occupied n (S .least) (fileBlocks s e) s (S .whole) (file-below s S e mine file) (file-used s S e mine file) once in
+      let u = done .1 .used in
+      let w = S .used-is in
+      let g = entry-low s S e mine in
+      let h : be32 (splice freer e (zeros 128)) 20 ≡ be32 freer 20 = same-be32 freer (splice freer e (zeros 128)) 0 28 20 (zeroed-outside freer e fit 0 28 (inl (omega arith))) (omega arith) (omega arith) in
+      omega arith
+
+  module _ (a : ℕ) (A : Entry s a) (ne : a ≢ e) (x : ℕ) (g : x < heldAt s a) where
+    abbrev q : ℕ
+    q = nth (next s) x (firstBlock s a)
+
+    pub deleted-next : next (deleteAt s e) q ≡ next s q
     unfolding deleteAt
-    deleted-others =
-        slot-changed s S k k₁ k₂ freer (done .1 .len) (done .1 .head) (done .1 .tail) (done .1 .slots) next-kept (λ j h g ne x y. data-kept j g ne x y)
-        (deleteAt s e) (length-splice freer e (zeros 128) fits) outside
+    deleted-next =
+        before-next freer (deleteAt s e) n (zeroed-outside freer e fit 0 (512 * rootBlock n) (inl (omega (arith, entry-low s S e mine)))) q (omega (arith, held-below s S a A x g))
+        ∙ released-next n (S .least) (fileBlocks s e) s q (S .whole) (file-below s S e mine file) (file-apart s S e mine file a A ne x g)
 
-pub kept-delete : (s name : List ℕ) → check s ≡ 0 → nameRefusal s name ≡ 0 → check (deleteAt s (entryOf s name)) ≡ 0
-unfolding entryOf
-kept-delete s name c r =
-    let p = named-slot s name (file-given s name r) in
-    check-zero _ (deleted-sound s (sound s c) (fileSlot s (root s) name) (p .0) (p .1) (p .2))
+    pub deleted-block : isFile (typeOf s a) ≡ true → block (deleteAt s e) q ≡ block s q
+    unfolding deleteAt
+    deleted-block f =
+        entry-elsewhere s S e mine freer (deleteAt s e) (done .1 .len) (zeroed-length freer e fit) (zeroed-outside freer e fit) q (held-below s S a A x g)
+        (λ z. tree-apart s S a A x g (file-no-self s S a A f) (subst (λ (y : ℕ). In y (dirBlocks s)) z (mine .within-tree)))
+        ∙ agree-block q (released-agree n (S .least) (fileBlocks s e) s (S .whole) (file-below s S e mine file))
+        (λ i. omega (arith, held-above s S a A x g, entries-low n (fileBlocks s e) (file-below s S e mine file) q i))
+
+-- by paths
+pub kept-delete : (s path : List ℕ) → check s ≡ 0 → fileRefusal s path ≡ 0 → check (deleteAt s (entryOf isFile s path)) ≡ 0
+unfolding fileRefusal entryOf
+kept-delete s path c r =
+    let a = require-zero (pathOk path) 8 _ r in
+    let b = require-zero (shallow (leading (parts path))) 16 _ (a .1) in
+    let f = require-zero (not (eqb (pathSlot isFile s path) 0)) 9 _ (b .1) in
+    let ne = eqb-false _ _ (not-true _ (f .0)) in
+    let N = path-named isFile s path ne in
+    check-zero _ (deleted-sound s (sound s c) (home s path, maxLevels - length (leading (parts path))) (path-home isFile s path ne (b .0)) (pathSlot isFile s path) (N .low) (N .high) (N .typed))

@@ -14,13 +14,13 @@ use Rattle.layout.specs.Bytes.{be32, bytes4, zeros, splice}
 use Rattle.layout.specs.Limits.{maxBlocks}
 use Rattle.layout.specs.Geometry.{signature, blockCount, tableBlocks, rootBlock}
 use Rattle.layout.specs.Table.{next, chain, occupied}
-use Rattle.layout.specs.Directory.{slotAt, typeOf, selfOf, parentOf, blocksOf, padded, root}
-use Rattle.layout.specs.Check.{stage1, stage2, stage3, slotOk, check}
+use Rattle.layout.specs.Directory.{slotAt, typeOf, firstBlock, selfOf, parentOf, blocksOf, padded, directory, rootOf}
+use Rattle.layout.specs.Check.{stage1, stage2, stage3, check}
 use Rattle.volume.specs.Entries.{entryBytes, directoryMade}
 use Rattle.volume.specs.Format.{formatRefusal, firstEntries, headerBytes, formatImage}
 use Rattle.volume.proofs.Laws.Entries.{entry-type, entry-first, entry-size, entry-blocks, entry-length}
 use Rattle.layout.proofs.Laws.Bytes.{length-splice, length-zeros, be32-same, part-same, be32-bytes4, getD-zeros, length-joined4, joined4-at, zeros-32, splice-first}
-use Rattle.layout.proofs.Laws.Tests.{and-split, and-join, true-not-false, lt-or-ge, lt-or-gt, require-zero, within-split}
+use Rattle.layout.proofs.Laws.Tests.{and-split, and-join, lt-or-ge, require-zero, within-split}
 use Rattle.layout.proofs.Laws.Names.{same-refl}
 use Rattle.layout.proofs.Laws.Frames.{Same, same-then, same-be32, same-byte, same-below, same-above, same-inside}
 use Rattle.layout.proofs.Laws.Chains.{nth, nth-suc, Chain, length-chain, getD-chain}
@@ -28,7 +28,10 @@ use Rattle.layout.proofs.Laws.Tables.{Table}
 use Rattle.layout.proofs.Laws.Counts.{occupied-front}
 use Rattle.layout.specs.Walks.Shapes.{Shape}
 use Rattle.layout.proofs.Walks.Stages.{stage1-shape}
-use Rattle.layout.proofs.Laws.Sound.{firstAt, heldAt, dirSize, Facts, Sound, check-zero}
+use Rattle.layout.proofs.Laws.Trees.{sizeAt, Directory}
+use Rattle.layout.proofs.Laws.Sound.{heldAt, Facts, Sound, check-zero}
+use Rattle.layout.proofs.Laws.Empties.{Empty}
+use Rattle.layout.proofs.Laws.Roots.{root-tree, root-table}
 use Rattle.layout.proofs.Laws.Lists.{length-interval, getD-interval}
 
 abbrev ones : ℕ → List ℕ
@@ -279,36 +282,30 @@ module _ (n d : ℕ) (uuid name : List ℕ) (time : ℕ) (n₁ : 3 ≤ n) (n₂ 
     end-type : typeOf done (slotAt ds (4 * d - 1)) ≡ 255
     end-type = splice-first begun (slotAt ds (4 * d - 1)) (0xFF ∷ []) fit-done (omega arith)
 
-    root-first : firstAt done ds 0 ≡ rootBlock n
-    root-first = rw slot-first self-block
+    root-first : firstBlock done (512 * rootBlock n) ≡ rootBlock n
+    root-first = self-block
 
-    root-held : heldAt done ds 0 ≡ d
-    root-held = rw (slot-first, self-type) self-blocks
+    root-held : heldAt done (512 * rootBlock n) ≡ d
+    root-held = rw self-type self-blocks
 
-    held-free : (k : ℕ) → 1 ≤ k → k < 4 * d - 1 → heldAt done ds k ≡ 0
-    held-free k h g = rw (free-type k h g)
-
-    table : Table n (4 * d - 1) (next done) (firstAt done ds) (heldAt done ds)
+    table : Table n (λ a. a ≡ 512 * rootBlock n) (next done) (firstBlock done) (heldAt done)
     table =
         record {
-          right = right;
-          apart = λ j k hj hk ne x y a b. absurd (⊎-elim (λ p. omega (arith, held-free k (omega arith) hk)) (λ p. omega (arith, held-free j (omega arith) hj)) (lt-or-gt j k ne));
+          right = λ k q. rw (q, root-first, root-held) right;
+          apart = λ j k hj hk ne x y a b. absurd (ne (hj ∙ sym hk));
           low = λ b h. value-low b (omega arith);
           high = λ b h a ne. ⊎-elim
-              (λ p. (0, b - rootBlock n, omega arith, omega (arith, root-held), sym (ap (nth (next done) (b - rootBlock n)) root-first ∙ along (b - rootBlock n) (omega arith) ∙ omega arith)))
+              (λ p. (512 * rootBlock n, b - rootBlock n, refl, omega (arith, root-held), sym (ap (nth (next done) (b - rootBlock n)) root-first ∙ along (b - rootBlock n) (omega arith) ∙ omega arith)))
               (λ p. absurd (ne (value-zero b p a))) (lt-or-ge b (rootBlock n + d));
         }
       where
-        right : (k : ℕ) → k < 4 * d - 1 → Chain (next done) n (firstAt done ds k) (heldAt done ds k)
-        right zero h =
-            rw (root-first, root-held) (record {
+        right : Chain (next done) n (rootBlock n) d
+        right =
+            record {
               above = λ x g. omega (arith, along x g);
               below = λ x g. omega (arith, along x g);
               last = λ g. ends;
-            })
-        right (suc k) h =
-            let z = held-free (suc k) (omega arith) h in
-            record { above = λ x g. absurd (omega arith); below = λ x g. absurd (omega arith); last = λ g. absurd (omega arith) }
+            }
 
     counted : occupied (next done) n ≡ rootBlock n + d
     counted = occupied-front (next done) n (rootBlock n + d) room nonzero (λ b h g. value-zero b h (omega arith))
@@ -322,8 +319,40 @@ module _ (n d : ℕ) (uuid name : List ℕ) (time : ℕ) (n₁ : 3 ≤ n) (n₂ 
             ⊎-elim (λ g. omega (arith, value-mid i g, ap (next done) q)) (λ g. let o : rootBlock n + (d - 1) ≡ b = omega arith in omega (arith, value-end, ap (next done) o)) (lt-or-ge i (d - 1)))
             (lt-or-ge b (rootBlock n))
 
-    facts : Facts done n d ds
-    unfolding slotOk
+    done-size : sizeAt done (rootBlock n) ≡ d
+    done-size = self-blocks
+
+    done-root : directory done (rootBlock n) ≡ ds
+    unfolding directory
+    done-root =
+        rw done-size
+        (ext-getD 0 (chain (next done) (rootBlock n) d) ds (length-chain (next done) (rootBlock n) d ∙ sym (length-interval (rootBlock n) d))
+        λ i h. let g : i < d = omega (arith, length-chain (next done) (rootBlock n) d) in getD-chain (next done) (rootBlock n) d i g ∙ along i g ∙ sym (getD-interval (rootBlock n) d i g))
+
+    right-root : Directory done n (rootBlock n) (rootBlock n)
+    right-root =
+        record {
+          self-type = self-type;
+          self-block = self-block;
+          self-parent = self-parent;
+          d-least = rw done-size d₁;
+          d-most = rw done-size d₂;
+          chained = rw done-size (rw (root-first, root-held) at (table .right (512 * rootBlock n) refl));
+        }
+
+    bare : Empty done (rootBlock n)
+    bare =
+        record {
+          least = rw done-size d₁;
+          self-type = self-type;
+          end-type = rw (done-root, done-size) end-type;
+          free = rw (done-root, done-size) free-type;
+        }
+
+    root-at : rootOf done ≡ rootBlock n
+    root-at = ap rootBlock done-count
+
+    facts : Facts done n
     facts =
         record {
           whole = done-length;
@@ -331,31 +360,14 @@ module _ (n d : ℕ) (uuid name : List ℕ) (time : ℕ) (n₁ : 3 ≤ n) (n₂ 
           most = n₂;
           signed = signed;
           numbered = numbered;
-          self-type = self-type;
-          self-block = self-block;
-          self-parent = self-parent;
-          d-least = d₁;
-          d-most = d₂;
-          end-type = end-type;
-          slot = λ k h g. rw (free-type k h g);
-          names = λ j k h lt g fj. absurd (true-not-false (rw (free-type j h (omega arith)) at fj) refl);
-          table = table;
+          tree = root-tree done n (rootBlock n) root-at right-root bare n₁;
+          table = root-table done n (rootBlock n) root-at right-root bare n₁ table;
           used-is = in-use ∙ sym counted;
           free-is = not-used ∙ ap (λ (x : ℕ). n - x) (sym counted);
         }
 
-    done-size : dirSize done ≡ d
-    done-size = rw done-count self-blocks
-
-    done-root : root done ≡ ds
-    unfolding root
-    done-root =
-        rw (done-size, done-count)
-        (ext-getD 0 (chain (next done) (rootBlock n) d) ds (length-chain (next done) (rootBlock n) d ∙ sym (length-interval (rootBlock n) d))
-        λ i h. let g : i < d = omega (arith, length-chain (next done) (rootBlock n) d) in getD-chain (next done) (rootBlock n) d i g ∙ along i g ∙ sym (getD-interval (rootBlock n) d i g))
-
     formatted-sound : Sound (formatImage n d uuid name time)
-    formatted-sound = rw format-is (rw (done-root, done-size, done-count) facts)
+    formatted-sound = rw format-is (rw done-count facts)
 
 -- what an accepted format has
 pub record FormatGiven (s : List ℕ) (d : ℕ) (name : List ℕ) : Type 0 where

@@ -1,36 +1,19 @@
 -- The frame law: an accepted change keeps the image's length, changes no byte outside its named blocks, and names blocks of the image.
 use Prim.Native.Nat.{ℕ, _+_, _*_, _/_, _≤_, _<_, _-_, zero, suc, _%_, max}
 use mathlib.Core.Path.{_≡_, refl, sym, _∙_, subst}
-use mathlib.Core.Bool.{true}
 use mathlib.Core.List.{List, [], _∷_, _++_}
 use mathlib.Core.Logic.{inl, inr, ⊎-elim, _⊎_}
 use native.Mathlib.Omega.{arith}
 use lib.Seq.{take-nil, drop-nil}
-use lib.Dec.{eqb}
-use lib.ListN.{length, getD, drop, length-drop, length-append, take}
-use Rattle.layout.specs.Bytes.{splice, be32, bytes4, zeros, bytes8}
+use lib.ListN.{length, drop, length-drop, length-append, take}
+use Rattle.layout.specs.Bytes.{splice, be32, bytes4, zeros}
 use Rattle.layout.specs.Table.{setNext, tableBlockOf}
-use Rattle.layout.specs.Lists.{has, lastOr}
-use Rattle.layout.specs.Geometry.{blocksFor, tableBlocks, blockCount}
-use Rattle.layout.specs.Check.{check}
-use Rattle.layout.specs.Directory.{isFile, typeOf, slotAt, root, sizeOf, fileBlocks, fileSlot, freeSlot}
-use Rattle.layout.specs.Looks.{entryOf, nameRefusal}
-use Rattle.volume.specs.Entries.{setOccupied, freed, released, entriesNamed, linked, taken, grown, entryBytes}
-use Rattle.volume.specs.Write.{put, written, changedEntries, newSize, needed, newBlocks, setFile, writeAt, writeRefusal, writeNamed}
-use Rattle.volume.specs.Change.{refusal, after, Change, named, create, write, delete}
-use Rattle.volume.specs.Create.{createSlot, createImage, createRefusal, createNamed}
-use Rattle.volume.specs.Delete.{deleteAt, deleteNamed}
-use Rattle.volume.proofs.Laws.Accepted.{create-given, WriteGiven, write-given}
-use Rattle.volume.proofs.Laws.Entries.{entry-length}
-use Rattle.volume.proofs.Laws.Space.{new-fresh, new-length, all-below, last-below}
-use Rattle.layout.proofs.Laws.Bytes.{length-take-most, length-bytes4, length-bytes8, length-zeros, splice-nil}
-use Rattle.layout.proofs.Laws.Lists.{In, in-left, in-right, in-append, in-has-eqb, in-take, in-drop, has-eqb-in, in-some, in-part, in-map, map-in, in-single}
+use Rattle.layout.specs.Geometry.{blocksFor, tableBlocks}
+use Rattle.volume.specs.Entries.{setOccupied, freed, released, entriesNamed, linked, taken, grown}
+use Rattle.volume.specs.Write.{put, written, changedEntries}
+use Rattle.layout.proofs.Laws.Bytes.{length-take-most, length-bytes4, length-zeros, splice-nil}
+use Rattle.layout.proofs.Laws.Lists.{In, in-left, in-right, in-append, in-take, in-drop, in-some, in-part, in-map, map-in, in-single}
 use Rattle.layout.proofs.Laws.Tests.{lt-or-ge}
-use Rattle.layout.proofs.Laws.Sound.{sound, dirSize, Sound}
-use Rattle.layout.proofs.Laws.Files.{named-slot, free-slot, slot-in, file-in, length-fileBlocks, Slot}
-use Rattle.layout.proofs.Laws.Looks.{file-given}
-use Rattle.layout.proofs.Laws.Names.{padded-length}
-use Rattle.layout.proofs.Laws.Owners.{file-below}
 use Rattle.layout.proofs.Laws.Frames.{Agree, agree-refl, agree-more, agree-then, splice-agree, set-next-agree}
 
 -- the blocks that changed entries name: block 0 and the table block of each entry
@@ -214,131 +197,3 @@ module _ (n : ℕ) (n₁ : 3 ≤ n) where
 
   pub put-length : (bs s : List ℕ) (offset : ℕ) (bytes : List ℕ) → length s ≡ 512 * n → ((x : ℕ) → In x bs → x < n) → length (put s bs offset bytes) ≡ 512 * n
   put-length bs s offset bytes len h = put-agree bs s offset bytes len h .size ∙ len
-
--- the frame law of a change on a sound image
-pub record Framed (s : List ℕ) (c : Change) : Type 0 where
-  pub agree : Agree s (after s c) (named s c)
-  pub inside : (b : ℕ) → has eqb b (named s c) ≡ true → b < blockCount s
-  -- there is a named block
-  pub one : ℕ
-  pub listed : has eqb one (named s c) ≡ true
-
-module _ (s : List ℕ) (S : Sound s) where
-  abbrev n : ℕ
-  n = blockCount s
-
-  -- bytes of slot k
-  module _ (k : ℕ) (h : k < 4 * dirSize s) where
-    abbrev e : ℕ
-    e = slotAt (root s) k
-
-    slot-agree : (t : List ℕ) (at : ℕ) (p : List ℕ) → length t ≡ 512 * n → e ≤ at → at + length p ≤ e + 128 → Agree t (splice t at p) (e / 512 ∷ [])
-    slot-agree t at p len low high =
-        let b : Slot s e = slot-in s S k h in
-        splice-agree t (e / 512) at p (omega (arith, b .inside, b .aligned)) (omega arith) (omega (arith, b .aligned))
-
-    -- the entry is written, and its block is named first
-    framed-by : (c : Change) (ns : List ℕ) → named s c ≡ e / 512 ∷ ns → Agree s (after s c) (e / 512 ∷ ns) → ((b : ℕ) → In b ns → b < n) → Framed s c
-    framed-by c ns q a f =
-        record {
-          agree = rw q a;
-          inside = λ b i. ⊎-elim (λ d. rw d (slot-in s S k h .inside)) (λ j. f b j) (has-eqb-in b (e / 512 ∷ ns) (rw q at i));
-          one = e / 512;
-          listed = rw q (in-has-eqb (e / 512) (e / 512 ∷ ns) (inl refl));
-        }
-
-  create-framed : (name : List ℕ) (type user group permissions flags time : ℕ) → createRefusal s name type ≡ 0 → Framed s (create name type user group permissions flags time)
-  unfolding after named createImage createNamed createSlot
-  create-framed name type user group permissions flags time r =
-      let g = create-given s name type r in
-      let w = free-slot s (g .some) in
-      let l = entry-length name (padded-length name (g .good)) type user group permissions 0 0 0 time flags in
-      framed-by (freeSlot s (root s)) (omega arith) (create name type user group permissions flags time) [] refl
-      (slot-agree (freeSlot s (root s)) (omega arith) s (slotAt (root s) (freeSlot s (root s))) (entryBytes type user group permissions 0 0 0 time flags name) (S .whole) (omega arith) (omega arith)) (λ b i. absurd i)
-
-  delete-framed : (name : List ℕ) → nameRefusal s name ≡ 0 → Framed s (delete name)
-  unfolding after named deleteAt deleteNamed entryOf
-  delete-framed name r =
-      let k = fileSlot s (root s) name in
-      let i = slotAt (root s) k in
-      let w = named-slot s name (file-given s name r) in
-      let h : k < 4 * dirSize s = omega arith in
-      let old = fileBlocks s i in
-      let below : (x : ℕ) → In x old → x < n = file-below s S k (w .1) (w .2) in
-      let a = released-agree n (S .least) old s (S .whole) below in
-      let l = length-zeros 128 in
-      framed-by k h (delete name) (entriesNamed old) refl
-      (agree-then a (slot-agree k h (released s n old) i (zeros 128) (a .size ∙ S .whole) (omega arith) (omega arith)) (λ x m. inr m) (in-single (i / 512) (i / 512 ∷ entriesNamed old) (inl refl)))
-      (λ b m. omega (arith, entries-low n old below b m, S .least))
-
-  module _ (name : List ℕ) (offset : ℕ) (bytes : List ℕ) (time : ℕ) (r : writeRefusal s name offset (length bytes) ≡ 0) where
-    given : WriteGiven s name offset (length bytes)
-    given = write-given s name offset (length bytes) r
-
-    abbrev slot : ℕ
-    slot = fileSlot s (root s) name
-
-    abbrev entry : ℕ
-    entry = slotAt (root s) slot
-
-    found : (1 ≤ slot) × (slot < 4 * dirSize s - 1) × (isFile (typeOf s entry) ≡ true)
-    found = named-slot s name (given .there)
-
-    abbrev old : List ℕ
-    old = fileBlocks s entry
-
-    abbrev new : List ℕ
-    new = newBlocks s entry offset (length bytes)
-
-    abbrev holds : List ℕ
-    holds = written (fileBlocks s entry ++ newBlocks s entry offset (length bytes)) offset (length bytes)
-
-    abbrev entries : List ℕ
-    entries = entriesNamed (changedEntries (lastOr 0 (fileBlocks s entry)) (newBlocks s entry offset (length bytes)))
-
-    new-below : (x : ℕ) → In x new → x < n
-    new-below = new-fresh s entry offset (length bytes) S .below
-
-    inside : (x : ℕ) → In x (old ++ new) → x < n
-    inside = all-below s S slot (found .1) (found .2) offset (length bytes)
-
-    before : lastOr 0 old < n
-    before = last-below s S slot (found .1) (found .2) offset (length bytes)
-
-    counts : (length old ≡ blocksFor (sizeOf s entry)) × (length new ≡ blocksFor (max (sizeOf s entry) (offset + length bytes)) - blocksFor (sizeOf s entry)) × (offset ≤ sizeOf s entry)
-    unfolding newSize needed entryOf
-    counts =
-        let a = file-in s S slot (found .0) (found .1) (found .2) .blocks in
-        (length-fileBlocks s entry ∙ a, new-length s entry offset (length bytes) (given .room) ∙ rw a, given .within-size)
-
-    -- a block that is taken holds a written byte
-    new-written : (x : ℕ) → In x new → In x holds
-    new-written x i = taken-written (fileBlocks s entry) new (sizeOf s entry) offset (length bytes) x (counts .0) (counts .1) (counts .2) i
-
-    write-framed : Framed s (write name offset bytes time)
-    unfolding after named writeAt writeNamed setFile entryOf
-    write-framed =
-        let h : slot < 4 * dirSize s = omega (arith, found .1) in
-        let p : List ℕ = bytes4 (getD (old ++ new) 0 0) ++ (bytes4 (newSize s entry offset (length bytes)) ++ bytes4 (length (old ++ new))) in
-        let lp : length p ≡ 12 = simp (length-append, length-bytes4) in
-        let lt : length (bytes8 time) ≡ 8 = length-bytes8 time in
-        let ns : List ℕ = entry / 512 ∷ (holds ++ entries) in
-        let first : (x : ℕ) → In x (entry / 512 ∷ []) → In x ns = in-single (entry / 512) ns (inl refl) in
-        let larger = grown s n (lastOr 0 old) new in
-        let filled = put larger (old ++ new) offset bytes in
-        let renewed = splice filled (entry + 4) p in
-        let a : Agree s larger ns = agree-more (grown-agree n (S .least) new s (lastOr 0 old) (S .whole) before new-below)
-        (λ x i. inr (⊎-elim (λ j. in-left x holds entries (new-written x j)) (λ j. in-right x holds entries j) (in-append x new entries i))) in
-        let b : Agree larger filled ns = agree-more (put-agree n (S .least) (old ++ new) larger offset bytes (a .size ∙ S .whole) inside) (λ x i. inr (in-left x holds entries i)) in
-        let c : Agree s filled ns = agree-then a b (λ x i. i) (λ x i. i) in
-        let d : Agree s renewed ns = agree-then c (slot-agree slot h filled (entry + 4) p (c .size ∙ S .whole) (omega arith) (omega arith)) (λ x i. i) first in
-        framed-by slot h (write name offset bytes time) (holds ++ entries) refl
-        (agree-then d (slot-agree slot h renewed (entry + 24) (bytes8 time) (d .size ∙ S .whole) (omega arith) (omega arith)) (λ x i. i) first)
-        (λ x i. ⊎-elim (λ j. inside x (written-in (old ++ new) offset (length bytes) x j))
-        (λ j. omega (arith, entries-low n (changedEntries (lastOr 0 old) new) (changed-below n (lastOr 0 old) new before new-below) x j, S .least)) (in-append x holds entries i))
-
-pub frame : (s : List ℕ) (c : Change) → check s ≡ 0 → refusal s c ≡ 0 → Framed s c
-unfolding refusal
-frame s (create name type user group permissions flags time) ok r = create-framed s (sound s ok) name type user group permissions flags time r
-frame s (write name offset bytes time) ok r = write-framed s (sound s ok) name offset bytes time r
-frame s (delete name) ok r = delete-framed s (sound s ok) name r

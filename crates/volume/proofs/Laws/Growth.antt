@@ -1,14 +1,14 @@
 -- The steps of a write that take blocks: one to the end of the chain, and all the new ones.
-use Prim.Native.Nat.{ℕ, zero, suc, _+_, _-_, _*_, _≤_, _<_, _/_}
+use Prim.Native.Nat.{ℕ, zero, suc, _+_, _-_, _*_, _≤_, _<_}
 use mathlib.Core.Path.{_≡_, refl, sym, ap, _∙_, subst}
 use mathlib.Core.List.{List, _∷_, _++_, append-assoc, append-nil, []}
 use mathlib.Core.Logic.{_⊎_, inl, inr, ⊎-elim, _≢_}
 use native.Mathlib.Omega.{arith}
 use lib.ListN.{length}
 use Rattle.layout.specs.Bytes.{be32}
-use Rattle.layout.specs.Geometry.{blockCount, tableBlocks}
+use Rattle.layout.specs.Geometry.{blockCount, tableBlocks, rootBlock}
 use Rattle.layout.specs.Table.{next, chain, occupied}
-use Rattle.layout.specs.Directory.{slotAt, root}
+use Rattle.layout.specs.Directory.{firstBlock}
 use Rattle.volume.specs.Entries.{taken, grown}
 use Rattle.volume.proofs.Laws.Table.{taken-next, taken-link, taken-same, taken-occupied, taken-first, taken-length, taken-used, taken-left}
 use Rattle.layout.proofs.Laws.Lists.{In, head-apart, tail-distinct}
@@ -16,30 +16,27 @@ use Rattle.layout.proofs.Laws.Frames.{Same, same-then}
 use Rattle.layout.proofs.Laws.Chains.{nth, nth-suc, nth-agree, Chain, chain-differ, chain-used, chain-snoc, LastIs}
 use Rattle.layout.proofs.Laws.Tables.{table-pushed}
 use Rattle.layout.proofs.Laws.Counts.{occupied-most}
-use Rattle.layout.proofs.Laws.Sound.{firstAt, heldAt, rootOf, dirSize, Sound, root-chain}
-use Rattle.layout.proofs.Laws.Files.{slot-low}
-use Rattle.layout.proofs.Laws.Owners.{Fresh, slot-beside}
-use Rattle.layout.proofs.Laws.Steps.{over, over-same, over-other, Midway, dir-apart}
+use Rattle.layout.proofs.Laws.Tests.{lt-or-gt}
+use Rattle.layout.proofs.Laws.Sound.{heldAt, Sound, blocksOfAll}
+use Rattle.layout.proofs.Laws.Owners.{Fresh}
+use Rattle.layout.proofs.Laws.Steps.{over, over-same, over-other, Midway, Staying, kept-above, kept-used, dir-apart}
 
 abbrev firstNow : ℕ → ℕ → ℕ → ℕ
 firstNow zero b x = x
 firstNow (suc c) b x = b
 
-module _ (s : List ℕ) (S : Sound s) (k : ℕ) (k₁ : 1 ≤ k) (k₂ : k < 4 * dirSize s - 1) where
+module _ (s : List ℕ) (S : Sound s) (ks : List (ℕ × ℕ)) (P : ℕ → Type 0) (k : ℕ) (St : Staying s ks P k) where
   abbrev f : ℕ → ℕ
-  f = firstAt s (root s)
+  f = firstBlock s
 
   abbrev l : ℕ → ℕ
-  l = heldAt s (root s)
+  l = heldAt s
 
   abbrev n : ℕ
   n = blockCount s
 
-  abbrev m : ℕ
-  m = 4 * dirSize s - 1
-
   -- a block is taken
-  module _ (t : List ℕ) (b c : ℕ) (I : Midway s k t b c) (x : ℕ) (bs : List ℕ) (F : Fresh n (next t) (x ∷ bs)) (a : ℕ) (la : LastIs (next t) b c a) where
+  module _ (t : List ℕ) (b c : ℕ) (I : Midway s ks P k t b c) (x : ℕ) (bs : List ℕ) (F : Fresh n (next t) (x ∷ bs)) (a : ℕ) (la : LastIs (next t) b c a) where
     abbrev t′ : List ℕ
     t′ = taken t n a x
 
@@ -56,7 +53,7 @@ module _ (s : List ℕ) (S : Sound s) (k : ℕ) (k₁ : 1 ≤ k) (k₂ : k < 4 *
     zero-x = F .empty x (inl refl)
 
     mine : Chain (next t) n b c
-    mine = rw (over-same k b f, over-same k c l) at (I .table .right k k₂)
+    mine = rw (over-same k b f, over-same k c l) at (I .table .right k (St .owner))
 
     -- the last block is below n, in use, and in the chain
     last-small : (c : ℕ) → Chain (next t) n b c → LastIs (next t) b c a → a < n
@@ -94,27 +91,29 @@ module _ (s : List ℕ) (S : Sound s) (k : ℕ) (k₁ : 1 ≤ k) (k₂ : k < 4 *
         nth-suc (next t′) c b ∙ ap (next t′) (front (suc c) C e c (omega arith) ∙ sym e)
         ∙ taken-link n (S .least) t a x whole an xn tx (omega (arith, xn, S .most)) (omega (arith, C .above c (omega arith)))
 
-    away : (i : ℕ) → i < dirSize s → nth (next s) i (rootOf s) ≢ x
-    away i h e = chain-used (next s) n (rootOf s) (dirSize s) (root-chain s S) (S .least) i h (sym (I .dir i h) ∙ ap (next t) e ∙ zero-x)
+    away : (q : ℕ) → In q (blocksOfAll s ks) → q ≢ x
+    away q i e = kept-used s S ks P k St q i (sym (I .values q i) ∙ ap (next t) e ∙ zero-x)
 
-    keeps : (i w : ℕ) → (i + w ≤ 20) ⊎ (28 ≤ i) → (i + w ≤ 512) ⊎ ((512 * rootOf s ≤ i) × ((i + w ≤ 512 * x) ⊎ (512 * x + 512 ≤ i))) → Same t t′ i w
+    keeps : (i w : ℕ) → (i + w ≤ 20) ⊎ (28 ≤ i) → (i + w ≤ 512) ⊎ ((512 * rootBlock n ≤ i) × ((i + w ≤ 512 * x) ⊎ (512 * x + 512 ≤ i))) → Same t t′ i w
     keeps = taken-same n (S .least) t a x whole an xn tx
 
     more : be32 t 20 + 1 ≡ occupied (next t′) n
     more = omega (arith, I .used, taken-occupied n (S .least) t a x whole an xn tx zero-x used-a (S .most))
 
-    taken-step : Midway s k t′ (firstNow c b x) (suc c)
+    taken-step : Midway s ks P k t′ (firstNow c b x) (suc c)
     taken-step =
         record {
           len = taken-length n (S .least) t a x whole an xn ∙ sym (S .whole);
           head = same-then s t t′ 0 20 (I .head) (keeps 0 20 (inl (omega arith)) (inl (omega arith)));
           tail = same-then s t t′ 28 4 (I .tail) (keeps 28 4 (inr (omega arith)) (inl (omega arith)));
-          slots = λ j h. same-then s t t′ (slotAt (root s) j) 128 (I .slots j h)
-              (keeps (slotAt (root s) j) 128 (inr (omega (arith, slot-low s S j h)))
-              (inr (slot-low s S j h, ⊎-elim (λ p. inr p) (λ p. inl p) (slot-beside s S j h x (away (j / 4) (omega arith))))));
-          dir = λ i h. other (nth (next s) i (rootOf s)) (omega (arith, root-chain s S .below i h)) (away i h)
-              (λ pos e. let r = last-in c la pos in dir-apart s S k k₁ k₂ t b c I i (r .0) h (r .1) (e ∙ r .2)) ∙ I .dir i h;
-          table = table-pushed n m (next t) (over k b f) (over k c l) (I .table) (S .least) k k₂ (next t′) (over k (firstNow c b x) f) (over k (suc c) l)
+          kept = λ q i.
+              let w = kept-above s S ks P k St q i in
+              same-then s t t′ (512 * q) 512 (I .kept q i)
+              (keeps (512 * q) 512 (inr (omega arith)) (inr (omega arith, ⊎-elim (λ p. inl (omega arith)) (λ p. inr (omega arith)) (lt-or-gt q x (away q i)))));
+          values = λ q i.
+              other q (omega (arith, kept-above s S ks P k St q i .1)) (away q i)
+              (λ pos e. let r = last-in c la pos in dir-apart s S ks P k St t b c I q i (r .0) (r .1) (e ∙ r .2)) ∙ I .values q i;
+          table = table-pushed n P (next t) (over k b f) (over k c l) (I .table) (S .least) k (St .owner) (next t′) (over k (firstNow c b x) f) (over k (suc c) l)
               (λ j h ne. over-other k (firstNow c b x) f j ne ∙ sym (over-other k b f j ne)) (λ j h ne. over-other k (suc c) l j ne ∙ sym (over-other k c l j ne))
               x tx xn zero-x (taken-first n (S .least) t a x whole an xn tx zero-x used-a (S .most)) (over-same k (suc c) l ∙ ap suc (sym (over-same k c l)))
               (λ y h. rw (over-same k (firstNow c b x) f, over-same k b f) (front c mine la y (omega (arith, over-same k c l))))
@@ -143,8 +142,8 @@ module _ (s : List ℕ) (S : Sound s) (k : ℕ) (k₁ : 1 ≤ k) (k₂ : k < 4 *
         }
 
   -- then all of them
-  pub grown-steps : (bs : List ℕ) (t : List ℕ) (b c a : ℕ) → Midway s k t b c → LastIs (next t) b c a → Fresh n (next t) bs
-      → (z : ℕ) × Midway s k (grown t n a bs) z (c + length bs) × (chain (next (grown t n a bs)) z (c + length bs) ≡ chain (next t) b c ++ bs)
+  pub grown-steps : (bs : List ℕ) (t : List ℕ) (b c a : ℕ) → Midway s ks P k t b c → LastIs (next t) b c a → Fresh n (next t) bs
+      → (z : ℕ) × Midway s ks P k (grown t n a bs) z (c + length bs) × (chain (next (grown t n a bs)) z (c + length bs) ≡ chain (next t) b c ++ bs)
   unfolding grown
   grown-steps [] t b c a I la F = let e : c + 0 ≡ c = omega arith in rw e (b, I, sym (append-nil (chain (next t) b c)))
   grown-steps (x ∷ bs) t b c a I la F =

@@ -1,67 +1,94 @@
 -- Write: blocks are taken, the data is put, the entry is set anew. The image after it is sound; the file's content, blocks and entry are those
 -- that the write asks for, and the other files stay.
-use Prim.Native.Nat.{ℕ, zero, suc, _+_, _-_, _*_, _≤_, _<_, _/_}
+use Prim.Native.Nat.{ℕ, zero, suc, _+_, _-_, _*_, _≤_, _<_, _/_, max}
 use mathlib.Core.Path.{_≡_, refl, sym, ap, _∙_, subst}
-use mathlib.Core.Bool.{Bool, true, _||_, or-true}
+use mathlib.Core.Bool.{true, false, not, _&&_, or-true}
 use mathlib.Core.List.{List, _∷_, _++_, []}
 use mathlib.Core.Logic.{_⊎_, inl, inr, ⊎-elim, _≢_}
 use native.Mathlib.Omega.{arith}
 use native.Mathlib.Nat.{eq-or-lt-of-le}
-use borrow.Author.Tests.{eq-eqb, ne-eqb}
+use borrow.Author.Tests.{eq-eqb, ne-eqb, eqb-false, not-true, leb-true}
 use lib.ListN.{length, getD, take, drop, length-take, List·getD-eq-default}
-use lib.Dec.{eqb}
+use lib.Dec.{eqb, leb}
 use lib.Seq.{take-append-le}
 use Rattle.layout.specs.Lists.{iff, lastOr, distinct, joined}
-use Rattle.layout.specs.Bytes.{be32, part, splice, zeros, block}
-use Rattle.layout.specs.Geometry.{blockCount, tableBlocks, blocksFor}
+use Rattle.layout.specs.Bytes.{be32, bytes8, part, splice, zeros, block}
+use Rattle.layout.specs.Geometry.{blockCount, tableBlocks, blocksFor, rootBlock}
 use Rattle.layout.specs.Table.{next, chain, freeBlocks, tableBlockOf}
-use Rattle.layout.specs.Directory.{slotAt, typeOf, firstBlock, sizeOf, blocksOf, isFree, isFile, nameOf, nameOk, fileSlot, root, fileBlocks, content}
+use Rattle.layout.specs.Directory.{slotAt, typeOf, firstBlock, sizeOf, blocksOf, isFree, isFile, isDirectory, nameOf, nameOk, directory, dirs, fileBlocks, content}
+use Rattle.layout.specs.Limits.{maxData, maxLevels}
+use Rattle.layout.specs.Paths.{parts, pathOk, leading, shallow, home, pathSlot, entryOf, fileRefusal}
 use Rattle.layout.specs.Check.{attributesOk, fileOk, slotOk, check}
-use Rattle.layout.specs.Looks.{entryOf}
-use Rattle.volume.specs.Claims.{Written}
 use Rattle.volume.specs.Entries.{grown, entriesNamed}
-use Rattle.volume.specs.Write.{newSize, needed, newBlocks, put, setFile, writeAt, writeRefusal, changedEntries}
+use Rattle.volume.specs.Write.{newSize, needed, newBlocks, put, setFile, writeAt, writeAtRefusal, writeRefusal, changedEntries}
 use Rattle.volume.proofs.Laws.Growth.{grown-steps}
-use Rattle.volume.proofs.Laws.Accepted.{write-given}
-use Rattle.volume.proofs.Laws.Space.{new-fresh, all-above, all-below, last-below, all-length, all-size}
+use Rattle.volume.proofs.Laws.Space.{new-fresh, new-length, all-above, all-below, last-below, all-length, all-size}
 use Rattle.volume.proofs.Laws.Data.{put-outside, joined-put, grown-zero}
-use Rattle.volume.proofs.Laws.Table.{grown-next}
+use Rattle.volume.proofs.Laws.Table.{grown-next, grown-used}
 use Rattle.volume.proofs.Laws.Entries.{set-file-length, set-file-same, set-file-created, set-file-modified, set-file-first, set-file-size, set-file-blocks}
 use Rattle.volume.proofs.Laws.Frame.{entries-low, changed-below, grown-agree, grown-length, written-in, put-agree}
 use Rattle.layout.proofs.Laws.Bytes.{splice-nil, splice-cut}
-use Rattle.layout.proofs.Laws.Tests.{and-split, and-join, true-not-false, lt-or-ge}
+use Rattle.layout.proofs.Laws.Tests.{and-split, and-join, is-false, lt-or-ge, within-split, require-zero, firstOf-zero}
 use Rattle.layout.proofs.Laws.Lists.{In, in-append, joined-append, last-in, joined-same}
 use Rattle.layout.proofs.Laws.Frames.{Same, same-then, same-inner, same-byte, same-be32, same-part, before-next, Agree, agree-block, agree-next}
 use Rattle.layout.proofs.Laws.Chains.{nth, Chain, getD-chain, in-chain, chain-agree, chain-distinct, chain-last, chain-start}
-use Rattle.layout.proofs.Laws.Counts.{chain-most}
-use Rattle.layout.proofs.Laws.Sound.{firstAt, heldAt, file-held, rootOf, dirSize, Sound, sound, check-zero, slotOk-split}
-use Rattle.layout.proofs.Laws.Files.{slot-high, slot-low, named-slot, file-in, length-fileBlocks, length-blocks}
-use Rattle.layout.proofs.Laws.Owners.{held-above, held-below, held-used, file-holds, file-above, file-below, file-used, slot-elsewhere, Fresh, file-apart}
-use Rattle.layout.proofs.Laws.Steps.{over-same, Midway, midway-start, dir-apart, midway-end, bytes-step}
-use Rattle.layout.proofs.Laws.Others.{Others, other-name, slot-changed}
+use Rattle.layout.proofs.Laws.Counts.{chain-most, occupied-most, occupied-same}
+use Rattle.layout.proofs.Laws.Visits.{dirBlocks}
+use Rattle.layout.proofs.Laws.Trees.{sizeAt}
+use Rattle.layout.proofs.Laws.Sound.{heldAt, Sound, Entry, sound, check-zero}
+use Rattle.layout.proofs.Laws.Slots.{slot-entry, entry-high, entry-low, names-differ}
+use Rattle.layout.proofs.Laws.Files.{file-in, file-right, length-fileBlocks, length-blocks}
+use Rattle.layout.proofs.Laws.Owners.{free-count, tree-apart, file-held, file-used-type, file-no-self, held-above, held-below, held-used, file-holds, file-above, file-below, file-used, entry-elsewhere, Fresh, file-apart}
+use Rattle.layout.proofs.Laws.Changed.{OneSlot}
+use Rattle.layout.proofs.Laws.Steps.{over-same, Midway, Staying, staying, midway-start, dir-apart, midway-end, one-slot, bytes-step}
+use Rattle.layout.proofs.Laws.Paths.{path-named, path-home}
 
-module _ (s : List ℕ) (S : Sound s) (k : ℕ) (k₁ : 1 ≤ k) (k₂ : k < 4 * dirSize s - 1) where
+-- what an accepted write makes of the entry at e, and of its file
+pub record Written (s s′ : List ℕ) (e offset : ℕ) (bytes : List ℕ) (time : ℕ) : Type 0 where
+  pub contents : content s′ e ≡ splice (content s e) offset bytes
+  pub size : sizeOf s′ e ≡ max (sizeOf s e) (offset + length bytes)
+  pub blocks : fileBlocks s′ e ≡ fileBlocks s e ++ newBlocks s e offset (length bytes)
+  -- the bytes of its blocks, also those past the size: what is new is zero but for the data
+  pub whole : joined (block s′) (fileBlocks s′ e) ≡ splice (joined (block s) (fileBlocks s e) ++ zeros (512 * length (newBlocks s e offset (length bytes)))) offset bytes
+  -- type, user, group and permissions; time created; time modified; attributes, system flags, reserved and name
+  pub kind : part s′ e 4 ≡ part s e 4
+  pub created : part s′ (e + 16) 8 ≡ part s (e + 16) 8
+  pub modified : part s′ (e + 24) 8 ≡ bytes8 time
+  pub rest : part s′ (e + 32) 96 ≡ part s (e + 32) 96
+  pub type : typeOf s′ e ≡ typeOf s e
+  pub name : nameOf s′ e ≡ nameOf s e
+
+module _ (s : List ℕ) (S : Sound s) (d : ℕ × ℕ) (di : In d (dirs s)) (k : ℕ) (k₁ : 1 ≤ k) (k₂ : k < 4 * sizeAt s (d .0) - 1) (file : isFile (typeOf s (slotAt (directory s (d .0)) k)) ≡ true) where
   abbrev n : ℕ
   n = blockCount s
 
   abbrev e : ℕ
-  e = slotAt (root s) k
+  e = slotAt (directory s (d .0)) k
+
+  mine : Entry s e
+  mine = slot-entry s S d di k (omega arith)
+
+  no-self : (x : ℕ × ℕ) → In x (dirs s) → 512 * x .0 ≢ e
+  no-self x i q = file-no-self s S e mine file x i (sym q)
+
+  St : Staying s (dirs s) (Entry s) e
+  St = staying s S e mine no-self
 
   -- the data, in blocks of the chain
-  put-midway : (bs : List ℕ) (t : List ℕ) (b c offset : ℕ) (bytes : List ℕ) → Midway s k t b c
-      → ((q : ℕ) → In q bs → (tableBlocks n < q) × (q < n) × ((x : ℕ) → x < dirSize s → nth (next s) x (rootOf s) ≢ q)) → Midway s k (put t bs offset bytes) b c
+  put-midway : (bs : List ℕ) (t : List ℕ) (b c offset : ℕ) (bytes : List ℕ) → Midway s (dirs s) (Entry s) e t b c
+      → ((q : ℕ) → In q bs → (tableBlocks n < q) × (q < n) × (In q (dirBlocks s) → ⊥)) → Midway s (dirs s) (Entry s) e (put t bs offset bytes) b c
   unfolding put
   put-midway [] t b c offset bytes I f = I
   put-midway (q ∷ bs) t b c offset bytes I f =
       put-midway bs (splice t (512 * q + offset) (take (512 - offset) bytes)) b c (offset - 512) (drop (512 - offset) bytes) (here (lt-or-ge offset 512)) (λ x i. f x (inr i))
     where
-      here : (offset < 512) ⊎ (512 ≤ offset) → Midway s k (splice t (512 * q + offset) (take (512 - offset) bytes)) b c
+      here : (offset < 512) ⊎ (512 ≤ offset) → Midway s (dirs s) (Entry s) e (splice t (512 * q + offset) (take (512 - offset) bytes)) b c
       here (inl h) =
           let w = f q (inl refl) in
-          bytes-step s S k k₁ k₂ t b c I q (w .0) (w .1) (w .2) (512 * q + offset) (take (512 - offset) bytes) (omega arith) (omega (arith, length-take (512 - offset) bytes))
+          bytes-step s S (dirs s) (Entry s) e St t b c I q (w .0) (w .1) (w .2) (512 * q + offset) (take (512 - offset) bytes) (omega arith) (omega (arith, length-take (512 - offset) bytes))
       here (inr h) = let z : 512 - offset ≡ 0 = omega arith in rw (z, splice-nil) I
 
-  module _ (file : isFile (typeOf s e) ≡ true) (offset : ℕ) (bytes : List ℕ) (time : ℕ) (room : needed s e offset (length bytes) ≤ length (freeBlocks (next s) n)) where
+  module _ (offset : ℕ) (bytes : List ℕ) (time : ℕ) (room : needed s e offset (length bytes) ≤ length (freeBlocks (next s) n)) where
     abbrev old : List ℕ
     old = fileBlocks s e
 
@@ -94,41 +121,41 @@ module _ (s : List ℕ) (S : Sound s) (k : ℕ) (k₁ : 1 ≤ k) (k₂ : k < 4 *
     fresh = new-fresh s e offset (length bytes) S
 
     above : (q : ℕ) → In q (old ++ new) → tableBlocks n < q
-    above = all-above s S k k₂ file offset (length bytes)
+    above = all-above s S e mine file offset (length bytes)
 
     below : (q : ℕ) → In q (old ++ new) → q < n
-    below = all-below s S k k₂ file offset (length bytes)
+    below = all-below s S e mine file offset (length bytes)
 
     last-small : last < n
-    last-small = last-below s S k k₂ file offset (length bytes)
+    last-small = last-below s S e mine file offset (length bytes)
 
     last-old : 0 < last → In last old
     last-old pos = ⊎-elim (λ z. absurd (omega arith)) (λ i. i) (last-in old 0)
 
     length-is : length (old ++ new) ≡ c
-    length-is = all-length s S k k₂ file offset (length bytes)
+    length-is = all-length s S e mine file offset (length bytes)
 
     size-is : c ≡ blocksFor size
-    size-is = all-size s S k k₂ file offset (length bytes) k₁ room
+    size-is = all-size s S e mine file offset (length bytes) (file-in s S d di k k₁ k₂ file .blocks) room
 
     -- the steps: blocks are taken to the end of the chain, and the data is put
-    at-start : Midway s k s (firstBlock s e) (blocksOf s e)
-    at-start = rw (file-holds s S k k₂ file) at (midway-start s S k k₁ k₂)
+    at-start : Midway s (dirs s) (Entry s) e s (firstBlock s e) (blocksOf s e)
+    at-start = rw (file-holds s S e mine file) at (midway-start s S e mine no-self)
 
-    grow : (z : ℕ) × Midway s k larger z c × (chain (next larger) z c ≡ old ++ new)
+    grow : (z : ℕ) × Midway s (dirs s) (Entry s) e larger z c × (chain (next larger) z c ≡ old ++ new)
     unfolding fileBlocks
-    grow = grown-steps s S k k₁ k₂ new s (firstBlock s e) (blocksOf s e) last at-start (chain-last (next s) (firstBlock s e) (blocksOf s e)) fresh
+    grow = grown-steps s S (dirs s) (Entry s) e St new s (firstBlock s e) (blocksOf s e) last at-start (chain-last (next s) (firstBlock s e) (blocksOf s e)) fresh
 
     larger-chain : Chain (next larger) n (grow .0) c
-    larger-chain = rw (over-same k (grow .0) (firstAt s (root s)), over-same k c (heldAt s (root s))) at (grow .1 .table .right k k₂)
+    larger-chain = rw (over-same e (grow .0) (firstBlock s), over-same e c (heldAt s)) at (grow .1 .table .right e mine)
 
     -- not the directory's
-    all-far : (q : ℕ) → In q (old ++ new) → (x : ℕ) → x < dirSize s → nth (next s) x (rootOf s) ≢ q
-    all-far q i x h o =
+    all-far : (q : ℕ) → In q (old ++ new) → In q (dirBlocks s) → ⊥
+    all-far q i m =
         let r = in-chain (next larger) (grow .0) c q (rw (← grow .2) at i) in
-        dir-apart s S k k₁ k₂ larger (grow .0) c (grow .1) x (r .0) h (r .1) (o ∙ r .2)
+        dir-apart s S (dirs s) (Entry s) e St larger (grow .0) c (grow .1) q m (r .0) (r .1) (r .2)
 
-    filled : Midway s k full (grow .0) c
+    filled : Midway s (dirs s) (Entry s) e full (grow .0) c
     filled = put-midway (old ++ new) larger (grow .0) c offset bytes (grow .1) (λ q i. (above q i, below q i, all-far q i))
 
     pub few : c ≤ n
@@ -149,7 +176,7 @@ module _ (s : List ℕ) (S : Sound s) (k : ℕ) (k₁ : 1 ≤ k) (k₂ : k < 4 *
 
     -- the entry, set anew
     fits : e + 128 ≤ length full
-    fits = omega (arith, filled .len, slot-high s S k (omega arith))
+    fits = omega (arith, filled .len, entry-high s S e mine)
 
     done-length : length done ≡ length s
     done-length = set-file-length full e first size c time fits ∙ filled .len
@@ -157,12 +184,16 @@ module _ (s : List ℕ) (S : Sound s) (k : ℕ) (k₁ : 1 ≤ k) (k₂ : k < 4 *
     outside : (a w : ℕ) → (a + w ≤ e) ⊎ (e + 128 ≤ a) → Same full done a w
     outside a w h = set-file-same full e first size c time fits a w (⊎-elim (λ x. inl (omega arith)) (λ x. inr (omega arith)) h)
 
+    -- the slot before it is set anew
+    slot-kept : Same s full e 128
+    slot-kept = let h = mine .aligned in same-inner s full (512 * (e / 512)) 512 e 128 (filled .kept (e / 512) (mine .within-tree)) (omega arith) (omega arith)
+
     -- the other bytes of the slot
     slot-same : (a w : ℕ) → e ≤ a → a + w ≤ e + 128 → (a + w ≤ e + 4) ⊎ (e + 32 ≤ a) → Same s done a w
-    slot-same a w h g o = same-then s full done a w (same-inner s full e 128 a w (filled .slots k (omega arith)) h g) (set-file-same full e first size c time fits a w o)
+    slot-same a w h g o = same-then s full done a w (same-inner s full e 128 a w slot-kept h g) (set-file-same full e first size c time fits a w o)
 
     slot-part : (a w : ℕ) → e ≤ a → a + w ≤ e + 128 → (a + w ≤ e + 4) ⊎ (e + 32 ≤ a) → part done a w ≡ part s a w
-    slot-part a w h g o = same-part s done a w a w (slot-same a w h g o) (omega arith) (omega arith) (omega (arith, slot-high s S k (omega arith))) done-length
+    slot-part a w h g o = same-part s done a w a w (slot-same a w h g o) (omega arith) (omega arith) (omega (arith, entry-high s S e mine)) done-length
 
     first-done : firstBlock done e ≡ first
     first-done = set-file-first full e first size c time fits first-small
@@ -197,21 +228,27 @@ module _ (s : List ℕ) (S : Sound s) (k : ℕ) (k₁ : 1 ≤ k) (k₂ : k < 4 *
     slot-ok : slotOk done e ≡ true
     unfolding slotOk fileOk nameOk attributesOk
     slot-ok =
-        let w = ⊎-elim (λ q. absurd (true-not-false (rw q at file) refl)) (λ q. q .1) (slotOk-split s e (S .slot k k₁ k₂)) in
+        let w = file-right s S d di k k₁ k₂ file in
         let a = and-split (nameOk s e) _ w in
         let b = and-split (attributesOk s e) _ (a .1) in
         rw (type-done, file, name-done, field-done, attribute-done 32 (omega arith) (omega arith), attribute-done 36 (omega arith) (omega arith), first-done, size-done, blocks-done)
-        (ap (λ (x : Bool). isFree (typeOf s e) || x) (and-join (a .0) (and-join (b .0) (and-join (eq-eqb c (blocksFor size) size-is) empty-exact))) ∙ or-true (isFree (typeOf s e)))
+        (rw (and-join (a .0) (and-join (b .0) (and-join (eq-eqb c (blocksFor size) size-is) empty-exact))) (or-true (isFree (typeOf s e))))
 
     write-is : writeAt s e offset bytes time ≡ done
     unfolding writeAt
     write-is = rw length-is
 
+    no-dir : isDirectory (typeOf s e) ≡ false
+    no-dir = is-false _ (λ q. let x = within-split 0x20 0x5F (typeOf s e) q in let y = within-split 0x60 0x9F (typeOf s e) file in omega arith)
+
+    used : typeOf s e ≢ 0
+    used = file-used-type (typeOf s e) file
+
     pub written-sound : Sound (writeAt s e offset bytes time)
     written-sound =
         rw write-is
-        (midway-end s S k k₁ k₂ full (grow .0) c filled done (set-file-length full e first size c time fits) outside slot-ok
-        (λ f j h g ne fj q. other-name s S k k₁ k₂ file j h g ne fj (sym q ∙ name-done)) (λ pos. first-done ∙ first-is pos) (rw (type-done, blocks-done) (file-held (typeOf s e) c file)))
+        (midway-end s S d di k k₁ k₂ full (grow .0) c filled done (set-file-length full e first size c time fits) outside no-dir (rw type-done no-dir) slot-ok
+        (λ u j h g ne uj q. names-differ s S d di j k h k₁ g k₂ ne uj used (sym q ∙ name-done)) (λ pos. first-done ∙ first-is pos) (rw (type-done, blocks-done) (file-held (typeOf s e) c file)))
 
     -- the others stay
     taken-agree : Agree s larger (new ++ entriesNamed (changedEntries last new))
@@ -230,13 +267,13 @@ module _ (s : List ℕ) (S : Sound s) (k : ℕ) (k₁ : 1 ≤ k) (k₂ : k < 4 *
     full-next y h = agree-next y (put-agree n (S .least) (old ++ new) larger offset bytes larger-length below)
         (λ i. omega (arith, above (tableBlockOf y) (written-in (old ++ new) offset (length bytes) (tableBlockOf y) i)))
 
-    -- block x of another slot
-    module _ (j : ℕ) (h : j < 4 * dirSize s - 1) (ne : j ≢ k) (x : ℕ) (g : x < heldAt s (root s) j) where
+    -- block x of another entry
+    module _ (j : ℕ) (h : Entry s j) (ne : j ≢ e) (x : ℕ) (g : x < heldAt s j) where
       abbrev q : ℕ
-      q = nth (next s) x (firstAt s (root s) j)
+      q = nth (next s) x (firstBlock s j)
 
       not-old : In q old → ⊥
-      not-old = file-apart s S k k₂ file j h ne x g
+      not-old = file-apart s S e mine file j h ne x g
 
       not-new : In q new → ⊥
       not-new i = held-used s S j h x g (fresh .empty q i)
@@ -252,15 +289,37 @@ module _ (s : List ℕ) (S : Sound s) (k : ℕ) (k₁ : 1 ≤ k) (k₂ : k < 4 *
           put-outside n (S .least) q (old ++ new) larger offset bytes larger-length below (λ i. ⊎-elim not-old not-new (in-append q old new i))
           ∙ larger-block q (held-above s S j h x g) not-new
 
-    pub written-others : Others s (writeAt s e offset bytes time) k
-    written-others =
-        rw write-is
-        (slot-changed s S k k₁ k₂ full (filled .len) (filled .head) (filled .tail) (filled .slots) next-kept (λ j h g ne x y. data-kept j g ne x y)
-        done (set-file-length full e first size c time fits) outside)
+    -- the table's entries and the data of every other entry's blocks, when the entry is set anew
+    pub written-next : (a : ℕ) → Entry s a → a ≢ e → (x : ℕ) → x < heldAt s a → next (writeAt s e offset bytes time) (nth (next s) x (firstBlock s a)) ≡ next s (nth (next s) x (firstBlock s a))
+    written-next a A ne x g =
+        rw write-is (before-next full done n (outside 0 (512 * rootBlock n) (inl (omega (arith, entry-low s S e mine)))) (nth (next s) x (firstBlock s a)) (omega (arith, held-below s S a A x g)) ∙ next-kept a A ne x g)
+
+    pub written-block : (a : ℕ) → Entry s a → a ≢ e → isFile (typeOf s a) ≡ true → (x : ℕ) → x < heldAt s a
+        → block (writeAt s e offset bytes time) (nth (next s) x (firstBlock s a)) ≡ block s (nth (next s) x (firstBlock s a))
+    written-block a A ne f x g =
+        rw write-is (entry-elsewhere s S e mine full done (filled .len) (set-file-length full e first size c time fits) outside (nth (next s) x (firstBlock s a)) (held-below s S a A x g)
+        (λ z. tree-apart s S a A x g (file-no-self s S a A f) (subst (λ (y : ℕ). In y (dirBlocks s)) z (mine .within-tree))) ∙ data-kept a A ne x g)
+
+    -- only this slot of the directories differs
+    pub written-slot : OneSlot s (dirs s) (writeAt s e offset bytes time) e
+    written-slot = rw write-is (one-slot s S d di k k₁ k₂ full (grow .0) c filled done (set-file-length full e first size c time fits) outside)
+
+    -- as many blocks more are in use as it takes
+    pub written-used : be32 (writeAt s e offset bytes time) 20 ≡ be32 s 20 + needed s e offset (length bytes)
+    written-used =
+        let l = new-length s e offset (length bytes) room in
+        let free = free-count s S in
+        let f = S .free-is in
+        let u = S .used-is in
+        let w = grow .1 .used in
+        let m = S .most in
+        let g = grown-used n (S .least) new s last (S .whole) last-small (fresh .below) (omega (arith, occupied-most (next s) n)) in
+        rw write-is (same-be32 full done 0 28 20 (outside 0 28 (inl (omega (arith, entry-low s S e mine)))) (omega arith) (omega arith)
+        ∙ filled .used ∙ occupied-same (next larger) (next full) n (λ y h. ap (λ (z : ℕ). eqb z 0) (full-next y (omega arith))) ∙ sym w ∙ g ∙ ap (λ (z : ℕ). be32 s 20 + z) l)
 
     -- the file is as written
     done-next : (y : ℕ) → y < 128 * tableBlocks n → next done y ≡ next larger y
-    done-next y h = before-next full done n (outside 0 (512 * rootOf s) (inl (omega (arith, slot-low s S k (omega arith))))) y h ∙ full-next y h
+    done-next y h = before-next full done n (outside 0 (512 * rootBlock n) (inl (omega (arith, entry-low s S e mine)))) y h ∙ full-next y h
 
     done-blocks : fileBlocks done e ≡ old ++ new
     unfolding fileBlocks
@@ -275,12 +334,13 @@ module _ (s : List ℕ) (S : Sound s) (k : ℕ) (k₁ : 1 ≤ k) (k₂ : k < 4 *
     unfolding newSize
     done-joined =
         joined-same (block full) (block done) (old ++ new)
-        (λ q i. slot-elsewhere s S k (omega arith) full done (filled .len) (set-file-length full e first size c time fits) outside q (below q i) (all-far q i (k / 4) (omega arith)))
+        (λ q i. entry-elsewhere s S e mine full done (filled .len) (set-file-length full e first size c time fits) outside q (below q i)
+        (λ z. all-far q i (subst (λ (y : ℕ). In y (dirBlocks s)) z (mine .within-tree))))
         ∙ joined-put n (S .least) (old ++ new) larger offset bytes larger-length below all-distinct (omega (arith, length-is, size-is))
 
     old-kept : joined (block larger) old ≡ joined (block s) old
     old-kept = joined-same (block s) (block larger) old
-        (λ q i. larger-block q (file-above s S k k₂ file q i) (λ m. file-used s S k k₂ file q i (fresh .empty q m)))
+        (λ q i. larger-block q (file-above s S e mine file q i) (λ m. file-used s S e mine file q i (fresh .empty q m)))
 
     done-data : joined (block done) (fileBlocks done e) ≡ splice (joined (block s) old ++ zeros (512 * length new)) offset bytes
     done-data =
@@ -291,9 +351,9 @@ module _ (s : List ℕ) (S : Sound s) (k : ℕ) (k₁ : 1 ≤ k) (k₂ : k < 4 *
       done-content : content done e ≡ splice (content s e) offset bytes
       unfolding content newSize
       done-content =
-          let lo = length-blocks larger old (λ x m. omega (arith, larger-length, file-below s S k k₂ file x m)) in
+          let lo = length-blocks larger old (λ x m. omega (arith, larger-length, file-below s S e mine file x m)) in
           let la = length-blocks larger (old ++ new) (λ x m. omega (arith, larger-length, below x m)) in
-          let ob = file-in s S k k₁ k₂ file .blocks in
+          let ob = file-in s S d di k k₁ k₂ file .blocks in
           let lc = length-fileBlocks s e in
           let x : take (sizeOf s e) (joined (block larger) (old ++ new)) ≡ take (sizeOf s e) (joined (block s) old) =
           ap (take (sizeOf s e)) (joined-append (block larger) old new) ∙ take-append-le (sizeOf s e) (joined (block larger) old) (joined (block larger) new) (omega arith) ∙ ap (take (sizeOf s e)) old-kept in
@@ -310,18 +370,26 @@ module _ (s : List ℕ) (S : Sound s) (k : ℕ) (k₁ : 1 ≤ k) (k₂ : k < 4 *
             whole = done-data;
             kind = slot-part e 4 (omega arith) (omega arith) (inl (omega arith));
             created = same-part s done (e + 16) 8 (e + 16) 8
-                (same-then s full done (e + 16) 8 (same-inner s full e 128 (e + 16) 8 (filled .slots k (omega arith)) (omega arith) (omega arith)) (set-file-created full e first size c time fits))
-                (omega arith) (omega arith) (omega (arith, slot-high s S k (omega arith))) done-length;
+                (same-then s full done (e + 16) 8 (same-inner s full e 128 (e + 16) 8 slot-kept (omega arith) (omega arith)) (set-file-created full e first size c time fits))
+                (omega arith) (omega arith) (omega (arith, entry-high s S e mine)) done-length;
             modified = set-file-modified full e first size c time fits;
             rest = slot-part (e + 32) 96 (omega arith) (omega arith) (inr (omega arith));
             type = type-done;
             name = name-done;
           })
 
-pub kept-write : (s name : List ℕ) (offset : ℕ) (bytes : List ℕ) (time : ℕ) → check s ≡ 0 → writeRefusal s name offset (length bytes) ≡ 0
-    → check (writeAt s (entryOf s name) offset bytes time) ≡ 0
-unfolding entryOf
-kept-write s name offset bytes time c r =
-    let g = write-given s name offset (length bytes) r in
-    let p = named-slot s name (g .there) in
-    check-zero _ (written-sound s (sound s c) (fileSlot s (root s) name) (p .0) (p .1) (p .2) offset bytes time (g .room))
+pub kept-write : (s path : List ℕ) (offset : ℕ) (bytes : List ℕ) (time : ℕ) → check s ≡ 0 → writeRefusal s path offset (length bytes) ≡ 0
+    → check (writeAt s (entryOf isFile s path) offset bytes time) ≡ 0
+unfolding writeRefusal writeAtRefusal fileRefusal entryOf
+kept-write s path offset bytes time c r =
+    let x = require-zero (leb (length bytes) maxData && pathOk path) 8 _ r in
+    let y = firstOf-zero (fileRefusal s path) _ (x .1) in
+    let a = require-zero (pathOk path) 8 _ (y .0) in
+    let b = require-zero (shallow (leading (parts path))) 16 _ (a .1) in
+    let f = require-zero (not (eqb (pathSlot isFile s path) 0)) 9 _ (b .1) in
+    let g = require-zero (leb offset (sizeOf s (entryOf isFile s path))) 11 _ (y .1) in
+    let h = require-zero (leb (needed s (entryOf isFile s path) offset (length bytes)) (length (freeBlocks (next s) (blockCount s)))) 13 _ (g .1) in
+    let ne = eqb-false _ _ (not-true _ (f .0)) in
+    let N = path-named isFile s path ne in
+    check-zero _ (written-sound s (sound s c) (home s path, maxLevels - length (leading (parts path))) (path-home isFile s path ne (b .0)) (pathSlot isFile s path) (N .low) (N .high) (N .typed)
+    offset bytes time (leb-true _ _ (h .0)))

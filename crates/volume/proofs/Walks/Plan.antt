@@ -9,21 +9,21 @@ use Rattle.layout.specs.Lists.{lastOr}
 use Rattle.layout.specs.Limits.{maxBlocks, maxData}
 use Rattle.layout.specs.Geometry.{blockCount, blocksFor}
 use Rattle.layout.specs.Table.{next, chain, freeBlocks}
-use Rattle.layout.specs.Directory.{fileSlot, root, fileBlocks}
+use Rattle.layout.specs.Directory.{isFile, fileBlocks}
 use Rattle.layout.specs.Check.{check}
-use Rattle.layout.specs.Looks.{entryOf}
+use Rattle.layout.specs.Paths.{entryOf}
 use Rattle.volume.specs.Write.{newSize, needed, newBlocks, writeRefusal}
 use Rattle.layout.specs.Walks.Looks.{Located}
 use Rattle.volume.specs.Walks.Searches.{freeFrom, FirstFree}
 use Rattle.volume.specs.Walks.Writes.{Planned}
-use Rattle.volume.proofs.Laws.Accepted.{WriteGiven, write-given, name-given}
+use Rattle.volume.proofs.Laws.Places.{WriteGiven, write-given}
+use Rattle.volume.proofs.Laws.Framed.{at-entry}
 use Rattle.volume.proofs.Laws.Space.{new-length, all-length}
 use Rattle.layout.proofs.Walks.Looks.{located-chain}
 use Rattle.volume.proofs.Walks.Grow.{free-all}
-use Rattle.volume.proofs.Walks.Write.{blocks-for, blocks-most}
+use Rattle.volume.proofs.Walks.Write.{path-given, at-typed, blocks-for, blocks-most}
 use Rattle.layout.proofs.Laws.Tests.{lt-or-ge}
 use Rattle.layout.proofs.Laws.Sound.{sound}
-use Rattle.layout.proofs.Laws.Files.{named-slot}
 use Rattle.layout.proofs.Laws.Chains.{chain-none}
 
 -- the first block of a chain with blocks taken behind it
@@ -49,9 +49,9 @@ some-free v n k h ne =
     ⊎-elim (λ p. omega (arith, ap length e)) (λ p. absurd (ne (omega arith))) (lt-or-ge 0 k)
 
 -- an accepted write on a sound image
-module _ (s name : List ℕ) (offset count : ℕ) (ok : check s ≡ 0) (r : writeRefusal s name offset count ≡ 0) where
+module _ (s path : List ℕ) (offset count : ℕ) (ok : check s ≡ 0) (r : writeRefusal s path offset count ≡ 0) where
   abbrev e : ℕ
-  e = entryOf s name
+  e = entryOf isFile s path
 
   abbrev n : ℕ
   n = blockCount s
@@ -62,14 +62,14 @@ module _ (s name : List ℕ) (offset count : ℕ) (ok : check s ≡ 0) (r : writ
   abbrev new : List ℕ
   new = newBlocks s e offset count
 
-  given : WriteGiven s name offset count
-  given = write-given s name offset count r
+  given : WriteGiven s path offset count
+  given = write-given s path offset count r
 
   -- a file that was opened
-  module _ {slot b first size blocks : ℕ} (o : Located s name slot b first size blocks) where
+  module _ {slot b first size blocks : ℕ} (o : Located isFile s path slot b first size blocks) where
     pub plan-sizes : (offset ≤ size) × (size ≤ 512 * maxBlocks) × (count ≤ maxData) × (blocks ≡ blocksFor size)
     plan-sizes =
-        let g = name-given s name offset count r in
+        let g = path-given s path offset count r in
         let z = blocks-for o g ok in
         let q = blocks-most o g ok in
         (omega (arith, o .bytes, given .within-size), omega arith, given .few, z)
@@ -87,10 +87,9 @@ module _ (s name : List ℕ) (offset count : ℕ) (ok : check s ≡ 0) (r : writ
       new-is = rw need-is
 
       total : blocks + k ≡ length (old ++ new)
-      unfolding entryOf
       total =
-          let p = named-slot s name (given .there) in
-          omega (arith, o .count, need-is, new-length s e offset count (given .room), all-length s (sound s ok) (fileSlot s (root s) name) (p .1) (p .2) offset count)
+          let A = given .there in
+          omega (arith, o .count, need-is, new-length s e offset count (given .room), all-length s (sound s ok) e (at-entry s (sound s ok) isFile path A) (at-typed isFile s path A) offset count)
 
       pub planned : (last start end : ℕ) → last ≡ lastOr 0 (chain (next s) first blocks) → start ≡ getD (chain (next s) first blocks ++ take k (freeBlocks (next s) n)) 0 0
           → end ≡ max size (offset + count) → Planned s e offset count slot b last k start end (blocks + k)

@@ -1,7 +1,7 @@
 -- The refusals of a write, and what an accepted one has.
 use Prim.Native.Nat.{ℕ, _+_, _-_, _≤_, _<_, max}
 use mathlib.Core.Path.{_≡_, refl, sym, ap, _∙_}
-use mathlib.Core.Bool.{Bool, true, false, not, _&&_, and-false}
+use mathlib.Core.Bool.{Bool, true, false, not, _&&_}
 use mathlib.Core.List.{List}
 use native.Mathlib.Omega.{arith}
 use lib.Dec.{eqb, leb}
@@ -11,61 +11,73 @@ use Rattle.layout.specs.Bytes.{be32}
 use Rattle.layout.specs.Limits.{maxBlocks, maxData}
 use Rattle.layout.specs.Geometry.{blockCount, blocksFor}
 use Rattle.layout.specs.Table.{next}
-use Rattle.layout.specs.Directory.{goodName, fileSlot, root}
+use Rattle.layout.specs.Directory.{typeOf, isFile}
 use Rattle.layout.specs.Check.{check}
-use Rattle.layout.specs.Looks.{nameRefusal, entryOf}
+use Rattle.layout.specs.Limits.{maxData}
+use Rattle.layout.specs.Paths.{parts, pathOk, leading, shallow, pathSlot, entryOf, fileRefusal}
 use Rattle.volume.specs.Write.{newSize, needed, writeAtRefusal, writeRefusal}
 use Rattle.layout.specs.Walks.Looks.{Located}
 use Rattle.layout.proofs.Walks.Looks.{located-ok}
-use Rattle.layout.proofs.Laws.Looks.{name-file}
+use Rattle.layout.proofs.Laws.Looks.{path-file}
 use Rattle.layout.proofs.Laws.Chains.{chainOk-split}
 use Rattle.layout.proofs.Laws.Counts.{chain-most}
 use Rattle.layout.proofs.Walks.Shapes.{sound-shape}
-use Rattle.layout.proofs.Laws.Tests.{firstOf-refused}
+use Rattle.layout.proofs.Laws.Tests.{firstOf-refused, firstOf-zero, require-zero}
+use Rattle.volume.proofs.Laws.Places.{At}
 use Rattle.layout.proofs.Laws.Owners.{free-count}
 use Rattle.layout.proofs.Laws.Sound.{sound}
 
-module _ (s name : List ℕ) (offset count : ℕ) where
-  pub data-long : maxData < count → 9 ≡ writeRefusal s name offset count
+-- the path of an accepted write is accepted; its entry is of the type asked for
+pub path-given : (s path : List ℕ) (offset count : ℕ) → writeRefusal s path offset count ≡ 0 → fileRefusal s path ≡ 0
+unfolding writeRefusal
+path-given s path offset count r = firstOf-zero (fileRefusal s path) _ (require-zero (leb count maxData && pathOk path) 8 _ r .1) .0
+
+pub at-typed : (type : ℕ → Bool) (s path : List ℕ) → At type s path → type (typeOf s (entryOf type s path)) ≡ true
+unfolding entryOf
+at-typed type s path A = A .named .typed
+
+module _ (s path : List ℕ) (offset count : ℕ) where
+  pub data-long : maxData < count → 9 ≡ writeRefusal s path offset count
   unfolding writeRefusal
-  data-long h = rw (lt-leb count maxData h, and-false (goodName name))
+  data-long h = rw (lt-leb count maxData h)
 
   module _ (few : count ≤ maxData) where
-    by-name : writeRefusal s name offset count ≡ firstOf (nameRefusal s name) (writeAtRefusal s (entryOf s name) offset count)
-    unfolding writeRefusal nameRefusal
-    by-name = rw (le-leb count maxData few) (go (goodName name) (not (eqb (fileSlot s (root s) name) 0)) (writeAtRefusal s (entryOf s name) offset count))
+    by-path : writeRefusal s path offset count ≡ firstOf (fileRefusal s path) (writeAtRefusal s (entryOf isFile s path) offset count)
+    unfolding writeRefusal fileRefusal
+    by-path =
+        rw (le-leb count maxData few)
+        (go (pathOk path) (require (shallow (leading (parts path))) 17 (require (not (eqb (pathSlot isFile s path) 0)) 10 0)) (writeAtRefusal s (entryOf isFile s path) offset count))
       where
-        go : (a b : Bool) (x : ℕ) → require (a && true) 9 (require b 10 x) ≡ firstOf (require a 9 (require b 10 0)) x
-        go true true x = refl
-        go true false x = refl
-        go false b x = refl
+        go : (a : Bool) (y x : ℕ) → require a 9 (firstOf (require a 9 y) x) ≡ firstOf (require a 9 y) x
+        go true y x = refl
+        go false y x = refl
 
-    pub name-refused : (r : ℕ) → r ≡ nameRefusal s name → (r ≡ 0 → ⊥) → r ≡ writeRefusal s name offset count
-    name-refused r e h = sym (by-name ∙ rw (← e) (firstOf-refused r (writeAtRefusal s (entryOf s name) offset count) h))
+    pub path-refused : (r : ℕ) → r ≡ fileRefusal s path → (r ≡ 0 → ⊥) → r ≡ writeRefusal s path offset count
+    path-refused r e h = sym (by-path ∙ rw (← e) (firstOf-refused r (writeAtRefusal s (entryOf isFile s path) offset count) h))
 
-    module _ (z : nameRefusal s name ≡ 0) {slot b first size blocks : ℕ} (o : Located s name slot b first size blocks) where
-      at-entry : writeRefusal s name offset count ≡ writeAtRefusal s (entryOf s name) offset count
-      at-entry = by-name ∙ rw z
+    module _ (z : fileRefusal s path ≡ 0) {slot b first size blocks : ℕ} (o : Located isFile s path slot b first size blocks) where
+      at-entry : writeRefusal s path offset count ≡ writeAtRefusal s (entryOf isFile s path) offset count
+      at-entry = by-path ∙ rw z
 
-      pub offset-far : size < offset → 12 ≡ writeRefusal s name offset count
+      pub offset-far : size < offset → 12 ≡ writeRefusal s path offset count
       unfolding writeAtRefusal
       offset-far h = sym (at-entry ∙ rw (← o .bytes, lt-leb offset size h))
 
       module _ (ok : check s ≡ 0) (near : offset ≤ size) (free need : ℕ) (ef : free ≡ be32 s 24) (en : need ≡ blocksFor (max size (offset + count)) - blocks) where
-        decided : writeRefusal s name offset count ≡ require (leb need free) 14 0
+        decided : writeRefusal s path offset count ≡ require (leb need free) 14 0
         unfolding writeAtRefusal needed newSize
         decided = at-entry ∙ rw (free-count s (sound s ok), ← o .bytes, ← o .count, le-leb offset size near, ← en, ← ef)
 
-        pub room-none : free < need → 14 ≡ writeRefusal s name offset count
+        pub room-none : free < need → 14 ≡ writeRefusal s path offset count
         room-none h = sym (decided ∙ rw (lt-leb need free h))
 
-        pub room-there : need ≤ free → 0 ≡ writeRefusal s name offset count
+        pub room-there : need ≤ free → 0 ≡ writeRefusal s path offset count
         room-there h = sym (decided ∙ rw (le-leb need free h))
 
 -- the sizes of a file that was opened
-module _ {s name : List ℕ} {slot b first size blocks : ℕ} (o : Located s name slot b first size blocks) (z : nameRefusal s name ≡ 0) (ok : check s ≡ 0) where
+module _ {s path : List ℕ} {slot b first size blocks : ℕ} (o : Located isFile s path slot b first size blocks) (z : fileRefusal s path ≡ 0) (ok : check s ≡ 0) where
   pub blocks-for : blocks ≡ blocksFor size
-  blocks-for = o .count ∙ name-file s name z ok .blocks ∙ ap blocksFor (sym (o .bytes))
+  blocks-for = o .count ∙ path-file s path z ok .blocks ∙ ap blocksFor (sym (o .bytes))
 
   pub blocks-most : blocks ≤ maxBlocks
   blocks-most =

@@ -1,5 +1,5 @@
 -- A write, step by step: the blocks taken, the data put and the entry set anew give writeAt.
-use Prim.Native.Nat.{ℕ, _+_, _-_, _*_, _≤_, _<_}
+use Prim.Native.Nat.{ℕ, _+_, _*_, _≤_, _<_}
 use mathlib.Core.Path.{_≡_, sym, ap, _∙_}
 use mathlib.Core.Bool.{true}
 use mathlib.Core.List.{List, _++_}
@@ -11,32 +11,34 @@ use Rattle.layout.specs.Lists.{lastOr}
 use Rattle.layout.specs.Bytes.{be32}
 use Rattle.layout.specs.Geometry.{blockCount, blocksFor, inVolume}
 use Rattle.layout.specs.Table.{next, chain, freeBlocks}
-use Rattle.layout.specs.Directory.{slotAt, typeOf, blocksOf, isFile, fileSlot, root, fileBlocks}
+use Rattle.layout.specs.Directory.{typeOf, blocksOf, isFile, fileBlocks}
 use Rattle.layout.specs.Check.{check}
-use Rattle.layout.specs.Looks.{entryOf}
+use Rattle.layout.specs.Paths.{home, pathSlot, entryOf}
 use Rattle.layout.specs.Walks.Slots.{entryAt}
 use Rattle.volume.specs.Entries.{grown}
 use Rattle.volume.specs.Write.{newSize, newBlocks, put, setFile, writeAt, writeRefusal}
 use Rattle.volume.specs.Walks.Data.{Placed}
 use Rattle.volume.specs.Walks.Searches.{Growable}
 use Rattle.volume.specs.Walks.Writes.{Planned}
-use Rattle.volume.proofs.Laws.Accepted.{WriteGiven, write-given}
+use Rattle.volume.proofs.Laws.Places.{At, WriteGiven, write-given}
+use Rattle.volume.proofs.Laws.Framed.{at-entry}
+use Rattle.volume.proofs.Walks.Write.{path-given, at-typed}
 use Rattle.volume.proofs.Laws.Frame.{put-length}
 use Rattle.volume.proofs.Laws.Space.{all-above, all-below, all-length, all-size, last-below}
 use Rattle.volume.proofs.Laws.Write.{larger-blocks, larger-length, first-small, few}
 use Rattle.layout.proofs.Laws.Tests.{and-join}
 use Rattle.layout.proofs.Laws.Lists.{In, last-in, in-every}
 use Rattle.layout.proofs.Laws.Counts.{occupied-most}
-use Rattle.layout.proofs.Laws.Sound.{dirSize, Sound, sound}
+use Rattle.layout.proofs.Laws.Sound.{Sound, Entry, sound}
 use Rattle.layout.proofs.Walks.Shapes.{sound-shape}
-use Rattle.layout.proofs.Laws.Files.{named-slot}
+use Rattle.layout.proofs.Laws.Looks.{path-file}
 use Rattle.layout.proofs.Laws.Owners.{file-used, free-count}
 
-module _ (s name : List ℕ) (offset : ℕ) (bytes : List ℕ) (ok : check s ≡ 0) (r : writeRefusal s name offset (length bytes) ≡ 0)
-    {slot b last taken start size blocks : ℕ} (p : Planned s (entryOf s name) offset (length bytes) slot b last taken start size blocks)
+module _ (s path : List ℕ) (offset : ℕ) (bytes : List ℕ) (ok : check s ≡ 0) (r : writeRefusal s path offset (length bytes) ≡ 0)
+    {slot b last taken start size blocks : ℕ} (p : Planned s (entryOf isFile s path) offset (length bytes) slot b last taken start size blocks)
   where
     abbrev e : ℕ
-    e = entryOf s name
+    e = entryOf isFile s path
 
     abbrev n : ℕ
     n = blockCount s
@@ -53,14 +55,23 @@ module _ (s name : List ℕ) (offset : ℕ) (bytes : List ℕ) (ok : check s ≡
     S : Sound s
     S = sound s ok
 
-    given : WriteGiven s name offset (length bytes)
-    given = write-given s name offset (length bytes) r
+    given : WriteGiven s path offset (length bytes)
+    given = write-given s path offset (length bytes) r
 
     abbrev k : ℕ
-    k = fileSlot s (root s) name
+    k = pathSlot isFile s path
 
-    there : (1 ≤ k) × (k < 4 * dirSize s - 1) × (isFile (typeOf s (slotAt (root s) k)) ≡ true)
-    there = named-slot s name (given .there)
+    A : At isFile s path
+    A = given .there
+
+    abbrev d : ℕ × ℕ
+    d = (home s path, A .level)
+
+    E : Entry s e
+    E = at-entry s S isFile path A
+
+    file : isFile (typeOf s e) ≡ true
+    file = at-typed isFile s path A
 
     counted : be32 s 20 + length (freeBlocks (next s) n) ≡ n
     counted = omega (arith, free-count s S, S .used-is, S .free-is, occupied-most (next s) n)
@@ -70,8 +81,8 @@ module _ (s name : List ℕ) (offset : ℕ) (bytes : List ℕ) (ok : check s ≡
     write-growable =
         record {
           shape = sound-shape s ok;
-          inside = rw (p .behind) (last-below s S k (there .1) (there .2) offset (length bytes));
-          used = rw (p .behind) (λ pos. ⊎-elim (λ z. absurd (omega arith)) (λ i. file-used s S k (there .1) (there .2) (lastOr 0 old) i) (last-in old 0));
+          inside = rw (p .behind) (last-below s S e E file offset (length bytes));
+          used = rw (p .behind) (λ pos. ⊎-elim (λ z. absurd (omega arith)) (λ i. file-used s S e E file (lastOr 0 old) i) (last-in old 0));
           low = λ x h z. omega (arith, S .table .low x h);
           enough = omega (arith, p .taking, given .room);
           counted = omega (arith, counted, p .taking, given .room);
@@ -84,23 +95,23 @@ module _ (s name : List ℕ) (offset : ℕ) (bytes : List ℕ) (ok : check s ≡
     in-volume : (x : ℕ) → In x (old ++ new) → inVolume n x ≡ true
     unfolding entryOf inVolume
     in-volume x i =
-        and-join (lt-ltb _ _ (all-above s S k (there .1) (there .2) offset (length bytes) x i)) (lt-ltb _ _ (all-below s S k (there .1) (there .2) offset (length bytes) x i))
+        and-join (lt-ltb _ _ (all-above s S e E file offset (length bytes) x i)) (lt-ltb _ _ (all-below s S e E file offset (length bytes) x i))
 
     blocks-is : blocks ≡ blocksOf s e + length new
     unfolding entryOf
-    blocks-is = p .number ∙ all-length s S k (there .1) (there .2) offset (length bytes)
+    blocks-is = p .number ∙ all-length s S e E file offset (length bytes)
 
     size-is : blocks ≡ blocksFor size
     unfolding entryOf
-    size-is = blocks-is ∙ all-size s S k (there .1) (there .2) offset (length bytes) (there .0) (given .room) ∙ ap blocksFor (sym (p .bytes))
+    size-is = blocks-is ∙ all-size s S e E file offset (length bytes) (path-file s path (path-given s path offset (length bytes) r) ok .blocks) (given .room) ∙ ap blocksFor (sym (p .bytes))
 
     chain-is : chain (next larger) start blocks ≡ old ++ new
     unfolding entryOf
-    chain-is = rw (blocks-is, p .first) (larger-blocks s S k (there .0) (there .1) (there .2) offset bytes 0 (given .room))
+    chain-is = rw (blocks-is, p .first) (larger-blocks s S d (A .home-in) k (A .named .low) (A .named .high) (A .named .typed) offset bytes 0 (given .room))
 
     length-is : length larger ≡ 512 * n
     unfolding entryOf
-    length-is = larger-length s S k (there .0) (there .1) (there .2) offset bytes 0 (given .room)
+    length-is = larger-length s S d (A .home-in) k (A .named .low) (A .named .high) (A .named .typed) offset bytes 0 (given .room)
 
     module _ (t : List ℕ) (et : t ≡ grown s n last (take taken (freeBlocks (next s) n))) where
       pub write-placed : Placed t n start blocks offset (length bytes)
@@ -116,9 +127,9 @@ module _ (s name : List ℕ) (offset : ℕ) (bytes : List ℕ) (ok : check s ≡
         pub write-settable : (512 * b + 512 ≤ length u) × (start < 4294967296) × (size < 4294967296) × (blocks < 4294967296)
         unfolding entryOf
         write-settable =
-            let l : length u ≡ 512 * n = ap length put-is ∙ put-length n (S .least) (old ++ new) larger offset bytes length-is (all-below s S k (there .1) (there .2) offset (length bytes)) in
-            let f : start < 4294967296 = rw (p .first) (first-small s S k (there .0) (there .1) (there .2) offset bytes 0 (given .room)) in
-            let m : blocks ≤ n = rw blocks-is (few s S k (there .0) (there .1) (there .2) offset bytes 0 (given .room)) in
+            let l : length u ≡ 512 * n = ap length put-is ∙ put-length n (S .least) (old ++ new) larger offset bytes length-is (all-below s S e E file offset (length bytes)) in
+            let f : start < 4294967296 = rw (p .first) (first-small s S d (A .home-in) k (A .named .low) (A .named .high) (A .named .typed) offset bytes 0 (given .room)) in
+            let m : blocks ≤ n = rw blocks-is (few s S d (A .home-in) k (A .named .low) (A .named .high) (A .named .typed) offset bytes 0 (given .room)) in
             (omega (arith, p .inside), f, omega (arith, size-is, S .most), omega (arith, S .most))
 
         pub write-done : (time : ℕ) → setFile u (entryAt b slot) start size blocks time ≡ writeAt s e offset bytes time

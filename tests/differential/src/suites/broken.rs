@@ -4,18 +4,20 @@ use crate::arguments::*;
 use crate::damage::Clause;
 use crate::rng::Rng;
 use crate::tester::Tester;
+use crate::tree::slots;
 use crate::{damage, images, journals};
-use reference::layout::{block_count, root_block, root_chain, MAX_BLOCKS};
+use reference::layout::{block_count, root_block, MAX_BLOCKS};
+use reference::path::Want;
 use reference::State;
 
 /// Every call on an image, sound or not, with arguments that were made for
 /// the sound image.
 fn every_call(rng: &mut Rng, t: &mut Tester, sound: &[u8], image: &[u8]) {
-    let name = any_name(rng, sound);
-    let size = size_of(sound, &name);
+    let path = any_path(rng, sound, Want::File);
+    let size = size_of(sound, &path);
     let buffer = any_buffer(rng, size.min(2000));
     let offset = any_offset(rng, size);
-    t.look(image, &name, offset, &buffer, any_index(rng, size));
+    t.look(image, &path, offset, &buffer, any_index(rng, size));
     let journal = journals::any(rng, sound);
     let state = State { image: image.to_vec(), journal };
     for change in changes(rng, sound) {
@@ -72,7 +74,7 @@ pub fn two_clauses(rng: &mut Rng, _: u64, t: &mut Tester) {
         let clause = &low[rng.below(low.len())];
         let mut both = image.clone();
         // Two of one stage could mend each other.
-        if clause.stage >= high.stage || (clause.make)(rng, &mut both).is_none() {
+        if !damage::comes_first(clause, high) || (clause.make)(rng, &mut both).is_none() {
             continue;
         }
         t.report.about(format!("{} and {}", clause.what, high.what));
@@ -91,7 +93,7 @@ pub fn noise(rng: &mut Rng, _: u64, t: &mut Tester) {
         image[at] = match rng.below(3) {
             0 => image[at] ^ (1 << rng.below(8)),
             1 => rng.byte(),
-            _ => rng.pick(&[0, 1, 2, 0x60, 0x9F, 0xFF]),
+            _ => rng.pick(&[0, 1, 2, 0x20, 0x2F, 0x60, 0x9F, 0xFF]),
         };
     }
     if rng.once_in(20) {
@@ -105,7 +107,7 @@ pub fn noise(rng: &mut Rng, _: u64, t: &mut Tester) {
     every_call(rng, t, &sound, &image);
 }
 
-/// The offset of a byte in the header's start, the table or the directory.
+/// The offset of a byte in the header's start, the table or a directory.
 fn watched_byte(rng: &mut Rng, image: &[u8]) -> usize {
     let n = block_count(image);
     match rng.below(10) {
@@ -113,7 +115,7 @@ fn watched_byte(rng: &mut Rng, image: &[u8]) -> usize {
         1..=3 => 512 + rng.below(4 * n),
         4 => 512 + rng.below(512 * (root_block(n) - 1)),
         5 => rng.below(image.len()),
-        _ => rng.pick(&root_chain(image)) * 512 + rng.below(512),
+        _ => rng.pick(&slots(image).concat()) + rng.below(128),
     }
 }
 

@@ -5,9 +5,10 @@ use crate::images::{build, put_file, put_header, Fill};
 use crate::journals;
 use crate::rng::Rng;
 use crate::tester::Tester;
+use crate::tree::{files, in_root, root, root_chain};
 use reference::journal::MAX_LENGTH;
 use reference::layout::*;
-use reference::worked::{create, delete, fresh, write};
+use reference::worked::*;
 use reference::State;
 
 /// The worked numbers of the rules. The reference's own tests tie the
@@ -21,19 +22,19 @@ pub fn numbers(_: &mut Rng, _: u64, t: &mut Tester) {
     let mut state = fresh(16, 2);
     t.report.about("worked run");
     for (change, number) in [
-        (create(b"A"), 0),
-        (write(b"A", 0, &[b'x'; 513]), 0),
-        (write(b"A", 513, b"y"), 0),
-        (write(b"A", 515, b"y"), 12),
-        (create(b"A"), 11),
-        (create(&[b'n'; 79]), 0),
-        (create(&[b'n'; 80]), 0),
-        (create(&[b'n'; 81]), 9),
-        (create(b"SN1"), 0),
-        (write(b"SN10", 0, b"z"), 10),
-        (write(b"SN1", 0, &[1; 4096]), 0),
-        (write(b"SN1", 0, &[1; 4097]), 9),
-        (delete(b"A"), 0),
+        (create(b"/A"), 0),
+        (write(b"/A", 0, &[b'x'; 513]), 0),
+        (write(b"/A", 513, b"y"), 0),
+        (write(b"/A", 515, b"y"), 12),
+        (create(b"/A"), 11),
+        (create(&in_root(&[b'n'; MAX_NAME - 1])), 0),
+        (create(&in_root(&[b'n'; MAX_NAME])), 0),
+        (create(&in_root(&[b'n'; MAX_NAME + 1])), 9),
+        (create(b"/SN1"), 0),
+        (write(b"/SN10", 0, b"z"), 10),
+        (write(b"/SN1", 0, &[1; 4096]), 0),
+        (write(b"/SN1", 0, &[1; 4097]), 9),
+        (delete(b"/A"), 0),
     ] {
         let got = t.change(&state, &change);
         t.report.agree("plan", got, number);
@@ -66,20 +67,22 @@ pub fn edges(rng: &mut Rng, _: u64, t: &mut Tester) {
         t.report.about(format!("image of {len} bytes"));
         let image = rng.bytes(len);
         t.format(&image, 1, 1, [9; 16], &[0; 128]);
-        t.look(&image, b"A", 0, &[7; 9], 0);
+        t.look(&image, b"/A", 0, &[7; 9], 0);
         let journal = reference::start(3000).unwrap();
         every_journaled_call(t, &State { image, journal });
     }
 }
 
 fn every_journaled_call(t: &mut Tester, state: &State) {
-    let name = match reference::check(&state.image) {
-        0 => reference::layout::files(&state.image)[0].name.clone(),
-        _ => b"A".to_vec(),
+    let path = match reference::check(&state.image) {
+        0 => files(&state.image)[0].path.clone(),
+        _ => b"/A".to_vec(),
     };
-    t.change(state, &create(b"\x01new\x02"));
-    t.change(state, &write(&name, 0, b"bytes"));
-    t.change(state, &delete(&name));
+    t.change(state, &create(b"/\x01new\x02"));
+    t.change(state, &write(&path, 0, b"bytes"));
+    t.change(state, &delete(&path));
+    t.change(state, &create_directory(b"/\x01new\x02", 2));
+    t.change(state, &delete_directory(b"/\x01new\x02"));
     t.undo(state);
 }
 
@@ -129,7 +132,7 @@ fn most_records(rng: &mut Rng, t: &mut Tester) {
 
 /// One record of every block of the largest image.
 fn largest_record(rng: &mut Rng, t: &mut Tester) {
-    let image = build(rng, MAX_BLOCKS, MAX_ROOT_BLOCKS, Fill::Slots);
+    let image = build(rng, MAX_BLOCKS, MAX_DIRECTORY_BLOCKS, Fill::Slots);
     let numbers: Vec<u32> = (0..MAX_BLOCKS as u32).collect();
     let record = journals::record_of(rng, &numbers);
     for wrong in [None, Some(1), Some(30_000), Some(MAX_BLOCKS - 1)] {
@@ -148,7 +151,7 @@ fn largest_record(rng: &mut Rng, t: &mut Tester) {
 /// nine table blocks.
 fn nearly_full(rng: &mut Rng) -> Vec<u8> {
     let mut image = build(rng, MAX_BLOCKS, 2, Fill::Empty);
-    let slots = slot_offsets(&image);
+    let slots = slot_offsets(&image, root(&image));
     let mut pool = free_blocks(&image);
     rng.shuffle(&mut pool);
     let in_table = |table| pool.iter().copied().find(|&b| table_block_of(b) == table);
@@ -169,10 +172,10 @@ fn widest_changes(rng: &mut Rng, t: &mut Tester) {
     let data = rng.bytes(MAX_DATA);
     let near_end = u64::from(files(&state.image)[1].blocks) * 512 - MAX_DATA as u64;
     for (change, blocks) in [
-        (write(b"small", 1, &data), 1 + 1 + 9 + 9),
-        (write(b"large", near_end, &data), 1 + 8),
+        (write(b"/small", 1, &data), 1 + 1 + 9 + 9),
+        (write(b"/large", near_end, &data), 1 + 8),
         // The entries of the first four table blocks are those of header, table and root.
-        (delete(b"large"), 1 + 1 + 508),
+        (delete(b"/large"), 1 + 1 + 508),
     ] {
         t.report.about(format!("a change of {blocks} blocks"));
         t.change(&state, &change);
@@ -187,7 +190,7 @@ fn largest_file(rng: &mut Rng, t: &mut Tester) {
     let image = nearly_full(rng);
     let (small, large) = (&files(&image)[0], &files(&image)[1]);
     t.report.about("the largest file");
-    t.look(&image, b"large", 0, &rng.bytes(large.size as usize + 3), u64::from(large.blocks) - 1);
+    t.look(&image, b"/large", 0, &rng.bytes(large.size as usize + 3), u64::from(large.blocks) - 1);
     for owned in [small.first as usize, root_chain(&image)[1]] {
         let mut joined = image.clone();
         join(&mut joined, large, owned);

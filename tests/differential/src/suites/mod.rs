@@ -10,6 +10,7 @@ mod runs;
 mod scripts;
 mod sound;
 mod tables;
+mod trees;
 
 use crate::rng::Rng;
 use crate::tester::Tester;
@@ -31,6 +32,8 @@ pub const SUITES: &[Suite] = &[
     Suite { name: "format", rounds: |n| 5 * n, run: sound::format },
     Suite { name: "sound", rounds: |n| 4 * n, run: sound::calls },
     Suite { name: "names", rounds: |n| names::ROUNDS * n.div_ceil(500), run: names::run },
+    Suite { name: "levels", rounds: |n| 16 * n.div_ceil(500), run: trees::levels },
+    Suite { name: "faults", rounds: |n| 2 * n, run: trees::faults },
     Suite { name: "damage", rounds: |n| n.div_ceil(10), run: broken::clauses },
     Suite { name: "largest", rounds: |n| 2 * n.div_ceil(100), run: broken::largest },
     Suite { name: "double", rounds: |n| 2 * n, run: broken::two_clauses },
@@ -38,11 +41,12 @@ pub const SUITES: &[Suite] = &[
     Suite { name: "journals", rounds: |n| n.div_ceil(4), run: broken::journals },
     Suite { name: "tables", rounds: |n| n, run: tables::run },
     Suite { name: "tables_largest", rounds: |_| 1, run: tables::largest },
-    Suite { name: "order", rounds: |n| n.div_ceil(10), run: order::all },
+    Suite { name: "order", rounds: |n| n.div_ceil(25), run: order::all },
     Suite { name: "kept", rounds: |n| n.div_ceil(5), run: kept::run },
     Suite { name: "runs", rounds: |n| n, run: runs::run },
     Suite { name: "long", rounds: |n| n.div_ceil(250), run: runs::long },
     Suite { name: "large", rounds: |n| n.div_ceil(50), run: runs::large },
+    Suite { name: "deepest", rounds: |n| n.div_ceil(100), run: runs::deepest },
     Suite { name: LISTER, rounds: |n| n, run: lister::run },
     Suite { name: SCRIPTS, rounds: |n| n, run: scripts::run },
 ];

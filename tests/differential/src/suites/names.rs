@@ -1,16 +1,18 @@
 //! Directories full of names that are easily taken for one another, and the
 //! same directories with one name twice.
 
+use crate::arguments::altered;
 use crate::images;
 use crate::rng::Rng;
 use crate::tester::Tester;
+use crate::tree::files;
 use reference::layout::*;
 use reference::worked::create;
 use reference::State;
 use std::collections::{BTreeSet, HashMap};
 
-/// File slots of the largest root.
-const PLACES: usize = SLOTS_PER_BLOCK * MAX_ROOT_BLOCKS - 2;
+/// File slots of the largest directory.
+const PLACES: usize = SLOTS_PER_BLOCK * MAX_DIRECTORY_BLOCKS - 2;
 
 /// A kind of names, and how to make PLACES different ones.
 struct Kind {
@@ -24,13 +26,16 @@ const KINDS: &[Kind] = &[
     Kind { what: "other byte within", make: |rng| one_byte_apart(rng, MAX_NAME, 40) },
     Kind { what: "prefixes of one another", make: |_| prefixes() },
     Kind { what: "a full field", make: |rng| different(|| any_bytes(rng, MAX_NAME)) },
-    Kind { what: "a full field, other last byte", make: |rng| one_byte_apart(rng, MAX_NAME, MAX_NAME - 1) },
+    Kind {
+        what: "a full field, other last byte",
+        make: |rng| one_byte_apart(rng, MAX_NAME, MAX_NAME - 1),
+    },
     Kind { what: "79 bytes", make: |rng| different(|| any_bytes(rng, MAX_NAME - 1)) },
     Kind { what: "79 bytes, and all but the last with one more", make: |rng| with_one_more(rng) },
     Kind { what: "bytes in another order", make: |rng| permutations(rng, 1) },
     Kind { what: "words in another order", make: |rng| permutations(rng, 4) },
     Kind { what: "double words in another order", make: |rng| permutations(rng, 8) },
-    Kind { what: "one byte", make: |_| (1..=PLACES).map(|b| vec![b as u8]).collect() },
+    Kind { what: "one byte", make: |_| name_bytes().map(|b| vec![b]).collect() },
     Kind { what: "one checksum", make: one_checksum },
     Kind { what: "one hash", make: one_hash },
     Kind { what: "one hash for every two", make: equal_hashes },
@@ -47,13 +52,14 @@ pub fn run(rng: &mut Rng, round: u64, t: &mut Tester) {
     t.report.agree("different names", names.iter().collect::<BTreeSet<_>>().len(), PLACES);
     rng.shuffle(&mut names);
     let n = rng.pick(&[66, 67, 127, 128, 129, 300]);
-    let image = images::with_names(rng, n, MAX_ROOT_BLOCKS, &names);
+    let in_folder = n > 67 && rng.once_in(2);
+    let (image, home) = images::with_names(rng, n, MAX_DIRECTORY_BLOCKS, &names, in_folder);
     t.check(&image);
     search(rng, t, &image);
     with_free_slots(rng, t, n, &names);
     for distance in 1..PLACES {
         for _ in 0..2 {
-            twice(rng, t, &image, distance);
+            twice(rng, t, &image, &home, distance);
         }
     }
 }
@@ -61,9 +67,9 @@ pub fn run(rng: &mut Rng, round: u64, t: &mut Tester) {
 /// Every name, and names one step away from each.
 fn search(rng: &mut Rng, t: &mut Tester, image: &[u8]) {
     for file in files(image) {
-        t.lookup(image, &file.name);
+        t.lookup(image, &file.path);
         if rng.once_in(4) {
-            t.lookup(image, &crate::arguments::altered(rng, &file.name));
+            t.lookup(image, &altered(rng, &file.path));
         }
     }
 }
@@ -71,22 +77,24 @@ fn search(rng: &mut Rng, t: &mut Tester, image: &[u8]) {
 /// 250 files: names that are taken, and the four that are left.
 fn with_free_slots(rng: &mut Rng, t: &mut Tester, n: usize, names: &[Vec<u8>]) {
     let (taken, left) = names.split_at(250);
-    let image = images::with_names(rng, n, MAX_ROOT_BLOCKS, taken);
+    let in_folder = n > 67 && rng.once_in(2);
+    let (image, home) = images::with_names(rng, n, MAX_DIRECTORY_BLOCKS, taken, in_folder);
     let state = State { image, journal: reference::start(2000).unwrap() };
     t.check(&state.image);
     for name in left {
-        t.lookup(&state.image, name);
-        let number = t.change(&state, &create(name));
+        let path = home.path_of(name);
+        t.lookup(&state.image, &path);
+        let number = t.change(&state, &create(&path));
         t.report.agree("plan", number, 0);
     }
     for _ in 0..8 {
-        let number = t.change(&state, &create(&rng.pick(taken)));
+        let number = t.change(&state, &create(&home.path_of(&rng.pick(taken))));
         t.report.agree("plan", number, 11);
     }
 }
 
 /// The name of one slot also in another, so many slots behind or before it.
-fn twice(rng: &mut Rng, t: &mut Tester, image: &[u8], distance: usize) {
+fn twice(rng: &mut Rng, t: &mut Tester, image: &[u8], home: &Directory, distance: usize) {
     let last = PLACES - distance;
     let low = match rng.below(4) {
         0 => 1,
@@ -94,7 +102,7 @@ fn twice(rng: &mut Rng, t: &mut Tester, image: &[u8], distance: usize) {
         _ => rng.between(1, last),
     };
     let (from, to) = if rng.once_in(2) { (low, low + distance) } else { (low + distance, low) };
-    let slots = slot_offsets(image);
+    let slots = slot_offsets(image, home.first);
     let mut both = image.to_vec();
     both.copy_within(slots[from] + slot::NAME..slots[from] + SLOT, slots[to] + slot::NAME);
     t.report.about(format!("the name of slot {from} also in slot {to}"));
@@ -112,7 +120,7 @@ fn different(mut name: impl FnMut() -> Vec<u8>) -> Vec<Vec<u8>> {
 }
 
 fn any_bytes(rng: &mut Rng, len: usize) -> Vec<u8> {
-    (0..len).map(|_| rng.nonzero_byte()).collect()
+    (0..len).map(|_| rng.name_byte()).collect()
 }
 
 /// Names of one length that differ in one byte.
@@ -122,7 +130,12 @@ fn one_byte_apart(rng: &mut Rng, len: usize, at: usize) -> Vec<Vec<u8>> {
         name[at] = byte;
         name.clone()
     };
-    (1..=PLACES as u8).map(with).collect()
+    name_bytes().map(with).collect()
+}
+
+/// All bytes that a name may have: as many as there are places.
+fn name_bytes() -> impl Iterator<Item = u8> {
+    (1..=255).filter(|&byte| byte != b'/')
 }
 
 /// Names of 79 bytes, each also with one byte more.
@@ -183,7 +196,7 @@ fn hash_of(name: &[u8]) -> u32 {
 fn one_hash(rng: &mut Rng) -> Vec<Vec<u8>> {
     let start = any_bytes(rng, 5);
     let pairs: Vec<(u8, u8)> =
-        (0..8).map(|_| (rng.between(1, 254) as u8, rng.between(252, 255) as u8)).collect();
+        (0..8).map(|_| (rng.between(48, 254) as u8, rng.between(252, 255) as u8)).collect();
     let form = |choice: usize| {
         let bytes = pairs.iter().enumerate().flat_map(|(i, &(a, b))| {
             if choice >> i & 1 == 0 {

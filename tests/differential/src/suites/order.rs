@@ -1,14 +1,16 @@
-//! Several reasons to refuse at once: the lowest number must be given. Every
-//! combination of reasons of every call is made, and what is expected comes
-//! from the plan as well as from the reference.
+//! Several reasons to refuse at once: the first in their order must be given.
+//! Every combination of reasons of every call is made, and what is expected
+//! comes from the plan as well as from the reference.
 
 use crate::arguments::*;
-use crate::images::{self, build, Fill};
+use crate::images::{self, build, build_tree, Fill, Folders};
 use crate::rng::Rng;
 use crate::tester::Tester;
+use crate::tree::{folders, items, Item};
 use crate::{damage, journals};
-use reference::layout::{files, put_number, table_blocks};
-use reference::{Change, Delete, State, Write};
+use reference::layout::*;
+use reference::path::Want;
+use reference::{Change, Delete, DeleteDirectory, State, Write};
 
 pub fn all(rng: &mut Rng, _: u64, t: &mut Tester) {
     format(rng, t);
@@ -16,10 +18,12 @@ pub fn all(rng: &mut Rng, _: u64, t: &mut Tester) {
     creates(rng, t);
     writes(rng, t);
     deletes(rng, t);
+    directory_creates(rng, t);
+    directory_deletes(rng, t);
     undos(rng, t);
 }
 
-/// All subsets of the reasons, each in ascending order.
+/// All subsets of the reasons, each in the order of refusals.
 fn subsets(reasons: &[u32]) -> Vec<Vec<u32>> {
     (0..1u32 << reasons.len())
         .map(|mask| {
@@ -61,8 +65,8 @@ fn journal_for(rng: &mut Rng, reasons: &[u32], image: &[u8], records: usize) -> 
     journal
 }
 
-/// An image with at least one file, and free slots and blocks unless the
-/// reasons 13 and 14 are among those given.
+/// An image with at least one file, and a free slot in the root and free
+/// blocks unless the reasons 13 and 14 are among those given.
 fn image_for(rng: &mut Rng, reasons: &[u32]) -> Vec<u8> {
     let n = rng.between(40, 140);
     let d = rng.between(2, 6);
@@ -72,20 +76,69 @@ fn image_for(rng: &mut Rng, reasons: &[u32]) -> Vec<u8> {
     let fill = if reasons.contains(&13) { Fill::Slots } else { Fill::Some };
     loop {
         let image = build(rng, n, d, fill);
-        let free = reference::layout::free_blocks(&image).len();
-        if free >= 9 && (fill == Fill::Slots || files(&image).len() < 4 * d - 2) {
+        let open = has_room(&image, &tree(&image)[0]);
+        if free_blocks(&image).len() >= 9 && (fill == Fill::Slots || open) {
             return image;
         }
     }
 }
 
-fn name_for(rng: &mut Rng, reasons: &[u32], image: &[u8], bad: bool) -> Vec<u8> {
+/// Whether a directory has a free slot.
+fn has_room(image: &[u8], home: &Directory) -> bool {
+    home.entries.len() + 2 < slot_offsets(image, home.first).len()
+}
+
+/// A path for a call that wants something that is there.
+fn path_for(rng: &mut Rng, reasons: &[u32], image: &[u8], want: Want, bad: bool) -> Vec<u8> {
     if bad {
-        bad_name(rng)
+        bad_path(rng)
+    } else if reasons.contains(&17) {
+        deep_path(rng, image, want)
     } else if reasons.contains(&10) {
-        missing_name(rng, image)
+        lost_path(rng, image, want)
     } else {
-        any_file(rng, image).expect("the image has a file").name
+        let file = any_file(rng, image).expect("the image has a file");
+        if want == Want::File {
+            file.path
+        } else {
+            any_folder(rng, image).unwrap().path
+        }
+    }
+}
+
+/// A path for something new, in a directory with a free slot if there is one.
+fn new_path(rng: &mut Rng, reasons: &[u32], image: &[u8], want: Want, bad: bool) -> Vec<u8> {
+    if bad {
+        return bad_path(rng);
+    } else if reasons.contains(&17) {
+        return deep_path(rng, image, want);
+    } else if reasons.contains(&10) {
+        return through_nothing_or_file(rng, image, want);
+    } else if reasons.contains(&11) {
+        let shallow = |item: &Item| want == Want::File || item.level < MAX_LEVELS;
+        let items: Vec<Item> = items(image).into_iter().filter(shallow).collect();
+        return rng.pick(&items).path;
+    }
+    let mut homes = tree(image);
+    homes.retain(|home| want == Want::File || home.level < MAX_LEVELS);
+    homes.retain(|home| reasons.contains(&13) || has_room(image, home));
+    let home = rng.pick(&homes);
+    home.path_of(&missing_name(rng, image, &home))
+}
+
+/// A good path to a place in no directory.
+fn through_nothing_or_file(rng: &mut Rng, image: &[u8], want: Want) -> Vec<u8> {
+    let file = any_file(rng, image).expect("the image has a file");
+    let fits = want == Want::File || file.level + 1 < MAX_LEVELS;
+    if rng.once_in(2) && file.level < MAX_LEVELS && fits {
+        return [&file.path[..], b"/", &images::good_name(rng)].concat();
+    }
+    loop {
+        let path = through_nothing(rng, image);
+        let names = path.iter().filter(|&&b| b == b'/').count();
+        if want == Want::File || names <= MAX_LEVELS {
+            return path;
+        }
     }
 }
 
@@ -114,50 +167,115 @@ fn format(rng: &mut Rng, t: &mut Tester) {
 }
 
 fn looks(rng: &mut Rng, t: &mut Tester) {
-    for reasons in subsets(&[1, 9, 10, 12]) {
+    for reasons in subsets(&[1, 9, 17, 10, 12]) {
         t.report.about(format!("look up and read, reasons {reasons:?}"));
         let sound = image_for(rng, &[]);
-        let name = name_for(rng, &reasons, &sound, reasons.contains(&9));
-        let size = size_of(&sound, &name);
+        let path = path_for(rng, &reasons, &sound, Want::File, reasons.contains(&9));
+        let size = size_of(&sound, &path);
         let offset = if reasons.contains(&12) { far_offset(rng, size) } else { size };
         let mut image = sound.clone();
         let stage = maybe_damage(rng, &reasons, &mut image);
-        let number = reference::read(&image, &name, offset, 10).err().unwrap_or(0);
+        let number = reference::read(&image, &path, offset, 10).err().unwrap_or(0);
         t.report.agree("plan", number, lowest(&reasons, stage));
         let buffer = if rng.once_in(3) { vec![] } else { any_buffer(rng, size) };
-        t.look(&image, &name, offset, &buffer, any_index(rng, size));
+        t.look(&image, &path, offset, &buffer, any_index(rng, size));
     }
 }
 
 fn creates(rng: &mut Rng, t: &mut Tester) {
-    for reasons in subsets(&[1, 8, 9, 11, 13, 15]) {
+    for reasons in subsets(&[1, 8, 9, 17, 10, 11, 13, 15]) {
         t.report.about(format!("create, reasons {reasons:?}"));
         let mut image = image_for(rng, &reasons);
         let journal = journal_for(rng, &reasons, &image, 1);
-        // With 9 and 11 the name is taken and the type is bad.
-        let taken = reasons.contains(&11);
-        let bad = reasons.contains(&9) && !taken && rng.once_in(2);
-        let name = match (bad, taken) {
-            (true, _) => bad_name(rng),
-            (_, true) => name_for(rng, &[], &image, false),
-            _ => missing_name(rng, &image),
-        };
-        let bad_type = reasons.contains(&9) && !bad;
-        let kind = if bad_type { bad_kind(rng) } else { good_kind(rng) };
-        let change = create(rng, name, kind);
+        // With 9 it is the path or the type that is bad.
+        let bad_path = reasons.contains(&9) && rng.once_in(2);
+        let bad_type = reasons.contains(&9) && !bad_path;
+        let path = new_path(rng, &reasons, &image, Want::File, bad_path);
+        let kind = if bad_type { bad_kind(rng, Want::File) } else { good_kind(rng, Want::File) };
+        let change = create(rng, path, kind);
         let stage = maybe_damage(rng, &reasons, &mut image);
         compare(t, &State { image, journal }, &change, lowest(&reasons, stage));
     }
 }
 
+fn directory_creates(rng: &mut Rng, t: &mut Tester) {
+    for reasons in subsets(&[1, 8, 9, 17, 10, 11, 13, 14, 15]) {
+        t.report.about(format!("create of a directory, reasons {reasons:?}"));
+        let mut image = small_image_for(rng, &reasons);
+        let journal = journal_for(rng, &reasons, &image, 1);
+        let what = if reasons.contains(&9) { rng.between(1, 3) } else { 0 };
+        let path = new_path(rng, &reasons, &image, Want::Directory, what == 1);
+        let kind = match what {
+            2 => bad_kind(rng, Want::Directory),
+            _ => good_kind(rng, Want::Directory),
+        };
+        let free = free_blocks(&image).len();
+        let blocks = match (what, reasons.contains(&14)) {
+            (3, _) => bad_blocks(rng),
+            (_, true) => rng.between(free + 1, MAX_DIRECTORY_BLOCKS) as u32,
+            _ => rng.between(1, 9) as u32,
+        };
+        let change = create_directory(rng, path, kind, blocks);
+        let stage = maybe_damage(rng, &reasons, &mut image);
+        compare(t, &State { image, journal }, &change, lowest(&reasons, stage));
+    }
+}
+
+/// An image with fewer free blocks than a directory may have.
+fn small_image_for(rng: &mut Rng, reasons: &[u32]) -> Vec<u8> {
+    let fill = if reasons.contains(&13) { Fill::Slots } else { Fill::Some };
+    loop {
+        let (n, d) = (rng.between(40, 60), rng.between(2, 6));
+        let image = build(rng, n, d, fill);
+        let open = has_room(&image, &tree(&image)[0]);
+        let shallow = |item: &Item| item.level < MAX_LEVELS;
+        let enough = reasons.contains(&14) || free_blocks(&image).len() >= 9;
+        if enough && (fill == Fill::Slots || open) && items(&image).iter().any(shallow) {
+            return image;
+        }
+    }
+}
+
+fn directory_deletes(rng: &mut Rng, t: &mut Tester) {
+    for reasons in subsets(&[1, 8, 9, 17, 10, 18, 15]) {
+        t.report.about(format!("delete of a directory, reasons {reasons:?}"));
+        let (mut image, empty, full) = image_with_folders(rng);
+        let journal = journal_for(rng, &reasons, &image, 1);
+        let path = match (reasons.iter().any(|r| [9, 17, 10].contains(r)), reasons.contains(&18)) {
+            (true, _) => path_for(rng, &reasons, &image, Want::Directory, reasons.contains(&9)),
+            (_, true) => full.path,
+            _ => empty.path,
+        };
+        let change = Change::DeleteDirectory(DeleteDirectory { path });
+        let stage = maybe_damage(rng, &reasons, &mut image);
+        compare(t, &State { image, journal }, &change, lowest(&reasons, stage));
+    }
+}
+
+/// An image with files, and a folder that is empty and one that is not.
+fn image_with_folders(rng: &mut Rng) -> (Vec<u8>, Item, Item) {
+    loop {
+        let (n, d) = (rng.between(40, 140), rng.between(2, 6));
+        let kind = rng.pick(&[Folders::Few, Folders::Many, Folders::Deep]);
+        let image = build_tree(rng, n, d, Fill::Some, kind);
+        let is_empty = |folder: &Item| entries(&image, folder.first as usize).is_empty();
+        let (empty, full): (Vec<Item>, Vec<Item>) = folders(&image).into_iter().partition(is_empty);
+        if !empty.is_empty() && !full.is_empty() {
+            let (empty, full) = (rng.pick(&empty), rng.pick(&full));
+            return (image, empty, full);
+        }
+    }
+}
+
 fn writes(rng: &mut Rng, t: &mut Tester) {
-    for reasons in subsets(&[1, 8, 9, 10, 12, 14, 15]) {
+    for reasons in subsets(&[1, 8, 9, 17, 10, 12, 14, 15]) {
         t.report.about(format!("write, reasons {reasons:?}"));
         let mut image = image_for(rng, &reasons);
         let journal = journal_for(rng, &reasons, &image, 2);
         let big = reasons.contains(&9) && rng.once_in(2);
-        let name = name_for(rng, &reasons, &image, reasons.contains(&9) && !big);
-        let size = size_of(&image, &name);
+        let bad = reasons.contains(&9) && !big;
+        let path = path_for(rng, &reasons, &image, Want::File, bad);
+        let size = size_of(&image, &path);
         let offset = if reasons.contains(&12) { far_offset(rng, size) } else { size };
         let length = match (big, reasons.contains(&14)) {
             (true, _) => rng.between(4097, 5000),
@@ -165,19 +283,19 @@ fn writes(rng: &mut Rng, t: &mut Tester) {
             _ => rng.below(4097),
         };
         let data = rng.bytes(length);
-        let change = Change::Write(Write { name, offset, data, time: any_time(rng) });
+        let change = Change::Write(Write { path, offset, data, time: any_time(rng) });
         let stage = maybe_damage(rng, &reasons, &mut image);
         compare(t, &State { image, journal }, &change, lowest(&reasons, stage));
     }
 }
 
 fn deletes(rng: &mut Rng, t: &mut Tester) {
-    for reasons in subsets(&[1, 8, 9, 10, 15]) {
+    for reasons in subsets(&[1, 8, 9, 17, 10, 15]) {
         t.report.about(format!("delete, reasons {reasons:?}"));
         let mut image = image_for(rng, &reasons);
         let journal = journal_for(rng, &reasons, &image, 1);
-        let name = name_for(rng, &reasons, &image, reasons.contains(&9));
-        let change = Change::Delete(Delete { name });
+        let path = path_for(rng, &reasons, &image, Want::File, reasons.contains(&9));
+        let change = Change::Delete(Delete { path });
         let stage = maybe_damage(rng, &reasons, &mut image);
         compare(t, &State { image, journal }, &change, lowest(&reasons, stage));
     }

@@ -1,5 +1,6 @@
 //! Long runs of calls on one image and one journal, held against the
-//! reference's replay after every call.
+//! reference's replay after every call. Each call of the library has a small
+//! stack.
 
 use crate::arguments::*;
 use crate::ffi;
@@ -9,22 +10,29 @@ use crate::library::{self, Pair};
 use crate::report::Entry;
 use crate::rng::Rng;
 use crate::tester::{found, Tester};
+use reference::path::Want;
 use reference::{Answer, Call, Replay, State};
+use std::thread;
+
+/// Bytes of stack that a call may need, at the deepest level too.
+const STACK: usize = 256 * 1024;
 
 /// How often a run makes which calls, out of their sum.
 pub struct Mix {
     create: usize,
     write: usize,
     delete: usize,
+    /// Creates of folders, and deletes.
+    folder: usize,
     undo: usize,
     look: usize,
 }
 
 pub const MIXES: [Mix; 4] = [
-    Mix { create: 3, write: 8, delete: 2, undo: 3, look: 4 },
-    Mix { create: 2, write: 12, delete: 1, undo: 1, look: 2 },
-    Mix { create: 4, write: 4, delete: 5, undo: 2, look: 2 },
-    Mix { create: 3, write: 6, delete: 3, undo: 9, look: 1 },
+    Mix { create: 3, write: 8, delete: 2, folder: 3, undo: 3, look: 4 },
+    Mix { create: 2, write: 12, delete: 1, folder: 1, undo: 1, look: 2 },
+    Mix { create: 4, write: 4, delete: 5, folder: 9, undo: 2, look: 2 },
+    Mix { create: 3, write: 6, delete: 3, folder: 4, undo: 9, look: 1 },
 ];
 
 pub fn run(rng: &mut Rng, round: u64, t: &mut Tester) {
@@ -52,6 +60,13 @@ pub fn large(rng: &mut Rng, _: u64, t: &mut Tester) {
     let image = build(rng, n, d, fill);
     let length = rng.pick(&[200_000, 5_000_000]);
     play(rng, t, image, length, &MIXES[0], 40);
+}
+
+/// A few runs on the largest directories on every level.
+pub fn deepest(rng: &mut Rng, _: u64, t: &mut Tester) {
+    let fill = rng.pick(&[Fill::Slots, Fill::Blocks, Fill::Some]);
+    let image = images::deepest(rng, fill);
+    play(rng, t, image, 400_000, &MIXES[2], 30);
 }
 
 /// A few runs of many calls, with many changes that stand.
@@ -82,14 +97,22 @@ fn play(rng: &mut Rng, t: &mut Tester, image: Vec<u8>, length: usize, mix: &Mix,
 
 pub fn any_call(rng: &mut Rng, replay: &Replay, mix: &Mix) -> Call {
     let image = &replay.replayed().image;
-    let looks = mix.create + mix.write + mix.delete + mix.undo;
+    let folders = mix.create + mix.write + mix.delete;
+    let looks = folders + mix.folder + mix.undo;
     let pick = rng.below(looks + mix.look);
     if pick < mix.create {
         Call::Change(any_create(rng, image))
     } else if pick < mix.create + mix.write {
         Call::Change(any_write(rng, image))
-    } else if pick < mix.create + mix.write + mix.delete {
+    } else if pick < folders {
         Call::Change(any_delete(rng, image))
+    } else if pick < folders + mix.folder {
+        let made = rng.below(5) < 3;
+        Call::Change(if made {
+            any_create_directory(rng, image)
+        } else {
+            any_delete_directory(rng, image)
+        })
     } else if pick < looks {
         Call::Undo
     } else {
@@ -98,16 +121,16 @@ pub fn any_call(rng: &mut Rng, replay: &Replay, mix: &Mix) -> Call {
 }
 
 fn any_look(rng: &mut Rng, image: &[u8]) -> Call {
-    let name = any_name(rng, image);
-    let size = size_of(image, &name);
+    let path = any_path(rng, image, Want::File);
+    let size = size_of(image, &path);
     match rng.below(4) {
         0 => Call::Check,
-        1 => Call::Lookup { name },
+        1 => Call::Lookup { path },
         2 => {
             let buffer = any_buffer(rng, size);
-            Call::Read { name, offset: any_offset(rng, size), buffer }
+            Call::Read { path, offset: any_offset(rng, size), buffer }
         }
-        _ => Call::LookInPlace { name, index: any_index(rng, size) },
+        _ => Call::LookInPlace { path, index: any_index(rng, size) },
     }
 }
 
@@ -115,9 +138,11 @@ fn any_look(rng: &mut Rng, image: &[u8]) -> Call {
 fn brief(call: &Call) -> String {
     use reference::Change::*;
     match call {
-        Call::Change(Create(c)) => format!("create of a name of {} bytes", c.name.len()),
+        Call::Change(Create(c)) => format!("create of a path of {} bytes", c.path.len()),
         Call::Change(Write(w)) => format!("write of {} bytes at {}", w.data.len(), w.offset),
-        Call::Change(Delete(d)) => format!("delete of a name of {} bytes", d.name.len()),
+        Call::Change(Delete(d)) => format!("delete of a path of {} bytes", d.path.len()),
+        Call::Change(CreateDirectory(c)) => format!("new directory of {} blocks", c.blocks),
+        Call::Change(DeleteDirectory(_)) => "delete of a directory".into(),
         Call::Undo => "undo".into(),
         Call::Check => "check".into(),
         Call::Lookup { .. } => "lookup".into(),
@@ -129,17 +154,25 @@ fn brief(call: &Call) -> String {
 /// Makes a call on both sides; compares the answer, and image and journal
 /// with all their bytes.
 fn make(t: &mut Tester, pair: &mut Pair, replay: &mut Replay, call: &Call) {
-    let (entry, got, mut troubles) = call_library(t, pair, call);
+    let (entry, got, mut troubles) = on_small_stack(|| call_library(t, pair, call));
     let expected = replay.call(call);
     let mut number = number_of(&expected);
-    if let Call::LookInPlace { name, .. } = call {
-        number = reference::lookup(&replay.replayed().image, name).err().unwrap_or(0);
+    if let Call::LookInPlace { path, .. } = call {
+        number = reference::lookup(&replay.replayed().image, path).err().unwrap_or(0);
     }
     if got != expected {
         troubles.push(Some(differs(&got, &expected)));
     }
     troubles.extend(pair.troubles(replay.replayed()));
     t.report.call(entry, number, troubles);
+}
+
+/// Makes a call on a stack of its own. One that is too small ends the program.
+fn on_small_stack<T: Send>(call: impl FnOnce() -> T + Send) -> T {
+    thread::scope(|scope| {
+        let small = thread::Builder::new().stack_size(STACK);
+        small.spawn_scoped(scope, call).expect("a thread starts").join().expect("it ends")
+    })
 }
 
 fn number_of(answer: &Answer) -> u32 {
@@ -183,25 +216,25 @@ fn call_library(
 fn look_with_library(image: &Lent, call: &Call) -> (Entry, Answer, Vec<Option<String>>) {
     match call {
         Call::Check => (Entry::Check, Answer::Checked(library::check(image)), vec![]),
-        Call::Lookup { name } => {
-            let lent = Lent::new(name, 3);
+        Call::Lookup { path } => {
+            let lent = Lent::new(path, 3);
             let (answer, zeros) = found_answer(library::lookup(image, &lent));
-            (Entry::Lookup, answer, vec![lent.trouble("name", name), zeros])
+            (Entry::Lookup, answer, vec![lent.trouble("path", path), zeros])
         }
-        Call::Read { name, offset, buffer } => {
-            let (lent, mut lent_buffer) = (Lent::new(name, 5), Lent::new(buffer, 6));
+        Call::Read { path, offset, buffer } => {
+            let (lent, mut lent_buffer) = (Lent::new(path, 5), Lent::new(buffer, 6));
             let got = library::read(image, &lent, *offset, &mut lent_buffer);
             let after = lent_buffer.content().to_vec();
-            let troubles = vec![lent.trouble("name", name), lent_buffer.trouble("buffer", &after)];
+            let troubles = vec![lent.trouble("path", path), lent_buffer.trouble("buffer", &after)];
             let answer = Answer::Read { number: got.number, count: got.count, buffer: after };
             (Entry::Read, answer, troubles)
         }
-        Call::LookInPlace { name, index } => {
-            let lent = Lent::new(name, 8);
+        Call::LookInPlace { path, index } => {
+            let lent = Lent::new(path, 8);
             let got = library::look_in_place(image, &lent, *index);
             let range = got.start as usize..got.start as usize + got.length as usize;
             let bytes = image.content().get(range.clone()).map_or(vec![], |part| part.to_vec());
-            (Entry::LookInPlace, Answer::Part { range, bytes }, vec![lent.trouble("name", name)])
+            (Entry::LookInPlace, Answer::Part { range, bytes }, vec![lent.trouble("path", path)])
         }
         Call::Change(_) | Call::Undo => unreachable!("not a look"),
     }

@@ -2,12 +2,13 @@
 //! volume, held against the reference's replay. docs/SCRIPT.md has the form.
 
 use super::runs::{any_call, Mix, MIXES};
-use crate::arguments::any_name;
+use crate::arguments::any_path;
 use crate::lent::difference;
 use crate::rng::Rng;
 use crate::suites::lister::output_of;
 use crate::tester::Tester;
 use reference::layout::put_number;
+use reference::path::Want;
 use reference::{Answer, Call, Change, Create, Replay, State};
 
 const IMAGE: usize = 8192;
@@ -23,7 +24,7 @@ const NO_ROOM: u8 = b'R';
 
 /// The header of an item, and the offsets of two of its fields.
 const HEADER: usize = 33;
-const NAME_LENGTH: usize = 25;
+const PATH_LENGTH: usize = 25;
 const DATA_LENGTH: usize = 29;
 
 /// A script, and what the replay has answered to it.
@@ -74,9 +75,9 @@ fn compare(t: &mut Tester, script: &[u8], expected: &[u8]) {
 /// The example of docs/SCRIPT.md. All that it changes, it takes back but the create.
 fn example(t: &mut Tester) {
     let script = bytes_of(&[
-        "05 60010207 00000000 0000000000000000 0000000000000064 00000001 00000000 41",
-        "06 00000000 00000000 0000000000000000 0000000000000065 00000001 00000003 41 616263",
-        "03 00000000 00000000 0000000000000001 0000000000000000 00000001 00000004 41 FFFFFFFF",
+        "05 60010207 00000000 0000000000000000 0000000000000064 00000002 00000000 2F41",
+        "06 00000000 00000000 0000000000000000 0000000000000065 00000002 00000003 2F41 616263",
+        "03 00000000 00000000 0000000000000001 0000000000000000 00000002 00000004 2F41 FFFFFFFF",
         "08 00000000 00000000 0000000000000000 0000000000000000 00000000 00000000",
     ]);
     let answers = bytes_of(&[
@@ -85,8 +86,8 @@ fn example(t: &mut Tester) {
         "00000000 00000002 00000000 00000000 6263FFFF",
         "00000000 00000000 00000814 00000000",
     ]);
-    let (name, kind, time) = (b"A".to_vec(), 0x60, 100);
-    let create = Create { name, kind, user: 1, group: 2, permissions: 7, flags: 0, time };
+    let (path, kind, time) = (b"/A".to_vec(), 0x60, 100);
+    let create = Create { path, kind, user: 1, group: 2, permissions: 7, flags: 0, time };
     let after = reference::apply(&fresh(), &Change::Create(create)).unwrap().state;
     t.report.about("the example of docs/SCRIPT.md");
     compare(t, &script, &outcome(DONE, &after, &answers));
@@ -138,8 +139,8 @@ fn any_script(rng: &mut Rng, mix: &Mix) -> Script {
 /// the status.
 fn fill(rng: &mut Rng, script: &mut Script, more: usize) -> u8 {
     let buffer = rng.bytes(ANSWERS - 16 - script.answers.len() + more);
-    let name = any_name(rng, &script.replay.replayed().image);
-    script.push(rng, &Call::Read { name, offset: 0, buffer });
+    let path = any_path(rng, &script.replay.replayed().image, Want::File);
+    script.push(rng, &Call::Read { path, offset: 0, buffer });
     if more > 0 {
         NO_ROOM
     } else {
@@ -150,18 +151,18 @@ fn fill(rng: &mut Rng, script: &mut Script, more: usize) -> u8 {
 /// Makes a script that is not of the form.
 fn spoil(rng: &mut Rng, script: &mut Script) {
     if script.items.is_empty() {
-        script.push(rng, &Call::Lookup { name: b"A".to_vec() });
+        script.push(rng, &Call::Lookup { path: b"/A".to_vec() });
     }
     let (any, last) = (rng.pick(&script.items), script.items[script.items.len() - 1]);
     let end = script.bytes.len();
     match rng.below(5) {
-        0 => script.bytes[any] = rng.pick(&[0, 9, 255]),
+        0 => script.bytes[any] = rng.pick(&[0, 11, 255]),
         1 => script.bytes.truncate(rng.between(last + 1, end - 1)),
         2 => script.bytes.extend(vec![8; rng.between(1, HEADER - 1)]),
-        3 => put_number(&mut script.bytes, last + NAME_LENGTH, (end - last) as u32),
+        3 => put_number(&mut script.bytes, last + PATH_LENGTH, (end - last) as u32),
         _ => {
             // The two lengths have the right sum in 32 bits.
-            put_number(&mut script.bytes, last + NAME_LENGTH, u32::MAX);
+            put_number(&mut script.bytes, last + PATH_LENGTH, u32::MAX);
             let rest = (end - last - HEADER) as u32;
             put_number(&mut script.bytes, last + DATA_LENGTH, rest + 1);
         }
@@ -181,35 +182,46 @@ fn outcome(status: u8, state: &State, answers: &[u8]) -> Vec<u8> {
 fn item_of(rng: &mut Rng, call: &Call) -> Vec<u8> {
     // What an op does not use may be anything, but the lengths count.
     let mut header = rng.bytes(HEADER);
-    let (op, name, data): (u8, &[u8], &[u8]) = match call {
+    let (op, path, data): (u8, &[u8], &[u8]) = match call {
         Call::Check => (1, &[], &[]),
-        Call::Lookup { name } => (2, name, &[]),
-        Call::Read { name, offset, buffer } => {
+        Call::Lookup { path } => (2, path, &[]),
+        Call::Read { path, offset, buffer } => {
             header[9..17].copy_from_slice(&offset.to_be_bytes());
-            (3, name, buffer)
+            (3, path, buffer)
         }
-        Call::LookInPlace { name, index } => {
+        Call::LookInPlace { path, index } => {
             header[9..17].copy_from_slice(&index.to_be_bytes());
-            (4, name, &[])
+            (4, path, &[])
         }
         Call::Change(Change::Create(c)) => {
-            header[1..5].copy_from_slice(&[c.kind, c.user, c.group, c.permissions]);
-            header[5..9].copy_from_slice(&c.flags.to_be_bytes());
-            header[17..25].copy_from_slice(&c.time.to_be_bytes());
-            (5, &c.name, &[])
+            put_given(&mut header, c);
+            (5, &c.path, &[])
         }
         Call::Change(Change::Write(w)) => {
             header[9..17].copy_from_slice(&w.offset.to_be_bytes());
             header[17..25].copy_from_slice(&w.time.to_be_bytes());
-            (6, &w.name, &w.data)
+            (6, &w.path, &w.data)
         }
-        Call::Change(Change::Delete(d)) => (7, &d.name, &[]),
+        Call::Change(Change::Delete(d)) => (7, &d.path, &[]),
         Call::Undo => (8, &[], &[]),
+        Call::Change(Change::CreateDirectory(c)) => {
+            put_given(&mut header, &c.entry);
+            put_number(&mut header, 13, c.blocks);
+            (9, &c.entry.path, &[])
+        }
+        Call::Change(Change::DeleteDirectory(d)) => (10, &d.path, &[]),
     };
     header[0] = op;
-    put_number(&mut header, NAME_LENGTH, name.len() as u32);
+    put_number(&mut header, PATH_LENGTH, path.len() as u32);
     put_number(&mut header, DATA_LENGTH, data.len() as u32);
-    [&header[..], name, data].concat()
+    [&header[..], path, data].concat()
+}
+
+/// The fields that both creates bring.
+fn put_given(header: &mut [u8], c: &Create) {
+    header[1..5].copy_from_slice(&[c.kind, c.user, c.group, c.permissions]);
+    header[5..9].copy_from_slice(&c.flags.to_be_bytes());
+    header[17..25].copy_from_slice(&c.time.to_be_bytes());
 }
 
 fn answer_size(call: &Call) -> usize {

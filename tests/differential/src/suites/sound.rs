@@ -3,7 +3,9 @@
 use crate::arguments::*;
 use crate::rng::Rng;
 use crate::tester::Tester;
+use crate::tree::{files, folders};
 use crate::{images, journals};
+use reference::path::Want;
 use reference::{Change, State, Write};
 
 pub fn format(rng: &mut Rng, _: u64, t: &mut Tester) {
@@ -36,7 +38,8 @@ pub fn format(rng: &mut Rng, _: u64, t: &mut Tester) {
 pub fn calls(rng: &mut Rng, _: u64, t: &mut Tester) {
     let image = images::any(rng);
     let n = image.len() / 512;
-    t.report.about(format!("n {n}, {} files", reference::layout::files(&image).len()));
+    let (files, folders) = (files(&image).len(), folders(&image).len());
+    t.report.about(format!("n {n}, {files} files, {folders} folders"));
     let many = if n > 1000 { 2 } else { 8 };
     for _ in 0..many {
         look_once(rng, t, &image);
@@ -55,23 +58,24 @@ pub fn calls(rng: &mut Rng, _: u64, t: &mut Tester) {
 }
 
 fn look_once(rng: &mut Rng, t: &mut Tester, image: &[u8]) {
-    let name = any_name(rng, image);
-    let size = size_of(image, &name);
+    let want = if rng.once_in(8) { Want::Directory } else { Want::File };
+    let path = any_path(rng, image, want);
+    let size = size_of(image, &path);
     let offset = any_offset(rng, size);
     let buffer = any_buffer(rng, size);
     let index = any_index(rng, size);
-    t.look(image, &name, offset, &buffer, index);
+    t.look(image, &path, offset, &buffer, index);
 }
 
 /// Every file from end to end.
 fn look_at_all(rng: &mut Rng, t: &mut Tester, image: &[u8]) {
-    let mut files = reference::layout::files(image);
+    let mut files = files(image);
     rng.shuffle(&mut files);
     for file in files.iter().take(12) {
-        t.lookup(image, &file.name);
-        t.read(image, &file.name, 0, &rng.bytes(file.size as usize + 5));
+        t.lookup(image, &file.path);
+        t.read(image, &file.path, 0, &rng.bytes(file.size as usize + 5));
         for index in 0..u64::from(file.blocks + 1).min(10) {
-            t.look_in_place(image, &file.name, index);
+            t.look_in_place(image, &file.path, index);
         }
     }
 }
@@ -103,8 +107,8 @@ fn exact_blocks(rng: &mut Rng, t: &mut Tester, image: &[u8]) {
     for (more, expected) in [(0, 0), (1, 14)] {
         let data = rng.bytes(end + more - file.size as usize);
         if data.len() <= 4096 {
-            let name = file.name.clone();
-            let write = Write { name, offset: u64::from(file.size), data, time: any_time(rng) };
+            let path = file.path.clone();
+            let write = Write { path, offset: u64::from(file.size), data, time: any_time(rng) };
             let number = t.change(&state, &Change::Write(write));
             t.report.agree("plan", number, expected);
         }

@@ -1,3 +1,4 @@
+use mathlib.Core.Path.{_∙_}
 use borrow.Author.Tests.{ne-eqb}
 use Rattle.journal.specs.Script.{changeAt}
 use borrow.Author.Needs.{needs}
@@ -57,9 +58,21 @@ returns-2 : tie.Need-returns-2
 unfolding changeAt
 returns-2 c = rw (ne-eqb _ 5 (c .before .before .if1 .left), c .before .if2 .taken, c .before .before .before .get64 .ensures, c .get642 .ensures)
 
+directory-of-requires : tie.Need-directory-of-requires
+directory-of-requires c κs = search needs
+
 returns-3 : tie.Need-returns-3
 unfolding changeAt
-returns-3 c = rw (ne-eqb _ 5 (c .before .if1 .left), ne-eqb _ 6 (c .if2 .left))
+returns-3 c =
+    c .directory-of .ensures ∙ rw (ne-eqb _ 5 (c .before .before .before .if1 .left), ne-eqb _ 6 (c .before .before .if2 .left), c .before .if3 .taken, c .before .before .before .before .get64 .ensures)
+
+returns-4 : tie.Need-returns-4
+unfolding changeAt
+returns-4 c = rw (ne-eqb _ 5 (c .before .before .before .if1 .left), ne-eqb _ 6 (c .before .before .if2 .left), ne-eqb _ 9 (c .before .if3 .left), c .if4 .taken)
+
+returns-5 : tie.Need-returns-5
+unfolding changeAt
+returns-5 c = rw (ne-eqb _ 5 (c .before .before .before .if1 .left), ne-eqb _ 6 (c .before .before .if2 .left), ne-eqb _ 9 (c .before .if3 .left), ne-eqb _ 10 (c .if4 .left))
 
 pub change-of-spec : {M : Type 1} → statement M
 change-of-spec =
@@ -82,4 +95,7 @@ change-of-spec =
     add-get64-2
     get64-requires-2
     returns-2
-    returns-3)
+    directory-of-requires
+    returns-3
+    returns-4
+    returns-5)

@@ -1,17 +1,18 @@
 use mathlib.Core.Path.{_≡_, refl, sym, _∙_}
 use Prim.Native.Nat.{_-_, _*_, _≤_}
 use native.Mathlib.Omega.{arith}
+use Rattle.layout.specs.Lists.{within}
 use Rattle.layout.specs.Table.{next, chain}
-use Rattle.layout.specs.Walks.Slots.{Place, fileNamed, slotFrom, entryAt}
-use Rattle.layout.proofs.Walks.Slots.{place-below, place-entry, place-then, place-first, slotFrom-end, slotFrom-here, slotFrom-next, fileSlot-from, stands-here, stands-none}
+use Rattle.layout.specs.Walks.Slots.{Place, entryNamed, slotFrom, entryAt}
+use Rattle.layout.proofs.Walks.Slots.{place-below, place-entry, place-then, place-first, slotFrom-end, slotFrom-here, slotFrom-next, slotOf-from, stands-here, stands-none}
 use Rattle.layout.proofs.directory.find.Statement.{statement}
 use Rattle.layout.proofs.directory.find.Tie as tie
 
 abbrev Inv-loop : tie.InvT-loop
-Inv-loop image n first d name b₀ k₀ left₀ b k left = (Place (chain (next image) first d) d b k left) × (slotFrom (fileNamed image name) (chain (next image) first d) 1 (4 * d - 2) ≡ slotFrom (fileNamed image name) (chain (next image) first d) k left) × (1 ≤ k)
+Inv-loop image n first d lo hi name b₀ k₀ left₀ b k left = (Place (chain (next image) first d) d b k left) × (slotFrom (entryNamed (within lo hi) image name) (chain (next image) first d) 1 (4 * d - 2) ≡ slotFrom (entryNamed (within lo hi) image name) (chain (next image) first d) k left) × (1 ≤ k)
 
 abbrev μ-loop : tie.MeasureT-loop
-μ-loop image n first d name b₀ k₀ left₀ b k left = left
+μ-loop image n first d lo hi name b₀ k₀ left₀ b k left = left
 
 mul-left : tie.Need-mul-left Inv-loop μ-loop
 mul-left c = omega arith
@@ -35,7 +36,7 @@ returns c =
     let p = c .before .before .before .before .before .before .pre in
     let bs = p .0 .blocks in
     stands-here _ _ (a .d) _ _ _ _ bs (l .inv .0) (l .inv .2)
-    (fileSlot-from (a .image .now) _ (a .name .now) (a .d) (bs .size) ∙ l .inv .1 ∙ slotFrom-here (fileNamed (a .image .now) (a .name .now)) _ _ _
+    (slotOf-from (within (a .lo) (a .hi)) (a .image .now) _ (a .name .now) (a .d) (bs .size) ∙ l .inv .1 ∙ slotFrom-here (entryNamed (within (a .lo) (a .hi)) (a .image .now) (a .name .now)) _ _ _
     (entryAt (l .b) (l .k)) (place-entry _ _ _ _ _ (l .inv .0)) (omega arith) (sym (c .if1 .taken) ∙ c .before .holds-at .ensures))
 
 add-k : tie.Need-add-k Inv-loop μ-loop
@@ -59,7 +60,7 @@ loop-again c =
     let l = c .before .before .before .before .loop in
     let a = c .before .before .before .before .before .before .before .args in (
       place-then _ _ _ _ _ _ _ (l .inv .0) (omega arith) (c .following .ensures),
-      l .inv .1 ∙ slotFrom-next (fileNamed (a .image .now) (a .name .now))
+      l .inv .1 ∙ slotFrom-next (entryNamed (within (a .lo) (a .hi)) (a .image .now) (a .name .now))
           _ _ _ (entryAt (l .b) (l .k)) (place-entry _ _ _ _ _ (l .inv .0)) (omega arith) (sym (c .before .if1 .left) ∙ holds-at .ensures),
       omega arith,
     )
@@ -69,8 +70,8 @@ returns-2 c =
     let a = c .before .before .before .before .args in
     let p = c .before .before .before .before .pre in
     let l = c .before .loop in
-    stands-none _ _ _ (fileSlot-from (a .image .now) _ (a .name .now) (a .d) (p .0 .blocks .size) ∙ l .inv .1 ∙ slotFrom-end
-    (fileNamed (a .image .now) (a .name .now)) _ _ _ (omega arith))
+    stands-none _ _ _ (slotOf-from (within (a .lo) (a .hi)) (a .image .now) _ (a .name .now) (a .d) (p .0 .blocks .size) ∙ l .inv .1 ∙ slotFrom-end
+    (entryNamed (within (a .lo) (a .hi)) (a .image .now) (a .name .now)) _ _ _ (omega arith))
 
 pub find-spec : {M : Type 1} → statement M
 find-spec =

@@ -11,7 +11,8 @@ use Rattle.lister.proofs.Pieces.{Pending, begin, room, more, last}
 use Rattle.lister.proofs.Lines.{list-pieces}
 use Rattle.lister.proofs.listing.list.Statement.{statement}
 use Rattle.lister.proofs.listing.list.Tie as tie
-use Rattle.layout.proofs.Walks.Shapes.{sound-shape, sound-root, sound-directory}
+use Rattle.layout.proofs.Walks.Shapes.{sound-shape}
+use Rattle.layout.proofs.Walks.Homes.{root-at, root-chain}
 
 abbrev Rest : tie.After-number-at → List ℕ → ℕ → List ℕ → Type 0
 Rest c out p rest =
@@ -50,7 +51,7 @@ file-lines-requires c κs =
     let a = c .before .before .before .before .before .before .before .before .before .args in
     let p = c .before .before .before .before .before .before .before .before .before .pre in
     let s = a .image .now in
-    (rw e (sound-directory s (p .0) _ (rw e at (number-at .ensures))), rw e (sound-root s (p .0) _ (rw e at (number-at .ensures))), l₁ (c .before .before .before) .fits)
+    (rw e (root-at s (p .0) _ (rw e at (number-at .ensures))), rw e (root-chain s (p .0) _ (rw e at (number-at .ensures))), l₁ (c .before .before .before) .fits)
 
 same-length : tie.Need-same-length
 same-length c = c .before .before .file-lines .kept .1 .1 .1 .1 .0 ∙ l₁ (c .before .before .before .before .before .before) .size

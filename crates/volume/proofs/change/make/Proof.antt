@@ -25,6 +25,20 @@ delete-requires : tie.Need-delete-requires
 unfolding refusal
 delete-requires c κs = let p = c .before .before .before .before .before .before .pre in (p .0, rw (c .before .enum-told .given .1) at (p .1))
 
+enum-known-what-3 : tie.Need-enum-known-what-3
+enum-known-what-3 c = search needs
+
+create-directory-requires : tie.Need-create-directory-requires
+unfolding refusal
+create-directory-requires c κs = let p = c .before .before .before .before .before .before .before .pre in (p .0, rw (c .before .before .what3 .given .1) at (p .1))
+
+enum-told-2 : tie.Need-enum-told-2
+enum-told-2 c = search needs
+
+delete-directory-requires : tie.Need-delete-directory-requires
+unfolding refusal
+delete-directory-requires c κs = let p = c .before .before .before .before .before .before .pre in (p .0, rw (c .before .enum-told2 .given .1) at (p .1))
+
 same-length : tie.Need-same-length
 same-length c = search needs
 
@@ -46,6 +60,20 @@ returns-3 : tie.Need-returns-3
 unfolding after slotGiven
 returns-3 c = rw (c .before .before .before .before .enum-told .given .1) (refl, c .before .before .delete .ensures)
 
+same-length-4 : tie.Need-same-length-4
+same-length-4 c = search needs
+
+returns-4 : tie.Need-returns-4
+unfolding after slotGiven
+returns-4 c = rw (c .before .before .before .before .before .what3 .given .1) (c .before .before .create-directory .ensures)
+
+same-length-5 : tie.Need-same-length-5
+same-length-5 c = search needs
+
+returns-5 : tie.Need-returns-5
+unfolding after slotGiven
+returns-5 c = rw (c .before .before .before .before .enum-told2 .given .1) (refl, c .before .before .delete-directory .ensures)
+
 pub make-spec : {M : Type 1} → statement M
 make-spec =
     tie.close
@@ -56,9 +84,17 @@ make-spec =
     write-requires
     enum-told
     delete-requires
+    enum-known-what-3
+    create-directory-requires
+    enum-told-2
+    delete-directory-requires
     same-length
     returns
     same-length-2
     returns-2
     same-length-3
-    returns-3)
+    returns-3
+    same-length-4
+    returns-4
+    same-length-5
+    returns-5)

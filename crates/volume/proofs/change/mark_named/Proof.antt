@@ -1,64 +1,99 @@
 use Rattle.volume.specs.Change.{refusal, named}
-use Rattle.volume.proofs.Laws.Accepted.{create-given}
 use borrow.Author.Needs.{needs}
 use Rattle.volume.proofs.change.mark_named.Statement.{statement}
 use Rattle.volume.proofs.change.mark_named.Tie as tie
 
-enum-told : tie.Need-enum-told
-enum-told c = search needs
-
-create-named-requires : tie.Need-create-named-requires
-unfolding refusal
-create-named-requires c κs = let p = c .before .before .before .before .before .before .before .pre in (p .0, create-given _ _ _ (rw (c .before .enum-told .given .1) at (p .1)) .some, p .2)
-
 enum-known-what : tie.Need-enum-known-what
 enum-known-what c = search needs
 
+create-named-requires : tie.Need-create-named-requires
+unfolding refusal
+create-named-requires c κs = let p = c .before .before .before .before .before .before .before .before .pre in (p .0, rw (c .before .before .what .given .1) at (p .1), p .2)
+
+enum-known-what-2 : tie.Need-enum-known-what-2
+enum-known-what-2 c = search needs
+
 write-named-requires : tie.Need-write-named-requires
 unfolding refusal
-write-named-requires c κs = let p = c .before .before .before .before .before .before .before .before .pre in (p .0, rw (c .before .before .what .given .1) at (p .1), p .2)
+write-named-requires c κs = let p = c .before .before .before .before .before .before .before .before .pre in (p .0, rw (c .before .before .what2 .given .1) at (p .1), p .2)
+
+enum-told : tie.Need-enum-told
+enum-told c = search needs
+
+delete-named-requires : tie.Need-delete-named-requires
+unfolding refusal
+delete-named-requires c κs = let p = c .before .before .before .before .before .before .before .pre in (p .0, rw (c .before .enum-told .given .1) at (p .1), p .2)
+
+enum-known-what-3 : tie.Need-enum-known-what-3
+enum-known-what-3 c = search needs
+
+create-directory-named-requires : tie.Need-create-directory-named-requires
+unfolding refusal
+create-directory-named-requires c κs = let p = c .before .before .before .before .before .before .before .before .pre in (p .0, rw (c .before .before .what3 .given .1) at (p .1), p .2)
 
 enum-told-2 : tie.Need-enum-told-2
 enum-told-2 c = search needs
 
-delete-named-requires : tie.Need-delete-named-requires
+delete-directory-named-requires : tie.Need-delete-directory-named-requires
 unfolding refusal
-delete-named-requires c κs = let p = c .before .before .before .before .before .before .before .pre in (p .0, rw (c .before .enum-told2 .given .1) at (p .1), p .2)
+delete-directory-named-requires c κs = let p = c .before .before .before .before .before .before .before .pre in (p .0, rw (c .before .enum-told2 .given .1) at (p .1), p .2)
 
 same-length : tie.Need-same-length
 same-length c = search needs
 
 returns : tie.Need-returns
 unfolding named
-returns c = rw (c .before .before .before .before .enum-told .given .1) (c .before .before .create-named .ensures)
+returns c = rw (c .before .before .before .before .before .what .given .1) (c .before .before .create-named .ensures)
 
 same-length-2 : tie.Need-same-length-2
 same-length-2 c = search needs
 
 returns-2 : tie.Need-returns-2
 unfolding named
-returns-2 c = rw (c .before .before .before .before .before .what .given .1) (c .before .before .write-named .ensures)
+returns-2 c = rw (c .before .before .before .before .before .what2 .given .1) (c .before .before .write-named .ensures)
 
 same-length-3 : tie.Need-same-length-3
 same-length-3 c = search needs
 
 returns-3 : tie.Need-returns-3
 unfolding named
-returns-3 c = rw (c .before .before .before .before .enum-told2 .given .1) (c .before .before .delete-named .ensures)
+returns-3 c = rw (c .before .before .before .before .enum-told .given .1) (c .before .before .delete-named .ensures)
+
+same-length-4 : tie.Need-same-length-4
+same-length-4 c = search needs
+
+returns-4 : tie.Need-returns-4
+unfolding named
+returns-4 c = rw (c .before .before .before .before .before .what3 .given .1) (c .before .before .create-directory-named .ensures)
+
+same-length-5 : tie.Need-same-length-5
+same-length-5 c = search needs
+
+returns-5 : tie.Need-returns-5
+unfolding named
+returns-5 c = rw (c .before .before .before .before .enum-told2 .given .1) (c .before .before .delete-directory-named .ensures)
 
 pub mark-named-spec : {M : Type 1} → statement M
 mark-named-spec =
     tie.close
     (tie.spec
-    enum-told
-    create-named-requires
     enum-known-what
+    create-named-requires
+    enum-known-what-2
     write-named-requires
-    enum-told-2
+    enum-told
     delete-named-requires
+    enum-known-what-3
+    create-directory-named-requires
+    enum-told-2
+    delete-directory-named-requires
     same-length
     returns
     same-length-2
     returns-2
     same-length-3
-    returns-3)
+    returns-3
+    same-length-4
+    returns-4
+    same-length-5
+    returns-5)

@@ -21,6 +21,18 @@ enum-told c = search needs
 delete-refusal-requires : tie.Need-delete-refusal-requires
 delete-refusal-requires c κs = search needs
 
+enum-known-what-3 : tie.Need-enum-known-what-3
+enum-known-what-3 c = search needs
+
+create-directory-refusal-requires : tie.Need-create-directory-refusal-requires
+create-directory-refusal-requires c κs = search needs
+
+enum-told-2 : tie.Need-enum-told-2
+enum-told-2 c = search needs
+
+delete-directory-refusal-requires : tie.Need-delete-directory-refusal-requires
+delete-directory-refusal-requires c κs = search needs
+
 returns : tie.Need-returns
 unfolding refusal
 returns c = rw (c .before .before .what .given .1) (c .create-refusal .ensures)
@@ -33,6 +45,14 @@ returns-3 : tie.Need-returns-3
 unfolding refusal
 returns-3 c = rw (c .before .enum-told .given .1) (c .delete-refusal .ensures)
 
+returns-4 : tie.Need-returns-4
+unfolding refusal
+returns-4 c = rw (c .before .before .what3 .given .1) (c .create-directory-refusal .ensures)
+
+returns-5 : tie.Need-returns-5
+unfolding refusal
+returns-5 c = rw (c .before .enum-told2 .given .1) (c .delete-directory-refusal .ensures)
+
 pub refusal-spec : {M : Type 1} → statement M
 refusal-spec =
     tie.close
@@ -43,6 +63,12 @@ refusal-spec =
     write-refusal-requires
     enum-told
     delete-refusal-requires
+    enum-known-what-3
+    create-directory-refusal-requires
+    enum-told-2
+    delete-directory-refusal-requires
     returns
     returns-2
-    returns-3)
+    returns-3
+    returns-4
+    returns-5)

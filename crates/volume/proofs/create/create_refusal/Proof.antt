@@ -1,91 +1,39 @@
-use mathlib.Core.Path.{_≡_, sym, _∙_}
-use mathlib.Core.Bool.{true, false}
-use borrow.Author.Tests.{not-true, not-false}
 use borrow.Author.Needs.{needs}
 use Rattle.volume.proofs.create.create_refusal.Statement.{statement}
 use Rattle.volume.proofs.create.create_refusal.Tie as tie
-use Rattle.volume.proofs.Walks.Create.{refused-name, refused-kind, refused-taken, refused-full, not-refused}
-
-good-name-requires : tie.Need-good-name-requires
-good-name-requires c κs = search needs
-
-returns : tie.Need-returns
-returns c =
-    let a = c .before .before .before .before .args in
-    let g : c .before .good-name .result ≡ false = not-true _ (c .if1 .taken) in
-    refused-name (a .image .now) (a .name .now) (a .kind) (sym g ∙ c .before .good-name .ensures)
+use mathlib.Core.Path.{_≡_, sym, _∙_}
+use mathlib.Core.Bool.{true, false}
+use borrow.Author.Tests.{not-true, not-false}
+use Rattle.volume.proofs.Walks.Create.{refused-kind, refused-form, by-place}
+use Rattle.layout.proofs.Walks.Looks.{form-given}
 
 is-file-requires : tie.Need-is-file-requires
 is-file-requires c κs = search needs
 
+returns : tie.Need-returns
+returns c =
+    let a = c .before .before .before .before .args in
+    let f : c .before .is-file .result ≡ false = not-true _ (c .if1 .taken) in
+    refused-kind (a .image .now) (a .path .now) (a .kind) (sym f ∙ c .before .is-file .ensures)
+
+path-refusal-requires : tie.Need-path-refusal-requires
+path-refusal-requires c κs = search needs
+
 returns-2 : tie.Need-returns-2
 returns-2 c =
     let a = c .before .before .before .before .before .before .args in
-    let g : c .before .before .before .good-name .result ≡ true = not-false _ (c .before .before .if1 .left) in
-    let f : c .before .is-file .result ≡ false = not-true _ (c .if2 .taken) in
-    refused-kind (a .image .now) (a .name .now) (a .kind) (sym g ∙ c .before .before .before .good-name .ensures) (sym f ∙ c .before .is-file .ensures)
+    let f : c .before .before .before .is-file .result ≡ true = not-false _ (c .before .before .if1 .left) in
+    refused-form (a .image .now) (a .path .now) (a .kind) (sym f ∙ c .before .before .before .is-file .ensures) _ (c .before .path-refusal .ensures) (c .if2 .taken)
 
-find-file-requires : tie.Need-find-file-requires
-find-file-requires c κs =
-    let g : c .before .before .before .good-name .result ≡ true = not-false _ (c .before .before .if1 .left) in
-    let h = sym (c .before .before .before .good-name .ensures) ∙ g in
-    (c .before .before .before .before .before .before .pre, h)
+find-place-requires : tie.Need-find-place-requires
+find-place-requires c κs = form-given _ _ (c .before .before .before .before .before .before .pre) (sym (c .if2 .left) ∙ c .before .path-refusal .ensures)
 
 returns-3 : tie.Need-returns-3
 returns-3 c =
-    let find-file = c .before .before .find-file in
-    let if2 = c .before .before .before .if2 in
-    let is-file = c .before .before .before .before .is-file in
-    let if1 = c .before .before .before .before .before .if1 in
-    let good-name = c .before .before .before .before .before .before .good-name in
-    let a = c .before .before .before .before .before .before .before .before .before .args in
-    let g : good-name .result ≡ true = not-false _ (if1 .left) in
-    let f : is-file .result ≡ true = not-false _ (if2 .left) in
-    refused-taken (a .image .now) (a .name .now) (a .kind) (sym g ∙ good-name .ensures) (sym f ∙ is-file .ensures) _ (find-file .ensures .slot) (c .if3 .taken)
-
-free-slot-requires : tie.Need-free-slot-requires
-free-slot-requires c κs = search needs
-
-returns-4 : tie.Need-returns-4
-returns-4 c =
-    let free-slot = c .before .before .free-slot in
-    let if3 = c .before .before .before .if3 in
-    let find-file = c .before .before .before .before .before .find-file in
-    let if2 = c .before .before .before .before .before .before .if2 in
-    let is-file = c .before .before .before .before .before .before .before .is-file in
-    let if1 = c .before .before .before .before .before .before .before .before .if1 in
-    let good-name = c .before .before .before .before .before .before .before .before .before .good-name in
-    let a = c .before .before .before .before .before .before .before .before .before .before .before .before .args in
-    let g : good-name .result ≡ true = not-false _ (if1 .left) in
-    let f : is-file .result ≡ true = not-false _ (if2 .left) in
-    refused-full (a .image .now) (a .name .now) (a .kind) (sym g ∙ good-name .ensures) (sym f ∙ is-file .ensures) _ (find-file .ensures .slot)
-    (if3 .left) _ (free-slot .ensures .slot) (c .if4 .taken)
-
-returns-5 : tie.Need-returns-5
-returns-5 c =
-    let free-slot = c .before .before .free-slot in
-    let if3 = c .before .before .before .if3 in
-    let find-file = c .before .before .before .before .before .find-file in
-    let if2 = c .before .before .before .before .before .before .if2 in
-    let is-file = c .before .before .before .before .before .before .before .is-file in
-    let if1 = c .before .before .before .before .before .before .before .before .if1 in
-    let good-name = c .before .before .before .before .before .before .before .before .before .good-name in
-    let a = c .before .before .before .before .before .before .before .before .before .before .before .before .args in
-    let g : good-name .result ≡ true = not-false _ (if1 .left) in
-    let f : is-file .result ≡ true = not-false _ (if2 .left) in
-    not-refused (a .image .now) (a .name .now) (a .kind) (sym g ∙ good-name .ensures) (sym f ∙ is-file .ensures) _ (find-file .ensures .slot)
-    (if3 .left) _ (free-slot .ensures .slot) (c .if4 .left)
+    let a = c .before .before .before .before .before .before .before .args in
+    let f : c .before .before .before .before .is-file .result ≡ true = not-false _ (c .before .before .before .if1 .left) in
+    by-place (a .image .now) (a .path .now) (a .kind) (sym f ∙ c .before .before .before .before .is-file .ensures) _
+    (form-given (a .image .now) (a .path .now) (c .before .before .before .before .before .before .before .pre) (sym (c .before .if2 .left) ∙ c .before .before .path-refusal .ensures)) (c .find-place .ensures .number-is)
 
 pub create-refusal-spec : {M : Type 1} → statement M
-create-refusal-spec =
-    tie.close
-    (tie.spec
-    good-name-requires
-    returns
-    is-file-requires
-    returns-2
-    find-file-requires
-    returns-3
-    free-slot-requires
-    returns-4
-    returns-5)
+create-refusal-spec = tie.close (tie.spec is-file-requires returns path-refusal-requires returns-2 find-place-requires returns-3)

@@ -4,11 +4,11 @@ use Rattle.layout.proofs.Walks.Looks.{located-below}
 use Rattle.volume.proofs.Walks.Plan.{plan-sizes, room-given, planned}
 use Rattle.layout.proofs.Walks.Shapes.{sound-shape}
 use Rattle.volume.proofs.write.plan_write.Statement.{statement}
-use Rattle.volume.proofs.Laws.Accepted.{name-given}
+use Rattle.volume.proofs.Walks.Write.{path-given}
 use Rattle.volume.proofs.write.plan_write.Tie as tie
 
 locate-requires : tie.Need-locate-requires
-locate-requires c κs = (c .before .before .pre .0, name-given _ _ _ _ (c .before .before .pre .1))
+locate-requires c κs = (c .before .before .pre .0, path-given _ _ _ _ (c .before .before .pre .1))
 
 needed-requires : tie.Need-needed-requires
 needed-requires c κs =
@@ -18,7 +18,7 @@ needed-requires c κs =
 last-block-requires : tie.Need-last-block-requires
 last-block-requires c κs =
     let p = c .before .before .before .before .pre in
-    located-below (c .before .locate .ensures .0) (name-given _ _ _ _ (p .1)) (p .0)
+    located-below (c .before .locate .ensures .0) (path-given _ _ _ _ (p .1)) (p .0)
 
 start-block-requires : tie.Need-start-block-requires
 start-block-requires c κs =

@@ -5,17 +5,17 @@ use Rattle.layout.proofs.Walks.Looks.{located-below}
 use Rattle.volume.proofs.Walks.WriteNamed.{last-under, write-named}
 use Rattle.layout.proofs.Walks.Shapes.{sound-shape}
 use Rattle.volume.proofs.write.write_named.Statement.{statement}
-use Rattle.volume.proofs.Laws.Accepted.{name-given}
+use Rattle.volume.proofs.Walks.Write.{path-given}
 use Rattle.volume.proofs.Walks.Plan.{plan-sizes, room-given}
 use Rattle.volume.proofs.write.write_named.Tie as tie
 
 locate-requires : tie.Need-locate-requires
-locate-requires c κs = (c .before .before .before .pre .0, name-given _ _ _ _ (c .before .before .before .pre .1))
+locate-requires c κs = (c .before .before .before .pre .0, path-given _ _ _ _ (c .before .before .before .pre .1))
 
 last-block-requires : tie.Need-last-block-requires
 last-block-requires c κs =
     let p = c .before .before .before .before .pre in
-    located-below (c .locate .ensures .0) (name-given _ _ _ _ (p .1)) (p .0)
+    located-below (c .locate .ensures .0) (path-given _ _ _ _ (p .1)) (p .0)
 
 needed-requires : tie.Need-needed-requires
 needed-requires c κs =
@@ -35,7 +35,7 @@ mark-written-requires : tie.Need-mark-written-requires
 mark-written-requires c κs =
     let locate = c .before .before .before .before .before .before .before .locate in
     let p = c .before .before .before .before .before .before .before .before .before .before .before .pre in
-    (located-below (locate .ensures .0) (name-given _ _ _ _ (p .1)) (p .0), plan-sizes _ _ _ _ (p .0) (p .1) (locate .ensures .0) .2, omega (arith, p .2))
+    (located-below (locate .ensures .0) (path-given _ _ _ _ (p .1)) (p .0), plan-sizes _ _ _ _ (p .0) (p .1) (locate .ensures .0) .2, omega (arith, p .2))
 
 mark-grown-requires : tie.Need-mark-grown-requires
 mark-grown-requires c κs =
@@ -44,7 +44,7 @@ mark-grown-requires c κs =
     let locate = c .before .before .before .before .before .before .before .before .before .before .before .locate in
     let p = c .before .before .before .before .before .before .before .before .before .before .before .before .before .before .before .pre in (
       sound-shape _ (p .0),
-      rw (last-block .ensures) (last-under (located-below (locate .ensures .0) (name-given _ _ _ _ (p .1)) (p .0))),
+      rw (last-block .ensures) (last-under (located-below (locate .ensures .0) (path-given _ _ _ _ (p .1)) (p .0))),
       room-given _ _ _ _
           (p .0) (p .1) (locate .ensures .0) _ (needed .ensures),
       omega (arith, p .2),

@@ -3,7 +3,7 @@ use native.Mathlib.Omega.{arith}
 use borrow.Author.Needs.{needs}
 use Rattle.volume.proofs.write.write_refusal.Statement.{statement}
 use Rattle.volume.proofs.write.write_refusal.Tie as tie
-use Rattle.volume.proofs.Walks.Write.{data-long, name-refused, offset-far, room-none, room-there, blocks-for, blocks-most}
+use Rattle.volume.proofs.Walks.Write.{data-long, path-refused, offset-far, room-none, room-there, blocks-for, blocks-most}
 use Rattle.layout.proofs.Walks.Shapes.{sound-shape}
 
 returns : tie.Need-returns
@@ -13,7 +13,7 @@ open-file-requires : tie.Need-open-file-requires
 open-file-requires c κs = search needs
 
 returns-2 : tie.Need-returns-2
-returns-2 c = name-refused _ _ _ _ (omega arith) _ (c .before .open-file .ensures .number-is) (c .if2 .taken)
+returns-2 c = path-refused _ _ _ _ (omega arith) _ (c .before .open-file .ensures .number-is) (c .if2 .taken)
 
 returns-3 : tie.Need-returns-3
 returns-3 c =

@@ -1,0 +1,232 @@
+-- STAGE 6: the chains of all entries of the marked blocks, clause by clause; and that this is the rule, where just the directory blocks are marked.
+use Prim.Native.Nat.{ℕ, _+_, _-_, _*_, _≤_, _<_}
+use mathlib.Core.Bool.{Bool, true, false, not, cond, _&&_, _||_, Bool·not-not, false≢true}
+use mathlib.Core.List.{List, [], _∷_, _++_, append-nil, map}
+use mathlib.Core.Path.{_≡_, refl, sym, ap, _∙_}
+use native.Mathlib.Omega.{arith}
+use lib.Dec.{eqb}
+use lib.ListN.{length, getD}
+use borrow.Author.Tests.{eq-eqb, ne-eqb}
+use Rattle.layout.specs.Lists.{interval, every, has, distinct, select, keep, joined}
+use Rattle.layout.specs.Bytes.{be32, zeros}
+use Rattle.layout.specs.Geometry.{blockCount, tableBlocks}
+use Rattle.layout.specs.Table.{next, chainOk}
+use Rattle.layout.specs.Directory.{typeOf, firstBlock, blocksOf}
+use Rattle.layout.specs.Check.{fileChains, owned, tableOk, stage6, allChains}
+use Rattle.layout.specs.Walks.Chains.{Walk, walked, follow, followAll, allOnes, restFree}
+use Rattle.layout.specs.Walks.Shapes.{Shape}
+use Rattle.layout.specs.Walks.Slots.{entryAt}
+use Rattle.layout.specs.Walks.Stages.{ownsBlocks, slotChains, followSlot, followSlots, isMarked, followBlocks, followTable}
+use Rattle.layout.proofs.Laws.Bytes.{length-zeros}
+use Rattle.layout.proofs.Laws.Lists.{In, every-same, interval-next, has-eqb-in, in-has-eqb, select-in, select-distinct}
+use Rattle.layout.proofs.Laws.Joins.{select-has, interval-in, join-map, join-join, join-append}
+use Rattle.layout.proofs.Laws.Tests.{and-split}
+use Rattle.layout.proofs.Laws.Visits.{Tree, dirBlocks}
+use Rattle.layout.proofs.Laws.Trees.{block-above}
+use Rattle.layout.proofs.Laws.Sound.{quad, entryChains, entryChainsOf, any-order}
+use Rattle.layout.proofs.Walks.Marks.{Marked, marked-zeros, Tied, followAll-tied}
+use Rattle.layout.proofs.Walks.Shapes.{shape-blockCount}
+
+-- chains after others
+module _ (v : ℕ → ℕ) (n : ℕ) where
+  pub followAll-append : (cs ds : List (ℕ × ℕ)) (m : List ℕ)
+      → followAll v n (cs ++ ds) m ≡ (let w : Walk = followAll v n cs m in cond (w .ok) (followAll v n ds (w .marks)) w)
+  unfolding followAll
+  followAll-append [] ds m = refl
+  followAll-append (c ∷ cs) ds m = go (follow v n (c .1) (c .0) m .ok) refl (followAll-append cs ds (follow v n (c .1) (c .0) m .marks))
+    where
+      w : Walk
+      w = follow v n (c .1) (c .0) m
+
+      go : (t : Bool) → w .ok ≡ t
+          → followAll v n (cs ++ ds) (w .marks) ≡ (let x : Walk = followAll v n cs (w .marks) in cond (x .ok) (followAll v n ds (x .marks)) x)
+          → cond t (followAll v n (cs ++ ds) (w .marks)) w
+          ≡ (let x : Walk = cond t (followAll v n cs (w .marks)) w in cond (x .ok) (followAll v n ds (x .marks)) x)
+      go true e h = h
+      go false e h = sym (ap (λ (b : Bool). cond b (followAll v n ds (w .marks)) w) e)
+
+-- one slot
+module _ (s : List ℕ) (n e : ℕ) (m : List ℕ) (ty : ℕ) (et : ty ≡ typeOf s e) where
+  pub followSlot-none : false ≡ ownsBlocks ty → walked true m ≡ followSlot s n e m
+  unfolding followSlot
+  followSlot-none h = rw (← et, ← h)
+
+  pub followSlot-owner : true ≡ ownsBlocks ty → (first blocks : ℕ) → first ≡ be32 s (e + 4) → blocks ≡ be32 s (e + 12)
+      → follow (next s) n blocks first m ≡ followSlot s n e m
+  unfolding followSlot
+  followSlot-owner h first blocks ef eb = rw (← et, ← h, ← ef, ← eb)
+
+slot-chains : (s : List ℕ) (n e : ℕ) (m : List ℕ) → followAll (next s) n (slotChains s e) m ≡ followSlot s n e m
+unfolding slotChains followSlot fileChains followAll
+slot-chains s n e m = go (ownsBlocks (typeOf s e))
+  where
+    one : (w : Walk) (t : Bool) → w .ok ≡ t → cond t (walked true (w .marks)) w ≡ w
+    one w true e = ap (λ (b : Bool). walked b (w .marks)) (sym e)
+    one w false e = refl
+
+    go : (t : Bool) → followAll (next s) n (cond t ((firstBlock s e, blocksOf s e) ∷ []) []) m ≡ cond t (follow (next s) n (blocksOf s e) (firstBlock s e) m) (walked true m)
+    go true = one (follow (next s) n (blocksOf s e) (firstBlock s e) m) (follow (next s) n (blocksOf s e) (firstBlock s e) m .ok) refl
+    go false = refl
+
+-- the slots of a block
+module _ (s : List ℕ) (n b k j : ℕ) (m : List ℕ) where
+  pub followSlots-end : j ≡ 0 → followSlots s n b k j m ≡ walked true m
+  unfolding followSlots followAll
+  followSlots-end e = rw e
+
+  slots-suc : 0 < j → followSlots s n b k j m ≡ (let w : Walk = followSlot s n (entryAt b k) m in cond (w .ok) (followSlots s n b (k + 1) (j - 1) (w .marks)) w)
+  unfolding followSlots
+  slots-suc h =
+      rw (interval-next k j h) (followAll-append (next s) n (slotChains s (entryAt b k)) (joined (λ x. slotChains s (entryAt b x)) (interval (k + 1) (j - 1))) m
+      ∙ rw (slot-chains s n (entryAt b k) m))
+
+  pub followSlots-next : 0 < j → (m′ : List ℕ) → walked true m′ ≡ followSlot s n (entryAt b k) m → followSlots s n b k j m ≡ followSlots s n b (k + 1) (j - 1) m′
+  followSlots-next h m′ e = slots-suc h ∙ rw (← e)
+
+  pub followSlots-stop : 0 < j → (m′ : List ℕ) → walked false m′ ≡ followSlot s n (entryAt b k) m → followSlots s n b k j m ≡ walked false m′
+  followSlots-stop h m′ e = slots-suc h ∙ rw (← e)
+
+-- the marked blocks
+module _ (s : List ℕ) (n : ℕ) (ms : List ℕ) (b : ℕ) (m : List ℕ) where
+  pub followBlocks-other : getD ms b 0 ≡ 0 → walked true m ≡ followBlocks s n ms b 1 m
+  unfolding followBlocks followAll
+  followBlocks-other e = rw (eq-eqb (getD ms b 0) 0 e)
+
+  pub followBlocks-marked : (getD ms b 0 ≡ 0 → ⊥) → followSlots s n b 0 4 m ≡ followBlocks s n ms b 1 m
+  unfolding followBlocks followSlots
+  followBlocks-marked h =
+      rw (ne-eqb (getD ms b 0) 0 h) (ap (λ (cs : List (ℕ × ℕ)). followAll (next s) n cs m) (sym (append-nil (joined (λ k. slotChains s (entryAt b k)) (interval 0 4)))))
+
+  module _ (j : ℕ) where
+    pub followBlocks-end : j ≡ 0 → followBlocks s n ms b j m ≡ walked true m
+    unfolding followBlocks followAll
+    followBlocks-end e = rw e
+
+    abbrev chainsIn : ℕ → List (ℕ × ℕ)
+    chainsIn x = joined (λ k. slotChains s (entryAt x k)) (interval 0 4)
+
+    kept : (t : Bool) (xs : List ℕ) → joined chainsIn (keep t b xs) ≡ joined chainsIn (keep t b []) ++ joined chainsIn xs
+    kept t xs = ap (joined chainsIn) (two t) ∙ join-append chainsIn (keep t b []) xs
+      where
+        two : (t : Bool) → keep t b xs ≡ keep t b [] ++ xs
+        two true = refl
+        two false = refl
+
+    blocks-suc : 0 < j → followBlocks s n ms b j m ≡ (let w : Walk = followBlocks s n ms b 1 m in cond (w .ok) (followBlocks s n ms (b + 1) (j - 1) (w .marks)) w)
+    unfolding followBlocks
+    blocks-suc h =
+        rw (interval-next b j h) (ap (λ (cs : List (ℕ × ℕ)). followAll (next s) n cs m) (kept (isMarked ms b) (select (isMarked ms) (interval (b + 1) (j - 1))))
+        ∙ followAll-append (next s) n (joined chainsIn (keep (isMarked ms b) b [])) (joined chainsIn (select (isMarked ms) (interval (b + 1) (j - 1)))) m)
+
+    pub followBlocks-next : 0 < j → (m′ : List ℕ) → walked true m′ ≡ followBlocks s n ms b 1 m → followBlocks s n ms b j m ≡ followBlocks s n ms (b + 1) (j - 1) m′
+    followBlocks-next h m′ e = blocks-suc h ∙ rw (← e)
+
+    pub followBlocks-stop : 0 < j → (m′ : List ℕ) → walked false m′ ≡ followBlocks s n ms b 1 m → followBlocks s n ms b j m ≡ walked false m′
+    followBlocks-stop h m′ e = blocks-suc h ∙ rw (← e)
+
+-- the whole table
+module _ (s : List ℕ) (t n : ℕ) (ms m m′ : List ℕ) where
+  pub followTable-chains : walked false m′ ≡ followBlocks s n ms 0 n m → false ≡ followTable s t n ms m
+  unfolding followTable
+  followTable-chains e = rw (← e)
+
+  module _ (e : walked true m′ ≡ followBlocks s n ms 0 n m) where
+    pub followTable-ones : false ≡ allOnes (next s) 0 (t + 1) → false ≡ followTable s t n ms m
+    unfolding followTable
+    followTable-ones h = rw (← e, ← h)
+
+    pub followTable-rest : true ≡ allOnes (next s) 0 (t + 1) → restFree (next s) m′ (t + 1) (128 * t - (t + 1)) ≡ followTable s t n ms m
+    unfolding followTable
+    followTable-rest h = rw (← e, ← h)
+
+-- the entries of a block, and those of the marked blocks
+quad-is : (b : ℕ) → map (entryAt b) (interval 0 4) ≡ quad b
+unfolding quad
+quad-is b =
+    let z : 512 * b + 0 ≡ 512 * b = omega arith in
+    rw z
+
+abbrev blocksIn : List ℕ → ℕ → List ℕ
+blocksIn ms n = select (isMarked ms) (interval 0 n)
+
+marked-chains : (s ms : List ℕ) (n : ℕ) → joined (λ x. joined (λ k. slotChains s (entryAt x k)) (interval 0 4)) (blocksIn ms n) ≡ entryChainsOf s (blocksIn ms n)
+unfolding slotChains entryChains entryChainsOf
+marked-chains s ms n = each (blocksIn ms n) ∙ sym (join-join (entryChains s) quad (blocksIn ms n))
+  where
+    each : (bs : List ℕ) → joined (λ x. joined (λ k. slotChains s (entryAt x k)) (interval 0 4)) bs ≡ joined (λ x. joined (entryChains s) (quad x)) bs
+    each [] = refl
+    each (b ∷ bs) =
+        let e : joined (λ k. entryChains s (entryAt b k)) (interval 0 4) ≡ joined (entryChains s) (quad b) = sym (join-map (entryChains s) (entryAt b) (interval 0 4)) ∙ ap (joined (entryChains s)) (quad-is b) in
+        rw (e, each bs)
+
+-- the walk from no marks is the rule on its chains
+rest-tied : (v : ℕ → ℕ) (m os : List ℕ) (a k : ℕ) → Marked m os → every (λ b. eqb (v b) 0 || has eqb b os) (interval a k) ≡ restFree v m a k
+unfolding restFree
+rest-tied v m os a k g =
+    every-same (λ b. eqb (v b) 0 || has eqb b os) (λ b. eqb (v b) 0 || not (eqb (getD m b 0) 0))
+    (λ x. ap (λ (t : Bool). eqb (v x) 0 || t) (sym (ap not (g .at x) ∙ Bool·not-not (has eqb x os)))) (interval a k)
+
+module _ (s : List ℕ) (n : ℕ) (ms : List ℕ) (size : ℕ) (high : n ≤ size) where
+  abbrev cs : List (ℕ × ℕ)
+  cs = joined (λ x. joined (λ k. slotChains s (entryAt x k)) (interval 0 4)) (select (isMarked ms) (interval 0 n))
+
+  followTable-tied : followTable s (tableBlocks n) n ms (zeros size) ≡ tableOk (next s) n cs
+  unfolding followTable followBlocks tableOk allOnes
+  followTable-tied = go (followAll (next s) n cs m .ok) refl
+    where
+      m : List ℕ
+      m = zeros size
+
+      os : List ℕ
+      os = owned (next s) cs
+
+      all : Bool
+      all = every (λ c. chainOk (next s) n (c .0) (c .1)) cs
+
+      ones : Bool
+      ones = every (λ b. eqb (next s b) 1) (interval 0 (tableBlocks n + 1))
+
+      rest : Bool
+      rest = every (λ b. eqb (next s b) 0 || has eqb b os) (interval (tableBlocks n + 1) (128 * tableBlocks n - (tableBlocks n + 1)))
+
+      tied : Tied (followAll (next s) n cs m) (all && distinct eqb os) os (length m)
+      tied = followAll-tied (next s) n cs m [] (let l = length-zeros size in omega arith) (marked-zeros size) refl
+
+      free : Bool
+      free = restFree (next s) (followAll (next s) n cs m .marks) (tableBlocks n + 1) (128 * tableBlocks n - (tableBlocks n + 1))
+
+      none : (a p x : Bool) → a && p ≡ false → false ≡ a && (p && x)
+      none true true x z = absurd (false≢true (sym z))
+      none true false x z = refl
+      none false p x z = refl
+
+      go : (t : Bool) → followAll (next s) n cs m .ok ≡ t → followAll (next s) n cs m .ok && (ones && free) ≡ all && (distinct eqb os && (ones && rest))
+      go true e =
+          let p = and-split all (distinct eqb os) (sym (tied .ok) ∙ e) in
+          let r : rest ≡ free = rest-tied (next s) (followAll (next s) n cs m .marks) os (tableBlocks n + 1) (128 * tableBlocks n - (tableBlocks n + 1))
+          (tied .marks e) in
+          rw (e, p .0, p .1, r)
+      go false e = rw e (none all (distinct eqb os) (ones && rest) (sym (tied .ok) ∙ e))
+
+-- THE LAW
+module _ (s : List ℕ) (n : ℕ) (ms : List ℕ) (shape : Shape s n) (T : Tree s n) (g : Marked ms (dirBlocks s)) where
+  block-in : (b : ℕ) → In b (select (isMarked ms) (interval 0 n)) → In b (dirBlocks s)
+  block-in b i =
+      let w = select-in (isMarked ms) 0 n b i in
+      has-eqb-in b (dirBlocks s) (sym (ap not (g .at b) ∙ Bool·not-not (has eqb b (dirBlocks s))) ∙ w .2)
+
+  in-block : (b : ℕ) → In b (dirBlocks s) → In b (select (isMarked ms) (interval 0 n))
+  in-block b i =
+      let h = block-above s n T (shape .low) b i in
+      select-has (isMarked ms) (interval 0 n) b (interval-in n 0 b (omega arith) (omega (arith, h .1)))
+      (ap not (g .at b) ∙ Bool·not-not (has eqb b (dirBlocks s)) ∙ in-has-eqb b (dirBlocks s) i)
+
+  pub stage6-tied : (size : ℕ) → n ≤ size → followTable s (tableBlocks n) n ms (zeros size) ≡ stage6 s
+  unfolding stage6
+  stage6-tied size room =
+      let bl : List ℕ = select (isMarked ms) (interval 0 n) in
+      let z : blockCount s ≡ n = shape-blockCount s n shape in
+      followTable-tied s n ms size room
+      ∙ ap (tableOk (next s) n) (marked-chains s ms n)
+      ∙ sym (any-order s n T (shape .low) bl (select-distinct (isMarked ms) 0 n) block-in in-block)
+      ∙ ap (λ (k : ℕ). tableOk (next s) k (allChains s)) (sym z)

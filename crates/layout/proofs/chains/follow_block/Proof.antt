@@ -1,0 +1,71 @@
+use Prim.Native.Nat.{_+_}
+use mathlib.Core.Bool.{true, false}
+use mathlib.Core.Path.{_≡_, refl, sym, _∙_}
+use native.Mathlib.Omega.{arith}
+use lib.ListN.{length}
+use borrow.Author.Tests.{not-true, not-false}
+use Rattle.layout.specs.Walks.Stages.{followSlots}
+use Rattle.layout.proofs.Walks.Owned.{followSlots-end, followSlots-next, followSlots-stop}
+use Rattle.layout.proofs.chains.follow_block.Statement.{statement}
+use Rattle.layout.proofs.chains.follow_block.Tie as tie
+
+abbrev Inv-loop : tie.InvT-loop
+Inv-loop image t n b marks₀ k₀ left₀ marks k left = (length marks ≡ length marks₀) × (k + left ≡ 4) × (followSlots image n b 0 4 marks₀ ≡ followSlots image n b k left marks)
+
+abbrev μ-loop : tie.MeasureT-loop
+μ-loop image t n b marks₀ k₀ left₀ marks k left = left
+
+loop-holds : tie.Need-loop-holds Inv-loop μ-loop
+loop-holds c = (refl, omega arith, refl)
+
+follow-slot-requires : tie.Need-follow-slot-requires Inv-loop μ-loop
+follow-slot-requires c κs = let p = c .before .before .before .before .before .pre in (record { shape = p .0 .shape; table = p .0 .table; marks = omega (arith, c .before .before .loop .inv .0, p .0 .marks) }, p .1)
+
+same-length : tie.Need-same-length Inv-loop μ-loop
+same-length c = omega arith
+
+returns : tie.Need-returns Inv-loop μ-loop
+returns c =
+    let l = c .before .before .before .before .before .before .loop in
+    let t : c .before .before .before .follow-slot .result ≡ false = not-true _ (c .if1 .taken) in
+    sym (l .inv .2 ∙ followSlots-stop _ _ _ _ _ _ (omega arith) _ (rw t at (c .before .before .before .follow-slot .ensures)))
+
+add-k : tie.Need-add-k Inv-loop μ-loop
+add-k c = omega arith
+
+sub-left : tie.Need-sub-left Inv-loop μ-loop
+sub-left c = omega arith
+
+loop-less : tie.Need-loop-less Inv-loop μ-loop
+loop-less c = omega arith
+
+loop-again : tie.Need-loop-again Inv-loop μ-loop
+loop-again c =
+    let l = c .before .before .before .before .before .before .loop in
+    let t : c .before .before .before .follow-slot .result ≡ true = not-false _ (c .if1 .left) in
+    (omega arith, omega arith, l .inv .2 ∙ followSlots-next _ _ _ _ _ _ (omega arith) _ (rw t at (c .before .before .before .follow-slot .ensures)))
+
+same-length-2 : tie.Need-same-length-2 Inv-loop μ-loop
+same-length-2 c = omega arith
+
+returns-2 : tie.Need-returns-2 Inv-loop μ-loop
+returns-2 c =
+    let l = c .before .loop in
+    sym (l .inv .2 ∙ followSlots-end _ _ _ _ _ _ (omega arith))
+
+pub follow-block-spec : {M : Type 1} → statement M
+follow-block-spec =
+    tie.close
+    (tie.spec
+    Inv-loop
+    μ-loop
+    loop-holds
+    follow-slot-requires
+    same-length
+    returns
+    add-k
+    sub-left
+    loop-less
+    loop-again
+    same-length-2
+    returns-2)

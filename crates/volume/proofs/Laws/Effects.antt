@@ -1,0 +1,291 @@
+-- THE EFFECT OF A CHANGE OF A FILE: on what its own path shows a function of that alone, on what other paths show none, and how many blocks it takes and gives.
+use Prim.Native.Nat.{ℕ, _+_, _-_, _≤_, max}
+use mathlib.Core.Path.{_≡_, refl, sym, ap, _∙_}
+use mathlib.Core.Bool.{true, false, _&&_}
+use mathlib.Core.List.{List, [], _∷_, _++_}
+use mathlib.Core.Logic.{_≢_}
+use native.Mathlib.Omega.{arith}
+use lib.ListN.{length}
+use Rattle.layout.specs.Limits.{maxLevels, maxData}
+use lib.Dec.{leb}
+use Rattle.layout.specs.Bytes.{be32, bytes4, bytes8, part, splice, zeros}
+use Rattle.layout.specs.Geometry.{blockCount, blocksFor}
+use Rattle.layout.specs.Table.{next, freeBlocks}
+use Rattle.layout.specs.Directory.{slotAt, typeOf, sizeOf, blocksOf, isFile, isDirectory, nameOf, goodName, directory, dirs, freeSlot, fileBlocks, content}
+use Rattle.layout.specs.Check.{check}
+use Rattle.layout.specs.Paths.{parts, pathOk, leading, lastPart, shallow, home, pathSlot, entryOf, fileRefusal}
+use Rattle.volume.specs.Entries.{entryBytes}
+use Rattle.volume.specs.Create.{createRefusal, createSlot, createImage, placeRefusal}
+use Rattle.volume.specs.Write.{newSize, needed, newBlocks, writeAt, writeRefusal}
+use Rattle.volume.specs.Delete.{deleteAt}
+use Rattle.volume.specs.Change.{Change, create, write, delete, createDirectory, deleteDirectory, refusal, after}
+use Rattle.volume.specs.Views.{just, fileOf, fileAt, folderAt, subject, ofFile, made, takes, gives}
+use Rattle.volume.proofs.Laws.Places.{At, file-at-path, WriteGiven, write-given, path-name, place-is, place-home, place-free, place-new, place-there}
+use Rattle.volume.proofs.Laws.Entries.{entry-length, entry-type, entry-size}
+use Rattle.volume.proofs.Laws.Create.{created-slot, created-no-dir, created-name, created-sound}
+use Rattle.volume.proofs.Laws.Write.{Written, written-file, written-slot, written-used, written-sound}
+use Rattle.volume.proofs.Laws.Delete.{deleted-slot, deleted-type, deleted-used}
+use Rattle.volume.proofs.Laws.Content.{write-untouched, delete-untouched, create-untouched}
+use Rattle.volume.proofs.Laws.Views.{file-shown, other-shown, OneEntry, folder-shown, own-gone, own-slot, own-shown}
+use Rattle.layout.proofs.Laws.Bytes.{part-part, part-same, length-splice}
+use Rattle.layout.proofs.Laws.Tests.{and-split, require-zero, firstOf-zero, true-not-false}
+use Rattle.layout.proofs.Laws.Lists.{In}
+use Rattle.layout.proofs.Laws.Names.{padded-length}
+use Rattle.layout.proofs.Laws.Frames.{same-inside, same-below, same-be32}
+use Rattle.layout.proofs.Laws.Sound.{Sound, Entry, sound}
+use Rattle.layout.proofs.Laws.Slots.{slot-entry, entry-high, entry-low}
+use Rattle.layout.proofs.Laws.Files.{file-in, length-content}
+use Rattle.layout.proofs.Laws.Owners.{file-no-dir}
+use Rattle.layout.proofs.Laws.Changed.{OneSlot}
+
+pub record Effect (s : List ℕ) (c : Change) : Type 0 where
+  pub own : fileAt (after s c) (subject c) ≡ made c (fileAt s (subject c))
+  pub others : (other : List ℕ) → other ≢ subject c → fileAt (after s c) other ≡ fileAt s other
+  pub folders : (path : List ℕ) → folderAt (after s c) path ≡ folderAt s path
+  pub used : be32 (after s c) 20 + gives c (fileAt s (subject c)) ≡ be32 s 20 + takes c (fileAt s (subject c))
+  pub size : length (after s c) ≡ length s
+
+-- CREATE
+module _ (s path : List ℕ) (ok : check s ≡ 0) (type user group permissions flags time : ℕ) (r : createRefusal s path type ≡ 0) where
+  abbrev Given : Type 0
+  Given = (pathOk path ≡ true) × (isFile type ≡ true) × (shallow (leading (parts path)) ≡ true) × (placeRefusal s path ≡ 0)
+
+  given : Given
+  unfolding createRefusal
+  given =
+      let a = require-zero (pathOk path && isFile type) 8 _ r in
+      let b = and-split (pathOk path) (isFile type) (a .0) in
+      let h = require-zero (shallow (leading (parts path))) 16 _ (a .1) in
+      (b .0, b .1, h .0, h .1)
+
+  abbrev e : ℕ
+  e = slotAt (directory s (home s path)) (freeSlot s (directory s (home s path)))
+
+  abbrev p : List ℕ
+  p = entryBytes type user group permissions 0 0 0 time flags (lastPart (parts path))
+
+  abbrev s′ : List ℕ
+  s′ = splice s e p
+
+  S : Sound s
+  S = sound s ok
+
+  create-is : createImage s path type user group permissions flags time ≡ s′
+  unfolding createImage
+  create-is = rw (place-is s path (given .3))
+
+  level : ℕ
+  level = maxLevels - length (leading (parts path))
+
+  abbrev di : In (home s path, maxLevels - length (leading (parts path))) (dirs s)
+  di = place-home s path (given .3) (given .2)
+
+  good : goodName (lastPart (parts path)) ≡ true
+  good = path-name path (given .0)
+
+  E : Entry s e
+  E = let h = place-free s path (given .3) .1 in slot-entry s S (home s path, maxLevels - length (leading (parts path))) di (freeSlot s (directory s (home s path))) (omega arith)
+
+  high : e + 128 ≤ length s
+  high = entry-high s S e E
+
+  long : length p ≡ 128
+  long = entry-length (lastPart (parts path)) (padded-length (lastPart (parts path)) good) type user group permissions 0 0 0 time flags
+
+  part-new : (i w : ℕ) → i + w ≤ 128 → part s′ (e + i) w ≡ part p i w
+  part-new i w h =
+      part-same p s′ i (e + i) w (same-inside s e p (omega (arith, long, high)) i w (omega (arith, long))) (omega (arith, long)) (omega (arith, high, length-splice s e p (omega (arith, long, high))))
+
+  slots : OneSlot s (dirs s) s′ e
+  slots =
+      let w = place-free s path (given .3) in
+      created-slot s S (home s path, maxLevels - length (leading (parts path))) di (freeSlot s (directory s (home s path))) (w .0) (w .1) (w .2) (lastPart (parts path)) good (place-new s path (given .3)) type user group permissions flags time (given .1)
+
+  no-dir : isDirectory (typeOf s′ e) ≡ false
+  no-dir =
+      let w = place-free s path (given .3) in
+      created-no-dir s S (home s path, maxLevels - length (leading (parts path))) di (freeSlot s (directory s (home s path))) (w .0) (w .1) (w .2) (lastPart (parts path)) good (place-new s path (given .3)) type user group permissions flags time (given .1)
+
+  was-none : isDirectory (typeOf s e) ≡ false
+  was-none = rw (place-free s path (given .3) .2)
+
+  file-new : fileOf s′ e ≡ record { bytes = []; kind = type ∷ user ∷ group ∷ permissions ∷ []; created = bytes8 time; modified = bytes8 time; flags = bytes4 flags }
+  unfolding fileOf content entryBytes bytes4 bytes8 zeros be32
+  file-new =
+      let z : e + 0 ≡ e = omega arith in
+      let eighty = padded-length (lastPart (parts path)) good in
+      let a : sizeOf s′ e ≡ 0 = entry-size (lastPart (parts path)) eighty type user group permissions 0 0 0 time flags s e high in
+      let k : part s′ e 4 ≡ type ∷ user ∷ group ∷ permissions ∷ [] = rw z at (part-new 0 4 (omega arith)) in
+      rw (a, k, part-new 16 8 (omega arith), part-new 24 8 (omega arith), part-new 40 4 (omega arith))
+
+  -- where the path leads then
+  pub create-slot-found : pathSlot isFile (createImage s path type user group permissions flags time) path ≡ createSlot s path
+  unfolding createSlot
+  create-slot-found =
+      let w = place-free s path (given .3) in
+      let S′ : Sound s′ = created-sound s S (home s path, maxLevels - length (leading (parts path))) di (freeSlot s (directory s (home s path))) (w .0) (w .1) (w .2) (lastPart (parts path)) good (place-new s path (given .3)) type user group permissions flags time (given .1) in
+      rw create-is (own-slot s s′ path S (given .0) (given .2) (place-there s path (given .3)) (maxLevels - length (leading (parts path))) di (freeSlot s (directory s (home s path))) (w .0) (w .1) slots was-none no-dir
+      S′ (rw (entry-type (lastPart (parts path)) (padded-length (lastPart (parts path)) good) type user group permissions 0 0 0 time flags s e high) (given .1))
+      (created-name s S (home s path, maxLevels - length (leading (parts path))) di (freeSlot s (directory s (home s path))) (w .0) (w .1) (w .2) (lastPart (parts path)) good (place-new s path (given .3)) type user group permissions flags time (given .1)))
+
+  pub create-effect : Effect s (create path type user group permissions flags time)
+  unfolding after subject made takes gives
+  create-effect =
+      let w = place-free s path (given .3) in
+      let O : OneEntry s s′ = record { d = (home s path, maxLevels - length (leading (parts path))); di = di; k = freeSlot s (directory s (home s path)); k₁ = w .0; k₂ = w .1; only = slots; was = was-none; now = no-dir } in
+      let S′ : Sound s′ = created-sound s S (home s path, maxLevels - length (leading (parts path))) di (freeSlot s (directory s (home s path))) (w .0) (w .1) (w .2) (lastPart (parts path)) good (place-new s path (given .3)) type user group permissions flags time (given .1) in
+      record {
+        own = rw create-is (own-shown s s′ path S (given .0) (given .2) (place-there s path (given .3)) (maxLevels - length (leading (parts path))) di (freeSlot s (directory s (home s path))) (w .0) (w .1) slots was-none no-dir
+            S′ (rw (entry-type (lastPart (parts path)) (padded-length (lastPart (parts path)) good) type user group permissions 0 0 0 time flags s e high) (given .1))
+            (created-name s S (home s path, maxLevels - length (leading (parts path))) di (freeSlot s (directory s (home s path))) (w .0) (w .1) (w .2) (lastPart (parts path)) good (place-new s path (given .3)) type user group permissions flags time (given .1))
+            ∙ ap just file-new);
+        others = λ other ne. other-shown s _ S (rw create-is (slots .len)) other (λ q. create-untouched s path other ok q ne type user group permissions flags time r);
+        folders = λ q. rw create-is (folder-shown s s′ S O q);
+        used = rw create-is (let h = same-be32 s s′ 0 28 20 (same-below s e p (omega (arith, long, high)) 0 28 (omega (arith, entry-low s S e E))) (omega arith) (omega arith) in omega arith);
+        size = rw create-is (slots .len);
+      }
+
+-- A FILE THAT IS THERE
+module _ (s path : List ℕ) (ok : check s ≡ 0) (q : fileRefusal s path ≡ 0) where
+  abbrev A : At isFile s path
+  A = file-at-path s path q
+
+  abbrev k : ℕ
+  k = pathSlot isFile s path
+
+  abbrev a : ℕ
+  a = slotAt (directory s (home s path)) (pathSlot isFile s path)
+
+  T : Sound s
+  T = sound s ok
+
+  F : Entry s a
+  F = let h = A .named .high in slot-entry s T (home s path, A .level) (A .home-in) k (omega arith)
+
+  entry-is : entryOf isFile s path ≡ a
+  unfolding entryOf
+  entry-is = refl
+
+  shown : fileAt s path ≡ just (fileOf s a)
+  shown = file-shown s path q ∙ ap (λ (x : ℕ). just (fileOf s x)) entry-is
+
+  no-dir-file : isDirectory (typeOf s a) ≡ false
+  no-dir-file = file-no-dir (typeOf s a) (A .named .typed)
+
+  bytes-length : length (content s a) ≡ sizeOf s a
+  bytes-length = length-content s T a (file-in s T (home s path, A .level) (A .home-in) k (A .named .low) (A .named .high) (A .named .typed))
+
+  pub content-length : length (content s (entryOf isFile s path)) ≡ sizeOf s (entryOf isFile s path)
+  unfolding entryOf
+  content-length = bytes-length
+
+  blocks-is : blocksOf s a ≡ blocksFor (sizeOf s a)
+  blocks-is = file-in s T (home s path, A .level) (A .home-in) k (A .named .low) (A .named .high) (A .named .typed) .blocks
+
+  one-entry : (s′ : List ℕ) → OneSlot s (dirs s) s′ a → isDirectory (typeOf s′ a) ≡ false → OneEntry s s′
+  one-entry s′ O now = record { d = (home s path, A .level); di = A .home-in; k = k; k₁ = A .named .low; k₂ = A .named .high; only = O; was = no-dir-file; now = now }
+
+  -- the entry keeps its type and name
+  module _ (s′ : List ℕ) (O : OneSlot s (dirs s) s′ a) (S′ : Sound s′) (type : typeOf s′ a ≡ typeOf s a) (name : nameOf s′ a ≡ nameOf s a) where
+    now : isDirectory (typeOf s′ a) ≡ false
+    now = rw type no-dir-file
+
+    there-still : fileAt s′ path ≡ just (fileOf s′ a)
+    there-still =
+        own-shown s s′ path T (A .good) (A .short) (A .there) (A .level) (A .home-in) k (A .named .low) (A .named .high) O no-dir-file now S′ (rw type (A .named .typed)) (name ∙ A .named .named)
+
+  -- DELETE
+  delete-count : be32 (deleteAt s a) 20 + blocksFor (length (content s a)) ≡ be32 s 20 + 0
+  delete-count =
+      let u = deleted-used s T (home s path, A .level) (A .home-in) k (A .named .low) (A .named .high) (A .named .typed) in
+      let l = bytes-length in
+      let b = blocks-is in
+      rw l (omega arith)
+
+  pub delete-effect : Effect s (delete path)
+  unfolding after subject made takes gives entryOf fileOf
+  delete-effect =
+      let d : ℕ × ℕ = (home s path, A .level) in
+      let O = deleted-slot s T d (A .home-in) k (A .named .low) (A .named .high) (A .named .typed) in
+      let z = deleted-type s T d (A .home-in) k (A .named .low) (A .named .high) (A .named .typed) in
+      let now : isDirectory (typeOf (deleteAt s a) a) ≡ false = rw z in
+      record {
+        own = own-gone s (deleteAt s a) path T (A .good) (A .short) (A .there) (A .level) (A .home-in) k (A .named .low) (A .named .high) O no-dir-file now z (A .named .typed) (A .named .named);
+        others = λ other ne. other-shown s (deleteAt s a) T (O .len) other (λ g. delete-untouched s path other ok g ne q);
+        folders = folder-shown s (deleteAt s a) T (one-entry (deleteAt s a) O now);
+        used = rw shown delete-count;
+        size = O .len;
+      }
+
+-- WRITE
+module _ (s path : List ℕ) (ok : check s ≡ 0) (offset : ℕ) (bytes : List ℕ) (time : ℕ) (r : writeRefusal s path offset (length bytes) ≡ 0) where
+  G : WriteGiven s path offset (length bytes)
+  G = write-given s path offset (length bytes) r
+
+  write-q : fileRefusal s path ≡ 0
+  unfolding writeRefusal
+  write-q = firstOf-zero (fileRefusal s path) _ (require-zero (leb (length bytes) maxData && pathOk path) 8 _ r .1) .0
+
+  abbrev write-A : At isFile s path
+  write-A = file-at-path s path write-q
+
+  abbrev write-a : ℕ
+  write-a = slotAt (directory s (home s path)) (pathSlot isFile s path)
+
+  abbrev w : List ℕ
+  w = writeAt s write-a offset bytes time
+
+  room : needed s write-a offset (length bytes) ≤ length (freeBlocks (next s) (blockCount s))
+  unfolding entryOf
+  room = G .room
+
+  inside : offset ≤ sizeOf s write-a
+  unfolding entryOf
+  inside = G .within-size
+
+  W : Written s w write-a offset bytes time
+  W = written-file s (sound s ok) (home s path, write-A .level) (write-A .home-in) (pathSlot isFile s path) (write-A .named .low) (write-A .named .high) (write-A .named .typed) offset bytes time room inside
+
+  O : OneSlot s (dirs s) w write-a
+  O = written-slot s (sound s ok) (home s path, write-A .level) (write-A .home-in) (pathSlot isFile s path) (write-A .named .low) (write-A .named .high) (write-A .named .typed) offset bytes time room
+
+  write-count : be32 w 20 + 0 ≡ be32 s 20 + (blocksFor (max (length (content s write-a)) (offset + length bytes)) - blocksFor (length (content s write-a)))
+  unfolding needed newSize
+  write-count =
+      let u = written-used s (sound s ok) (home s path, write-A .level) (write-A .home-in) (pathSlot isFile s path) (write-A .named .low) (write-A .named .high) (write-A .named .typed) offset bytes time room in
+      let b = blocks-is s path ok write-q in
+      rw (bytes-length s path ok write-q, ← b) (omega arith)
+
+  write-flags : part w (write-a + 40) 4 ≡ part s (write-a + 40) 4
+  write-flags =
+      let high = entry-high s (sound s ok) write-a (F s path ok write-q) in
+      let l = O .len in
+      let z : write-a + 32 + 8 ≡ write-a + 40 = omega arith in
+      rw z at (sym (part-part w (write-a + 32) 96 8 4 (omega arith) (omega arith)) ∙ ap (λ (x : List ℕ). part x 8 4) (W .rest) ∙ part-part s (write-a + 32) 96 8 4 (omega arith) (omega arith))
+
+  write-sound : Sound w
+  write-sound = written-sound s (sound s ok) (home s path, write-A .level) (write-A .home-in) (pathSlot isFile s path) (write-A .named .low) (write-A .named .high) (write-A .named .typed) offset bytes time room
+
+  pub written-blocks : fileBlocks (writeAt s (entryOf isFile s path) offset bytes time) (entryOf isFile s path) ≡ fileBlocks s (entryOf isFile s path) ++ newBlocks s (entryOf isFile s path) offset (length bytes)
+  unfolding entryOf
+  written-blocks = W .blocks
+
+  pub write-effect : Effect s (write path offset bytes time)
+  unfolding after subject made takes gives entryOf
+  write-effect =
+      record {
+        own = rw (shown s path ok write-q, there-still s path ok write-q w O write-sound (W .type) (W .name)) (unfold fileOf in rw (W .contents, W .kind, W .created, W .modified, write-flags));
+        others = λ other ne. other-shown s w (sound s ok) (O .len) other (λ g. write-untouched s path other ok g ne offset bytes time r);
+        folders = folder-shown s w (sound s ok) (one-entry s path ok write-q w O (rw (W .type) (no-dir-file s path ok write-q)));
+        used = rw (shown s path ok write-q) (unfold fileOf in write-count);
+        size = O .len;
+      }
+
+-- ALL OF THEM
+pub effect : (s : List ℕ) (c : Change) → ofFile c ≡ true → check s ≡ 0 → refusal s c ≡ 0 → Effect s c
+unfolding ofFile refusal
+effect s (create path type user group permissions flags time) f ok r = create-effect s path ok type user group permissions flags time r
+effect s (write path offset bytes time) f ok r = write-effect s path ok offset bytes time r
+effect s (delete path) f ok r = delete-effect s path ok r
+effect s (createDirectory path type user group permissions flags time d) f ok r = absurd (true-not-false f refl)
+effect s (deleteDirectory path) f ok r = absurd (true-not-false f refl)

@@ -1,0 +1,273 @@
+-- THE FRAME LAW: an accepted change on a sound image changes no byte outside its named blocks, and these are below n.
+use Prim.Native.Nat.{ℕ, _+_, _-_, _*_, _/_, _%_, _≤_, _<_, max}
+use mathlib.Core.Path.{_≡_, refl, _∙_}
+use mathlib.Core.Bool.{Bool, true, _&&_}
+use mathlib.Core.List.{List, [], _∷_, _++_}
+use mathlib.Core.Logic.{_⊎_, inl, inr, ⊎-elim}
+use native.Mathlib.Omega.{arith}
+use borrow.Author.Tests.{leb-true}
+use lib.ListN.{length, getD, take, length-append, length-take}
+use lib.Dec.{eqb, leb}
+use Rattle.layout.specs.Limits.{maxDirectory, maxLevels}
+use Rattle.layout.specs.Lists.{has, lastOr, within}
+use Rattle.layout.specs.Bytes.{splice, bytes4, bytes8, zeros}
+use Rattle.layout.specs.Geometry.{blockCount, blocksFor}
+use Rattle.layout.specs.Table.{next, freeBlocks}
+use Rattle.layout.specs.Directory.{slotAt, typeOf, firstBlock, sizeOf, blocksOf, isFile, isDirectory, directory, fileBlocks, freeSlot, goodName}
+use Rattle.layout.specs.Check.{check}
+use Rattle.layout.specs.Paths.{parts, pathOk, leading, lastPart, shallow, home, pathSlot, entryOf, fileRefusal, directoryRefusal}
+use Rattle.volume.specs.Entries.{entryBytes, directoryMade, released, grown, entriesNamed}
+use Rattle.volume.specs.Create.{place, placeRefusal, createRefusal, createImage, createNamed}
+use Rattle.volume.specs.Write.{put, written, changedEntries, newSize, needed, newBlocks, setFile, writeAt, writeRefusal, writeNamed}
+use Rattle.volume.specs.Delete.{deleteAt, deleteNamed}
+use Rattle.volume.specs.Directories.{createDirectoryRefusal, newDirectoryBlocks, createDirectoryImage, createDirectoryNamed, deleteDirectoryRefusal}
+use Rattle.volume.specs.Change.{Change, create, write, delete, createDirectory, deleteDirectory, refusal, after, named}
+use Rattle.volume.proofs.Laws.Entries.{entry-length}
+use Rattle.volume.proofs.Laws.Frame.{entries-low, changed-below, written-in, taken-written, released-agree, grown-agree, put-agree}
+use Rattle.volume.proofs.Laws.Places.{At, file-at-path, directory-at-path, WriteGiven, write-given, path-levels, path-name, place-is, place-home, place-free}
+use Rattle.volume.proofs.Laws.Space.{new-fresh, new-length, all-below, last-below}
+use Rattle.layout.proofs.Laws.Bytes.{length-bytes4, length-bytes8, length-zeros}
+use Rattle.layout.proofs.Laws.Tests.{and-split, require-zero, firstOf-zero, within-split}
+use Rattle.layout.proofs.Laws.Names.{padded-length}
+use Rattle.layout.proofs.Laws.Lists.{In, in-left, in-right, in-append, in-has-eqb, has-eqb-in, in-single, getD-in}
+use Rattle.layout.proofs.Laws.Chains.{in-chain}
+use Rattle.layout.proofs.Laws.Frames.{Agree, agree-more, agree-then, splice-agree}
+use Rattle.layout.proofs.Laws.Trees.{childOk-split, directoryOk-split}
+use Rattle.layout.proofs.Laws.Sound.{Sound, Entry, sound}
+use Rattle.layout.proofs.Laws.Slots.{slot-entry, children-in}
+use Rattle.layout.proofs.Laws.Files.{Slot, entry-slot, file-in, length-fileBlocks}
+use Rattle.layout.proofs.Laws.Owners.{Fresh, free-fresh, file-below}
+
+pub record Framed (s : List ℕ) (c : Change) : Type 0 where
+  pub agree : Agree s (after s c) (named s c)
+  pub inside : (b : ℕ) → has eqb b (named s c) ≡ true → b < blockCount s
+  -- there is a named block
+  pub one : ℕ
+  pub listed : has eqb one (named s c) ≡ true
+
+module _ (s : List ℕ) (S : Sound s) where
+  abbrev n : ℕ
+  n = blockCount s
+
+  -- bytes of an entry
+  module _ (e : ℕ) (E : Entry s e) where
+    slot : Slot s e
+    slot = entry-slot s S e E
+
+    slot-agree : (t : List ℕ) (at : ℕ) (p : List ℕ) → length t ≡ 512 * n → e ≤ at → at + length p ≤ e + 128 → Agree t (splice t at p) (e / 512 ∷ [])
+    slot-agree t at p len low high = splice-agree t (e / 512) at p (omega (arith, slot .inside, slot .aligned)) (omega arith) (omega (arith, slot .aligned))
+
+    -- the entry is written, and its block is named first
+    framed-by : (c : Change) (ns : List ℕ) → named s c ≡ e / 512 ∷ ns → Agree s (after s c) (e / 512 ∷ ns) → ((b : ℕ) → In b ns → b < n) → Framed s c
+    framed-by c ns q a f =
+        record {
+          agree = rw q a;
+          inside = λ b i. ⊎-elim (λ d. rw d (slot .inside)) (λ j. f b j) (has-eqb-in b (e / 512 ∷ ns) (rw q at i));
+          one = e / 512;
+          listed = rw q (in-has-eqb (e / 512) (e / 512 ∷ ns) (inl refl));
+        }
+
+    -- a chain is freed, and the entry zeroed
+    freed-framed : (c : Change) → named s c ≡ e / 512 ∷ entriesNamed (fileBlocks s e) → after s c ≡ deleteAt s e → ((x : ℕ) → In x (fileBlocks s e) → x < n) → Framed s c
+    unfolding deleteAt
+    freed-framed c q r below =
+        let a = released-agree n (S .least) (fileBlocks s e) s (S .whole) below in
+        let l = length-zeros 128 in
+        framed-by c (entriesNamed (fileBlocks s e)) q
+        (rw r (agree-then a (slot-agree (released s n (fileBlocks s e)) e (zeros 128) (a .size ∙ S .whole) (omega arith) (omega arith)) (λ x m. inr m)
+        (in-single (e / 512) (e / 512 ∷ entriesNamed (fileBlocks s e)) (inl refl))))
+        (λ b m. omega (arith, entries-low n (fileBlocks s e) below b m, S .least))
+
+  -- where a path's entry stands
+  pub at-entry : (type : ℕ → Bool) (path : List ℕ) → At type s path → Entry s (entryOf type s path)
+  unfolding entryOf
+  at-entry type path A = let h = A .named .high in slot-entry s S (home s path, A .level) (A .home-in) (pathSlot type s path) (omega arith)
+
+  pub place-entry : (path : List ℕ) → placeRefusal s path ≡ 0 → shallow (leading (parts path)) ≡ true → Entry s (place s path)
+  place-entry path r h =
+      let w = place-free s path r in
+      rw (place-is s path r) (slot-entry s S (home s path, maxLevels - length (leading (parts path))) (place-home s path r h) (freeSlot s (directory s (home s path))) (omega (arith, w .1)))
+
+  create-framed : (path : List ℕ) (type user group permissions flags time : ℕ) → createRefusal s path type ≡ 0 → Framed s (create path type user group permissions flags time)
+  unfolding after named createImage createNamed createRefusal
+  create-framed path type user group permissions flags time r =
+      let a = require-zero (pathOk path && isFile type) 8 _ r in
+      let h = require-zero (shallow (leading (parts path))) 16 _ (a .1) in
+      let good = path-name path (and-split (pathOk path) (isFile type) (a .0) .0) in
+      let l = entry-length (lastPart (parts path)) (padded-length (lastPart (parts path)) good) type user group permissions 0 0 0 time flags in
+      let E = place-entry path (h .1) (h .0) in
+      framed-by (place s path) E (create path type user group permissions flags time) [] refl
+      (slot-agree (place s path) E s (place s path) (entryBytes type user group permissions 0 0 0 time flags (lastPart (parts path))) (S .whole) (omega arith) (omega arith)) (λ b i. absurd i)
+
+  delete-framed : (path : List ℕ) → fileRefusal s path ≡ 0 → Framed s (delete path)
+  unfolding after named deleteNamed
+  delete-framed path r =
+      let A = file-at-path s path r in
+      let E = at-entry isFile path A in
+      freed-framed (entryOf isFile s path) E (delete path) refl refl (file-below s S (entryOf isFile s path) E (typed A))
+    where
+      typed : At isFile s path → isFile (typeOf s (entryOf isFile s path)) ≡ true
+      typed A = unfold entryOf in A .named .typed
+
+  -- the blocks of a directory, by its entry
+  child-below-n : (path : List ℕ) → At isDirectory s path → (x : ℕ) → In x (fileBlocks s (entryOf isDirectory s path)) → x < n
+  unfolding fileBlocks entryOf
+  child-below-n path A x i =
+      let b : ℕ = home s path in
+      let k : ℕ = pathSlot isDirectory s path in
+      let e : ℕ = slotAt (directory s b) k in
+      let v = childOk-split s n b e (S .tree .local (b, A .level) (A .home-in) .child e (children-in s b k (A .named .low) (A .named .high) (A .named .typed))) in
+      let D = directoryOk-split s n (firstBlock s e) b (v .0) in
+      let r = in-chain (next s) (firstBlock s e) (blocksOf s e) x i in
+      rw (r .2) (D .chained .below (r .0) (omega (arith, v .1, r .1)))
+
+  delete-directory-framed : (path : List ℕ) → deleteDirectoryRefusal s path ≡ 0 → Framed s (deleteDirectory path)
+  unfolding after named deleteNamed deleteDirectoryRefusal
+  delete-directory-framed path r =
+      let A = directory-at-path s path (firstOf-zero (directoryRefusal s path) _ r .0) in
+      freed-framed (entryOf isDirectory s path) (at-entry isDirectory path A) (deleteDirectory path) refl refl (child-below-n path A)
+
+  module _ (path : List ℕ) (type user group permissions flags time d : ℕ) (r : createDirectoryRefusal s path type d ≡ 0) where
+    record CreateDirectoryGiven : Type 0 where
+      good : goodName (lastPart (parts path)) ≡ true
+      entry : Entry s (place s path)
+      some : 1 ≤ d
+      room : d ≤ length (freeBlocks (next s) (blockCount s))
+
+    create-directory-given : CreateDirectoryGiven
+    unfolding createDirectoryRefusal
+    create-directory-given =
+        let a = require-zero (pathOk path && (isDirectory type && within 1 maxDirectory d)) 8 _ r in
+        let b = and-split (pathOk path) _ (a .0) in
+        let f = and-split (isDirectory type) _ (b .1) in
+        let h = require-zero (shallow (parts path)) 16 _ (a .1) in
+        let i = firstOf-zero (placeRefusal s path) _ (h .1) in
+        let m = require-zero (leb d (length (freeBlocks (next s) (blockCount s)))) 13 _ (i .1) in
+        let l = path-levels path (b .0) (h .0) in
+        record { good = path-name path (b .0); entry = place-entry path (i .0) (l .0); some = within-split 1 maxDirectory d (f .1) .0; room = leb-true _ _ (m .0) }
+
+    abbrev taken-blocks : List ℕ
+    taken-blocks = take d (freeBlocks (next s) n)
+
+    fresh-taken : Fresh n (next s) taken-blocks
+    fresh-taken = free-fresh s S d
+
+    many-taken : length taken-blocks ≡ d
+    many-taken = length-take d (freeBlocks (next s) n) ∙ omega (arith, create-directory-given .room)
+
+    -- bytes in a taken block
+    in-taken : (t : List ℕ) (q at : ℕ) (p ns : List ℕ) → length t ≡ 512 * n → In q taken-blocks → 512 * q ≤ at → at + length p ≤ 512 * q + 512 → ((x : ℕ) → In x taken-blocks → In x ns) → Agree t (splice t at p) ns
+    in-taken t q at p ns len i low high sub =
+        agree-more (splice-agree t q at p (omega (arith, fresh-taken .below q i)) low high) (λ x m. sub x (in-single q taken-blocks i x m))
+
+    create-directory-framed : Framed s (createDirectory path type user group permissions flags time d)
+    unfolding after named createDirectoryImage createDirectoryNamed newDirectoryBlocks directoryMade slotAt changedEntries
+    create-directory-framed =
+        let g = create-directory-given in
+        let E = g .entry in
+        let e = place s path in
+        let name = lastPart (parts path) in
+        let new = taken-blocks in
+        let b₁ : ℕ = getD new 0 0 in
+        let rest : List ℕ = new ++ entriesNamed new in
+        let ns : List ℕ = e / 512 ∷ rest in
+        let sub : (x : ℕ) → In x new → In x ns = λ x i. inr (in-left x new (entriesNamed new) i) in
+        let eighty = padded-length name (g .good) in
+        let L = many-taken in
+        let larger = grown s n 0 new in
+        let a : Agree s larger ns = agree-more (grown-agree n (S .least) new s 0 (S .whole) (omega (arith, S .least)) (fresh-taken .below)) (λ x i. inr (same-entries new x i)) in
+        let p₁ : List ℕ = entryBytes 1 0 0 0 b₁ (home s path) (length new) time 0 name in
+        let l₁ = entry-length name eighty 1 0 0 0 b₁ (home s path) (length new) time 0 in
+        let t₁ = splice larger (512 * b₁) p₁ in
+        let b : Agree s t₁ ns = agree-then a (in-taken larger b₁ (512 * b₁) p₁ ns (a .size ∙ S .whole) (getD-in new 0 0 (omega (arith, L, g .some))) (omega arith) (omega arith) sub) (λ x i. i) (λ x i. i) in
+        let last : ℕ = 512 * getD new ((4 * length new - 1) / 4) 0 + 128 * ((4 * length new - 1) % 4) in
+        let q : ℕ = getD new ((4 * length new - 1) / 4) 0 in
+        let ends : List ℕ = 0xFF ∷ [] in
+        let l₂ : length ends ≡ 1 = refl in
+        let made = splice t₁ last ends in
+        let c : Agree s made ns = agree-then b (in-taken t₁ q last ends ns (b .size ∙ S .whole) (getD-in new ((4 * length new - 1) / 4) 0 (omega (arith, L, g .some))) (omega arith) (omega arith) sub) (λ x i. i) (λ x i. i) in
+        let p₂ : List ℕ = entryBytes type user group permissions b₁ 0 d time flags name in
+        let l₃ = entry-length name eighty type user group permissions b₁ 0 d time flags in
+        framed-by e E (createDirectory path type user group permissions flags time d) rest refl
+        (agree-then c (slot-agree e E made e p₂ (c .size ∙ S .whole) (omega arith) (omega arith)) (λ x i. i) (in-single (e / 512) ns (inl refl)))
+        (λ x i. ⊎-elim (λ j. fresh-taken .below x j) (λ j. omega (arith, entries-low n new (fresh-taken .below) x j, S .least)) (in-append x new (entriesNamed new) i))
+      where
+        same-entries : (bs : List ℕ) (x : ℕ) → In x (bs ++ entriesNamed (changedEntries 0 bs)) → In x (bs ++ entriesNamed bs)
+        same-entries [] x m = m
+        same-entries (y ∷ bs) x m = m
+
+  module _ (path : List ℕ) (offset : ℕ) (bytes : List ℕ) (time : ℕ) (r : writeRefusal s path offset (length bytes) ≡ 0) where
+    given : WriteGiven s path offset (length bytes)
+    given = write-given s path offset (length bytes) r
+
+    abbrev entry : ℕ
+    entry = entryOf isFile s path
+
+    E : Entry s entry
+    E = at-entry isFile path (given .there)
+
+    typed : isFile (typeOf s entry) ≡ true
+    unfolding entryOf
+    typed = given .there .named .typed
+
+    abbrev old : List ℕ
+    old = fileBlocks s entry
+
+    abbrev new : List ℕ
+    new = newBlocks s entry offset (length bytes)
+
+    abbrev holds : List ℕ
+    holds = written (fileBlocks s entry ++ newBlocks s entry offset (length bytes)) offset (length bytes)
+
+    abbrev entries : List ℕ
+    entries = entriesNamed (changedEntries (lastOr 0 (fileBlocks s entry)) (newBlocks s entry offset (length bytes)))
+
+    new-below : (x : ℕ) → In x new → x < n
+    new-below = new-fresh s entry offset (length bytes) S .below
+
+    inside : (x : ℕ) → In x (old ++ new) → x < n
+    inside = all-below s S entry E typed offset (length bytes)
+
+    before : lastOr 0 old < n
+    before = last-below s S entry E typed offset (length bytes)
+
+    renewed : blocksOf s entry ≡ blocksFor (sizeOf s entry)
+    unfolding entryOf
+    renewed = let A = given .there in file-in s S (home s path, A .level) (A .home-in) (pathSlot isFile s path) (A .named .low) (A .named .high) (A .named .typed) .blocks
+
+    counts : (length old ≡ blocksFor (sizeOf s entry)) × (length new ≡ blocksFor (max (sizeOf s entry) (offset + length bytes)) - blocksFor (sizeOf s entry)) × (offset ≤ sizeOf s entry)
+    unfolding newSize needed
+    counts = (length-fileBlocks s entry ∙ renewed, new-length s entry offset (length bytes) (given .room) ∙ rw renewed, given .within-size)
+
+    -- a block that is taken holds a written byte
+    new-written : (x : ℕ) → In x new → In x holds
+    new-written x i = taken-written (fileBlocks s entry) new (sizeOf s entry) offset (length bytes) x (counts .0) (counts .1) (counts .2) i
+
+    write-framed : Framed s (write path offset bytes time)
+    unfolding after named writeAt writeNamed setFile
+    write-framed =
+        let p : List ℕ = bytes4 (getD (old ++ new) 0 0) ++ (bytes4 (newSize s entry offset (length bytes)) ++ bytes4 (length (old ++ new))) in
+        let lp : length p ≡ 12 = simp (length-append, length-bytes4) in
+        let lt : length (bytes8 time) ≡ 8 = length-bytes8 time in
+        let ns : List ℕ = entry / 512 ∷ (holds ++ entries) in
+        let first : (x : ℕ) → In x (entry / 512 ∷ []) → In x ns = in-single (entry / 512) ns (inl refl) in
+        let larger = grown s n (lastOr 0 old) new in
+        let filled = put larger (old ++ new) offset bytes in
+        let again = splice filled (entry + 4) p in
+        let a : Agree s larger ns = agree-more (grown-agree n (S .least) new s (lastOr 0 old) (S .whole) before new-below)
+        (λ x i. inr (⊎-elim (λ j. in-left x holds entries (new-written x j)) (λ j. in-right x holds entries j) (in-append x new entries i))) in
+        let b : Agree larger filled ns = agree-more (put-agree n (S .least) (old ++ new) larger offset bytes (a .size ∙ S .whole) inside) (λ x i. inr (in-left x holds entries i)) in
+        let c : Agree s filled ns = agree-then a b (λ x i. i) (λ x i. i) in
+        let d : Agree s again ns = agree-then c (slot-agree entry E filled (entry + 4) p (c .size ∙ S .whole) (omega arith) (omega arith)) (λ x i. i) first in
+        framed-by entry E (write path offset bytes time) (holds ++ entries) refl
+        (agree-then d (slot-agree entry E again (entry + 24) (bytes8 time) (d .size ∙ S .whole) (omega arith) (omega arith)) (λ x i. i) first)
+        (λ x i. ⊎-elim (λ j. inside x (written-in (old ++ new) offset (length bytes) x j))
+        (λ j. omega (arith, entries-low n (changedEntries (lastOr 0 old) new) (changed-below n (lastOr 0 old) new before new-below) x j, S .least)) (in-append x holds entries i))
+
+pub frame : (s : List ℕ) (c : Change) → check s ≡ 0 → refusal s c ≡ 0 → Framed s c
+unfolding refusal
+frame s (create path type user group permissions flags time) ok r = create-framed s (sound s ok) path type user group permissions flags time r
+frame s (write path offset bytes time) ok r = write-framed s (sound s ok) path offset bytes time r
+frame s (delete path) ok r = delete-framed s (sound s ok) path r
+frame s (createDirectory path type user group permissions flags time d) ok r = create-directory-framed s (sound s ok) path type user group permissions flags time d r
+frame s (deleteDirectory path) ok r = delete-directory-framed s (sound s ok) path r

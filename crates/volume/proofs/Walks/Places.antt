@@ -1,0 +1,58 @@
+-- The search for the place of a new entry, test by test.
+use mathlib.Core.Path.{_≡_, refl, _∙_}
+use mathlib.Core.Bool.{Bool, true, false, _&&_}
+use mathlib.Core.List.{List}
+use Prim.Native.Nat.{ℕ, _*_}
+use borrow.Author.Tests.{eq-eqb, ne-eqb}
+use Rattle.layout.specs.Refusals.{require}
+use Rattle.layout.specs.Geometry.{blockCount}
+use Rattle.layout.specs.Directory.{blocksOf, isUsed, freeSlot, directory}
+use Rattle.layout.specs.Walks.Shapes.{DirectoryAt}
+use Rattle.layout.specs.Walks.Paths.{PathGiven, Spotted}
+use Rattle.layout.specs.Walks.Slots.{Stands}
+use Rattle.layout.proofs.Walks.Homes.{given-home}
+use Rattle.volume.specs.Create.{placeRefusal, createSlot, place}
+use Rattle.volume.specs.Walks.Places.{Searched}
+
+-- a path refused by its form, 9 or 17, whatever comes after
+pub form-first : (a b : Bool) (rest : ℕ) → (require a 9 (require b 17 0) ≡ 0 → ⊥) → require a 9 (require b 17 0) ≡ require (a && true) 9 (require b 17 rest)
+form-first true true rest z = absurd (z refl)
+form-first true false rest z = refl
+form-first false b rest z = refl
+
+pub refused-place : {s path : List ℕ} {number h k b : ℕ} → number ≡ placeRefusal s path → (number ≡ 0 → ⊥) → Searched s path number h k b
+refused-place e ne = record { number-is = e; vacant = λ z. absurd (ne z) }
+
+module _ {s path : List ℕ} {h k b : ℕ} (sp : Spotted isUsed s path h k b) where
+  pub home-none : h ≡ 0 → 10 ≡ placeRefusal s path
+  unfolding placeRefusal
+  home-none z = rw (← sp .there, eq-eqb h 0 z)
+
+  module _ (ne : h ≡ 0 → ⊥) where
+    pub name-taken : (k ≡ 0 → ⊥) → 11 ≡ placeRefusal s path
+    unfolding placeRefusal
+    name-taken t = rw (← sp .there, ne-eqb h 0 ne, ← sp .stands .slot, ne-eqb k 0 t)
+
+    pub home-at : PathGiven s path → DirectoryAt s (blockCount s) h (blocksOf s (512 * h))
+    home-at G = rw (sp .there) (given-home s path G (λ z. ne (sp .there ∙ z)))
+
+    module _ (z : k ≡ 0) {j a : ℕ} (st : Stands (directory s h) (blockCount s) (freeSlot s (directory s h)) j a) where
+      pub slots-full : j ≡ 0 → 13 ≡ placeRefusal s path
+      unfolding placeRefusal
+      slots-full q = rw (← sp .there, ne-eqb h 0 ne, ← sp .stands .slot, eq-eqb k 0 z, ← st .slot, eq-eqb j 0 q)
+
+      pub place-found : (j ≡ 0 → ⊥) → Searched s path 0 h j a
+      unfolding placeRefusal place createSlot
+      place-found q =
+          let f = st .block q in
+          record {
+            number-is = rw (← sp .there, ne-eqb h 0 ne, ← sp .stands .slot, eq-eqb k 0 z, ← st .slot, ne-eqb j 0 q);
+            vacant =
+                λ w. record {
+                  there = sp .there;
+                  lowest = rw (← sp .there) (st .slot);
+                  low = st .low;
+                  inside = f .0;
+                  here = rw (← sp .there, ← st .slot) (f .1);
+                };
+          }

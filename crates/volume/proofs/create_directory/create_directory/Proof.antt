@@ -1,0 +1,88 @@
+use mathlib.Core.Path.{_∙_}
+use native.Mathlib.Omega.{arith}
+use Rattle.volume.proofs.Walks.Create.{name-short}
+use Rattle.volume.proofs.Walks.CreateDirectory.{create-directory-given, create-directory-room, create-directory-written}
+use Rattle.layout.proofs.Walks.Shapes.{sound-shape}
+use borrow.Author.Needs.{needs}
+use Rattle.volume.proofs.create_directory.create_directory.Statement.{statement}
+use Rattle.volume.proofs.create_directory.create_directory.Tie as tie
+
+vacant-requires : tie.Need-vacant-requires
+vacant-requires c κs =
+    let p = c .before .before .before .pre in
+    let a = c .before .before .before .args in
+    let g = create-directory-given (a .image .now) (a .path .now) (a .kind) (a .d) (p .0) (p .1) in
+    (g .given, g .placed)
+
+take-blocks-requires : tie.Need-take-blocks-requires
+take-blocks-requires c κs =
+    let p = c .before .before .before .before .before .pre in
+    let a = c .before .before .before .before .before .args in
+    let g = create-directory-given (a .image .now) (a .path .now) (a .kind) (a .d) (p .0) (p .1) in
+    (p .0, g .some, g .room)
+
+last-part-requires : tie.Need-last-part-requires
+last-part-requires c κs =
+    let p = c .before .before .before .before .before .before .before .before .pre in
+    let a = c .before .before .before .before .before .before .before .before .args in
+    create-directory-given (a .image .now) (a .path .now) (a .kind) (a .d) (p .0) (p .1) .given .good
+
+put-directory-requires : tie.Need-put-directory-requires
+put-directory-requires c κs =
+    let p = c .before .before .before .before .before .before .before .before .before .before .pre in
+    let a = c .before .before .before .before .before .before .before .before .before .before .args in
+    let g = create-directory-given (a .image .now) (a .path .now) (a .kind) (a .d) (p .0) (p .1) in
+    let t = c .before .before .before .before .take-blocks .ensures in
+    let r = create-directory-room (c .before .before .before .before .before .before .vacant .ensures) (a .d) (p .0) (g .some) (g .room) g _ _ (t .1 .0) (t .1 .1) _ (t .0) in
+    (r .0, r .1, r .2, r .3, name-short (a .path .now) _ (g .given .good) (c .before .last-part .ensures))
+
+cast-t22 : tie.Need-cast-t22
+cast-t22 c =
+    let p = c .before .before .before .before .before .before .before .before .before .before .before .before .before .before .pre in
+    let a = c .before .before .before .before .before .before .before .before .before .before .before .before .before .before .args in
+    let g = create-directory-given (a .image .now) (a .path .now) (a .kind) (a .d) (p .0) (p .1) in
+    let t = c .before .before .before .before .before .before .before .before .take-blocks .ensures in
+    let r = create-directory-room (c .before .before .before .before .before .before .before .before .before .before .vacant .ensures) (a .d) (p .0) (g .some) (g .room) g _ _ (t .1 .0) (t .1 .1) _ (t .0) .2 in
+    omega (arith, r)
+
+put-slot-requires : tie.Need-put-slot-requires
+put-slot-requires c κs =
+    let p = c .before .before .before .before .before .before .before .before .before .before .before .before .before .before .before .pre in
+    let a = c .before .before .before .before .before .before .before .before .before .before .before .before .before .before .before .args in
+    let g = create-directory-given (a .image .now) (a .path .now) (a .kind) (a .d) (p .0) (p .1) in
+    let h = sound-shape (a .image .now) (p .0) in
+    (omega (arith, c .before .before .before .before .before .before .before .before .before .before .before .vacant .ensures .inside), name-short (a .path .now) _ (g .given .good) (c .before .before .before .before .before .before .last-part .ensures))
+
+cast-result : tie.Need-cast-result
+cast-result c = search needs
+
+same-length : tie.Need-same-length
+same-length c = search needs
+
+returns : tie.Need-returns
+returns c =
+    let p = c .before .before .before .before .before .before .before .before .before .before .before .before .before .before .before .before .before .before .before .pre in
+    let a = c .before .before .before .before .before .before .before .before .before .before .before .before .before .before .before .before .before .before .before .args in
+    let g = create-directory-given (a .image .now) (a .path .now) (a .kind) (a .d) (p .0) (p .1) in
+    let v = c .before .before .before .before .before .before .before .before .before .before .before .before .before .before .before .vacant .ensures in
+    let t = c .before .before .before .before .before .before .before .before .before .before .before .before .before .take-blocks .ensures in
+    let name = c .before .before .before .before .before .before .before .before .before .before .last-part .ensures in
+    let made = c .before .before .before .before .before .before .before .before .put-directory .ensures in (
+      v .lowest,
+      c .before .before .before .put-slot .ensures
+          ∙ create-directory-written v (a .d) (p .0) (g .some) (g .room) _ _ (a .time) _ name (t .1 .0) (t .1 .1) _ _ (t .0) made (a .kind) (a .user) (a .group) (a .permissions) (a .flags) _ name,
+    )
+
+pub create-directory-spec : {M : Type 1} → statement M
+create-directory-spec =
+    tie.close
+    (tie.spec
+    vacant-requires
+    take-blocks-requires
+    last-part-requires
+    put-directory-requires
+    cast-t22
+    put-slot-requires
+    cast-result
+    same-length
+    returns)

@@ -1,0 +1,114 @@
+-- Views: what a path shows of an image, apart from where it lies in it, and what a change makes of what its own path shows.
+use Prim.Native.Nat.{ℕ, _+_, _-_, max}
+use mathlib.Core.List.{List, [], _∷_}
+use mathlib.Core.Bool.{Bool, true, false}
+use lib.ListN.{length}
+use Rattle.layout.specs.Refusals.{accept}
+use Rattle.layout.specs.Bytes.{bytes4, bytes8, part, splice}
+use Rattle.layout.specs.Geometry.{blocksFor}
+use Rattle.layout.specs.Directory.{blocksOf, isFile, isDirectory, content}
+use Rattle.layout.specs.Paths.{entryOf, fileRefusal, directoryRefusal}
+use Rattle.volume.specs.Change.{Change, create, write, delete, createDirectory, deleteDirectory}
+
+-- a file: its bytes; type, user, group and permissions; both times; system flags
+pub record File : Type 0 where
+  pub bytes : List ℕ
+  pub kind : List ℕ
+  pub created : List ℕ
+  pub modified : List ℕ
+  pub flags : List ℕ
+
+-- a directory: the same of its entry, and its size in blocks
+pub record Folder : Type 0 where
+  pub kind : List ℕ
+  pub created : List ℕ
+  pub modified : List ℕ
+  pub flags : List ℕ
+  pub size : ℕ
+
+pub data Maybe (A : Type 0) : Type 0 where
+  nothing : Maybe A
+  just : A → Maybe A
+
+unfoldable pub fileOf : List ℕ → ℕ → File
+fileOf s e =
+    record { bytes = content s e; kind = part s e 4; created = part s (e + 16) 8; modified = part s (e + 24) 8; flags = part s (e + 40) 4 }
+
+unfoldable pub folderOf : List ℕ → ℕ → Folder
+folderOf s e = record { kind = part s e 4; created = part s (e + 16) 8; modified = part s (e + 24) 8; flags = part s (e + 40) 4; size = blocksOf s e }
+
+-- what a path shows of the image s
+unfoldable pub fileAt : List ℕ → List ℕ → Maybe File
+fileAt s path = accept (fileRefusal s path) (just (fileOf s (entryOf isFile s path))) nothing
+
+unfoldable pub folderAt : List ℕ → List ℕ → Maybe Folder
+folderAt s path = accept (directoryRefusal s path) (just (folderOf s (entryOf isDirectory s path))) nothing
+
+-- the path that a change is about
+unfoldable pub subject : Change → List ℕ
+subject (create path type user group permissions flags time) = path
+subject (write path offset bytes time) = path
+subject (delete path) = path
+subject (createDirectory path type user group permissions flags time d) = path
+subject (deleteDirectory path) = path
+
+-- the changes of files
+unfoldable pub ofFile : Change → Bool
+ofFile (create path type user group permissions flags time) = true
+ofFile (write path offset bytes time) = true
+ofFile (delete path) = true
+ofFile (createDirectory path type user group permissions flags time d) = false
+ofFile (deleteDirectory path) = false
+
+-- what an accepted change makes of the file that its path shows
+abbrev pub over : Maybe File → (File → File) → Maybe File
+over nothing f = nothing
+over (just x) f = just (f x)
+
+unfoldable pub made : Change → Maybe File → Maybe File
+made (create path type user group permissions flags time) m =
+    just (record { bytes = []; kind = type ∷ user ∷ group ∷ permissions ∷ []; created = bytes8 time; modified = bytes8 time; flags = bytes4 flags })
+made (write path offset bytes time) m =
+    over m (λ f. record { bytes = splice (f .bytes) offset bytes; kind = f .kind; created = f .created; modified = bytes8 time; flags = f .flags })
+made (delete path) m = nothing
+made (createDirectory path type user group permissions flags time d) m = m
+made (deleteDirectory path) m = m
+
+-- the blocks that it takes and those that it gives back
+abbrev pub count : Maybe File → (File → ℕ) → ℕ
+count nothing f = 0
+count (just x) f = f x
+
+unfoldable pub takes : Change → Maybe File → ℕ
+takes (create path type user group permissions flags time) m = 0
+takes (write path offset bytes time) m = count m (λ f. blocksFor (max (length (f .bytes)) (offset + length bytes)) - blocksFor (length (f .bytes)))
+takes (delete path) m = 0
+takes (createDirectory path type user group permissions flags time d) m = d
+takes (deleteDirectory path) m = 0
+
+unfoldable pub gives : Change → Maybe File → ℕ
+gives (create path type user group permissions flags time) m = 0
+gives (write path offset bytes time) m = 0
+gives (delete path) m = count m (λ f. blocksFor (length (f .bytes)))
+gives (createDirectory path type user group permissions flags time d) m = 0
+gives (deleteDirectory path) m = 0
+
+-- of the directory that its path shows: what it makes of it, and the blocks that it gives back
+unfoldable pub madeFolder : Change → Maybe Folder → Maybe Folder
+madeFolder (create path type user group permissions flags time) m = m
+madeFolder (write path offset bytes time) m = m
+madeFolder (delete path) m = m
+madeFolder (createDirectory path type user group permissions flags time d) m =
+    just (record { kind = type ∷ user ∷ group ∷ permissions ∷ []; created = bytes8 time; modified = bytes8 time; flags = bytes4 flags; size = d })
+madeFolder (deleteDirectory path) m = nothing
+
+abbrev pub sizeIn : Maybe Folder → ℕ
+sizeIn nothing = 0
+sizeIn (just x) = x .size
+
+unfoldable pub givesFolder : Change → Maybe Folder → ℕ
+givesFolder (create path type user group permissions flags time) m = 0
+givesFolder (write path offset bytes time) m = 0
+givesFolder (delete path) m = 0
+givesFolder (createDirectory path type user group permissions flags time d) m = 0
+givesFolder (deleteDirectory path) m = sizeIn m

@@ -1,0 +1,21 @@
+-- Code-facing: where a new entry goes.
+use Prim.Native.Nat.{ℕ, _<_}
+use mathlib.Core.Path.{_≡_}
+use mathlib.Core.List.{List}
+use Rattle.layout.specs.Geometry.{blockCount}
+use Rattle.layout.specs.Paths.{home}
+use Rattle.layout.specs.Walks.Slots.{entryAt}
+use Rattle.volume.specs.Create.{placeRefusal, createSlot, place}
+
+-- the directory at block h, and the free slot in it, which is in block b
+pub record Vacant (s path : List ℕ) (h slot b : ℕ) : Type 0 where
+  pub there : h ≡ home s path
+  pub lowest : slot ≡ createSlot s path
+  pub low : slot < 256
+  pub inside : b < blockCount s
+  pub here : entryAt b slot ≡ place s path
+
+-- what a search gives: the number of its refusal, and if that is 0, the place
+pub record Searched (s path : List ℕ) (number h slot b : ℕ) : Type 0 where
+  pub number-is : number ≡ placeRefusal s path
+  pub vacant : number ≡ 0 → Vacant s path h slot b
