@@ -1,14 +1,20 @@
 /*
- * Times the library beside the plain C baseline, in one run, and prints a
- * Markdown table: microseconds per call, their ratio, and how much longer a
- * call takes when the number of blocks doubles.  900 files lie in 9 folders.
- * Before it times a volume it makes the calls on both sides, which must agree
- * in every byte.
+ * Times the library beside the plain C baseline, in one run, and prints a table
+ * that is Markdown too: microseconds per call, their ratio, and how much longer
+ * a call takes when the number of blocks doubles.  Beside them stand the limit,
+ * the time to read once the bytes that the check must read, and the same work
+ * in SQLite.  900 files lie in 9 folders.  Before it times a volume it makes
+ * the calls on both sides, which must agree in every byte.
+ *
+ * Usage: bench [--quick] [FIGURES]
+ * --quick takes fewer and shorter samples.  The figures go to the file FIGURES
+ * too, a line each, for picture.py.
  *
  * The baseline is baseline.c compiled with -DBULGEFS_PREFIX=baseline_.
  */
 #define _POSIX_C_SOURCE 199309L
 
+#include "bench.h"
 #include "bulgefs.h"
 
 #include <math.h>
@@ -48,7 +54,8 @@ typedef struct {
     bulgefs_changed (*undo)(uint8_t *, size_t, uint8_t *, size_t);
 } side;
 
-enum { OURS, BASELINE, SIDES };
+/* The columns of figures; the first two are sides that are called alike. */
+enum { OURS, BASELINE, SIDES, LIMIT = SIDES, SQLITE, COLUMNS };
 
 static const side sides[SIDES] = {
     {bulgefs_check, bulgefs_lookup, bulgefs_read, bulgefs_write, bulgefs_delete,
@@ -57,24 +64,31 @@ static const side sides[SIDES] = {
      baseline_create_directory, baseline_delete_directory, baseline_undo},
 };
 
-enum { CHECK, LOOKUP, READ, WRITE, DELETE, CREATE_DIRECTORY, DELETE_DIRECTORY, UNDO, CALLS };
-
 static const char *const call_names[CALLS] = {"check", "lookup", "read", "write", "delete",
                                               "create directory", "delete directory", "undo"};
 
-static const uint32_t block_counts[] = {16, 256, 1024, 4096};
+static const uint32_t block_counts[] = {16, 64, 256, 1024, 4096, 16384, 65536};
 /* The last lie in folders, a hundred in each; all others in the root. */
 static const uint32_t file_counts[] = {10, 100, 250, 900};
 enum { IN_FOLDER = 100, FOLDER_BLOCKS = 26 };
-enum { NS = 4, FILES = 4, SAMPLES = 9, SAMPLE_NS = 3000000, JOURNAL = 65536, DATA = 1000 };
+enum { NS = 7, FILES = 4, MAX_SAMPLES = 9, JOURNAL = 65536, DATA = 1000, PATH_SIZE = 160 };
+/* The last file, of which the calls are made; a write makes it longer. */
+enum { LAST_SIZE = DATA + 500, LAST_WRITTEN = 2 * DATA };
 
-static uint8_t image[4096 * 512], journal[JOURNAL], data[DATA], buffer[4096];
+static int samples = MAX_SAMPLES;
+static double sample_seconds = 3e-3;
+
+static uint8_t image[BULGEFS_IMAGE_SIZE(65536)], journal[JOURNAL], data[LAST_WRITTEN];
+static uint8_t buffer[4096];
 static size_t image_len;
 
-/* Seconds per call; 0 where the files do not fit. */
-static double measured[CALLS][FILES][NS][SIDES];
+/* Bytes of header, table and directories: the first of the image, as no directory came later. */
+static size_t check_len;
 
-static double now(void)
+/* Seconds per call; 0 where the files do not fit, or there is no such call. */
+static double measured[CALLS][FILES][NS][COLUMNS];
+
+double now(void)
 {
     struct timespec t;
     clock_gettime(CLOCK_MONOTONIC, &t);
@@ -97,7 +111,7 @@ static uint32_t folder_count(uint32_t files)
 
 static size_t folder_path(uint32_t i, uint8_t *path)
 {
-    return (size_t)snprintf((char *)path, 160, "/venue number %06u", (unsigned)i);
+    return (size_t)snprintf((char *)path, PATH_SIZE, "/venue number %06u", (unsigned)i);
 }
 
 /* The path of file i of so many. */
@@ -111,7 +125,7 @@ static size_t file_path(uint32_t i, uint32_t files, uint8_t *path)
 static void make_folders(uint32_t count)
 {
     for (uint32_t i = 0; i < count; i++) {
-        uint8_t path[160];
+        uint8_t path[PATH_SIZE];
         size_t len = folder_path(i, path);
         require(bulgefs_journal_start(journal, JOURNAL), "start");
         require(bulgefs_create_directory(image, image_len, journal, JOURNAL, path, len, 0x20, 0,
@@ -136,12 +150,14 @@ static int make_volume(uint32_t n, uint32_t files)
         return 0;
     uint32_t spare = n - used - 8;
     image_len = (size_t)n * 512;
+    check_len = (size_t)used * 512;
     require(bulgefs_format(image, image_len, root, 1, uuid, volume_name, 128), "format");
     make_folders(folders);
+    sqlite_start();
     for (uint32_t i = 0; i < files; i++) {
-        uint8_t path[160];
+        uint8_t path[PATH_SIZE];
         size_t len = file_path(i, files, path);
-        size_t size = i + 1 == files ? DATA + 500 : i % 2 == 0 && spare > 0 ? 100 : 0;
+        size_t size = i + 1 == files ? LAST_SIZE : i % 2 == 0 && spare > 0 ? 100 : 0;
         spare -= size == 100;
         require(bulgefs_journal_start(journal, JOURNAL), "start");
         require(bulgefs_create(image, image_len, journal, JOURNAL, path, len, 0x60, 0, 0, 0, 0,
@@ -150,6 +166,7 @@ static int make_volume(uint32_t n, uint32_t files)
         require(bulgefs_write(image, image_len, journal, JOURNAL, path, len, 0, buffer, size,
                               2).number,
                 "write");
+        sqlite_add(path, len, buffer, size);
     }
     require(bulgefs_journal_start(journal, JOURNAL), "start");
     return 1;
@@ -236,59 +253,103 @@ static int ascending(const void *a, const void *b)
     return (x > y) - (x < y);
 }
 
-/* Takes samples of both sides in turn and keeps the median of each call. */
+/* Reads so many bytes of the image, once. */
+static uint64_t read_once(size_t len)
+{
+    uint64_t sum = 0;
+    for (size_t at = 0; at < len; at += sizeof sum) {
+        uint64_t word;
+        memcpy(&word, image + at, sizeof word);
+        sum += word;
+    }
+    return sum;
+}
+
+/* Makes the calls of one column once and adds the time of each. */
+static void make_column(int column, const uint8_t *path, size_t len, double *sum)
+{
+    static volatile uint64_t sink;
+    if (column == SQLITE) {
+        sqlite_calls(path, len, data, LAST_WRITTEN, sum);
+    } else if (column == LIMIT) {
+        double begin = now();
+        sink = read_once(check_len);
+        double took = now() - begin;
+        for (int c = 0; c < CALLS; c++)
+            sum[c] += took;
+    } else {
+        make_calls(&sides[column], path, len, sum);
+    }
+    (void)sink;
+}
+
+/* Takes samples of all columns in turn and keeps the median of each call. */
 static void measure(uint32_t n_index, uint32_t file_index)
 {
-    double samples[SIDES][CALLS][SAMPLES];
+    double taken[COLUMNS][CALLS][MAX_SAMPLES];
     uint32_t files = file_counts[file_index];
-    uint8_t path[160];
+    uint8_t path[PATH_SIZE];
     if (!make_volume(block_counts[n_index], files))
         return;
     size_t len = file_path(files - 1, files, path);
     compare_sides(path, len);
-    for (int i = 0; i < SAMPLES; i++) {
-        for (int s = 0; s < SIDES; s++) {
+    for (int i = 0; i < samples; i++) {
+        for (int s = 0; s < COLUMNS; s++) {
             double sum[CALLS] = {0};
             double begin = now();
             int calls = 0;
-            for (; calls < 3 || now() - begin < SAMPLE_NS * 1e-9; calls++)
-                make_calls(&sides[s], path, len, sum);
+            for (; calls < 3 || now() - begin < sample_seconds; calls++)
+                make_column(s, path, len, sum);
             for (int c = 0; c < CALLS; c++)
-                samples[s][c][i] = sum[c] / calls;
+                taken[s][c][i] = sum[c] / calls;
         }
     }
     for (int c = 0; c < CALLS; c++) {
-        for (int s = 0; s < SIDES; s++) {
-            qsort(samples[s][c], SAMPLES, sizeof(double), ascending);
-            measured[c][file_index][n_index][s] = samples[s][c][SAMPLES / 2];
+        for (int s = 0; s < COLUMNS; s++) {
+            qsort(taken[s][c], (size_t)samples, sizeof(double), ascending);
+            measured[c][file_index][n_index][s] = taken[s][c][samples / 2];
         }
     }
 }
 
 /* The factor of one doubling of n, from the number of blocks before. */
-static void print_growth(const double (*row)[SIDES], int n_index, int s)
+static void print_growth(const double (*row)[COLUMNS], int n_index, int s)
 {
     if (n_index == 0 || row[n_index - 1][s] == 0) {
-        printf(" - |");
+        printf(" %7s |", "-");
         return;
     }
     double doublings = log2((double)block_counts[n_index] / block_counts[n_index - 1]);
-    printf(" %.2f |", pow(row[n_index][s] / row[n_index - 1][s], 1 / doublings));
+    printf(" %7.2f |", pow(row[n_index][s] / row[n_index - 1][s], 1 / doublings));
+}
+
+static void print_time(double seconds)
+{
+    if (seconds > 0)
+        printf(" %9.2f |", seconds * 1e6);
+    else
+        printf(" %9s |", "-");
 }
 
 static void print_table(void)
 {
-    printf("| call | files | blocks | ours, us | C, us | ratio | ours, n doubled | C, n doubled |\n");
-    printf("|---|--:|--:|--:|--:|--:|--:|--:|\n");
+    printf("| %-16s | %5s | %6s | %9s | %9s | %5s | %9s | %9s | %7s | %7s |\n", "call", "files",
+           "blocks", "ours", "C", "ratio", "limit", "SQLite", "ours 2n", "C 2n");
+    printf("|:-----------------|------:|-------:|----------:|----------:|------:|----------:"
+           "|----------:|--------:|--------:|\n");
     for (int c = 0; c < CALLS; c++)
         for (int f = 0; f < FILES; f++)
             for (int n = 0; n < NS; n++) {
-                const double (*row)[SIDES] = (const double (*)[SIDES])measured[c][f];
+                const double (*row)[COLUMNS] = (const double (*)[COLUMNS])measured[c][f];
                 if (row[n][OURS] == 0)
                     continue;
-                printf("| %s | %u | %u | %.2f | %.2f | %.2f |", call_names[c],
-                       (unsigned)file_counts[f], (unsigned)block_counts[n], row[n][OURS] * 1e6,
-                       row[n][BASELINE] * 1e6, row[n][OURS] / row[n][BASELINE]);
+                printf("| %-16s | %5u | %6u |", call_names[c], (unsigned)file_counts[f],
+                       (unsigned)block_counts[n]);
+                print_time(row[n][OURS]);
+                print_time(row[n][BASELINE]);
+                printf(" %5.2f |", row[n][OURS] / row[n][BASELINE]);
+                print_time(row[n][LIMIT]);
+                print_time(row[n][SQLITE]);
                 print_growth(row, n, OURS);
                 print_growth(row, n, BASELINE);
                 printf("\n");
@@ -298,7 +359,7 @@ static void print_table(void)
 /* The geometric mean of the ratios of each call. */
 static void print_means(void)
 {
-    printf("\n| call | mean ratio |\n|---|--:|\n");
+    printf("\n| %-16s | %10s |\n|:-----------------|-----------:|\n", "call", "mean ratio");
     for (int c = 0; c < CALLS; c++) {
         double sum = 0;
         int count = 0;
@@ -308,16 +369,56 @@ static void print_means(void)
                     sum += log(measured[c][f][n][OURS] / measured[c][f][n][BASELINE]);
                     count++;
                 }
-        printf("| %s | %.2f |\n", call_names[c], exp(sum / count));
+        printf("| %-16s | %10.2f |\n", call_names[c], exp(sum / count));
     }
 }
 
-int main(void)
+static void write_figures(const char *path)
 {
+    FILE *f = fopen(path, "w");
+    if (f == NULL) {
+        fprintf(stderr, "bench: cannot write %s\n", path);
+        exit(EXIT_FAILURE);
+    }
+    fprintf(f, "call\tfiles\tblocks\tours\tC\tlimit\tSQLite\n");
+    for (int c = 0; c < CALLS; c++)
+        for (int i = 0; i < FILES; i++)
+            for (int n = 0; n < NS; n++) {
+                const double *m = measured[c][i][n];
+                if (m[OURS] > 0)
+                    fprintf(f, "%s\t%u\t%u\t%.3f\t%.3f\t%.3f\t%.3f\n", call_names[c],
+                            (unsigned)file_counts[i], (unsigned)block_counts[n], m[OURS] * 1e6,
+                            m[BASELINE] * 1e6, m[LIMIT] * 1e6, m[SQLITE] * 1e6);
+            }
+    fclose(f);
+}
+
+int main(int argc, char **argv)
+{
+    const char *figures = NULL;
+    for (int i = 1; i < argc; i++) {
+        if (strcmp(argv[i], "--quick") == 0) {
+            samples = 3;
+            sample_seconds = 3e-4;
+        } else {
+            figures = argv[i];
+        }
+    }
+    if (sqlite_version() != NULL)
+        printf("SQLite    %s, in memory, prepared statements, write and delete in a savepoint\n",
+               sqlite_version());
+    else
+        printf("SQLite    its development package is not installed: the column is empty\n");
+    printf("times     microseconds per call, median of %d samples; limit: reading header, table\n"
+           "          and directories once; 2n: factor as the blocks double; 900 files lie in 9"
+           " folders\n\n",
+           samples);
     for (uint32_t n = 0; n < NS; n++)
         for (uint32_t f = 0; f < FILES; f++)
             measure(n, f);
     print_table();
     print_means();
+    if (figures != NULL)
+        write_figures(figures);
     return 0;
 }

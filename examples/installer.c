@@ -3,7 +3,11 @@
  * a folder for each venue, changes some of them, and takes the changes back one
  * by one.
  *
- * Build: cc -Iinclude examples/installer.c libcapi.a -o installer
+ * Usage: installer [FOLDER]
+ * With a folder, image and journal are left there: changed.img and
+ * changed.journal before the undo, settings.img and settings.journal after it.
+ *
+ * Build: cc -Iinclude examples/installer.c target/staticlib/libbulgefs.a -o installer
  */
 #include "bulgefs.h"
 
@@ -13,53 +17,37 @@
 #include <stdlib.h>
 #include <string.h>
 
-enum { BLOCKS = 32, ROOT_BLOCKS = 2, FOLDER_BLOCKS = 2, JOURNAL = 32768 };
-enum { FILE_TYPE = 0x60, FOLDER_TYPE = 0x20 };
+enum { BLOCKS = 32, ROOT_BLOCKS = 2, FOLDER_BLOCKS = 2, JOURNAL = 65536 };
 
-static uint8_t image[BLOCKS * BULGEFS_BLOCK_SIZE];
+static uint8_t image[BULGEFS_IMAGE_SIZE(BLOCKS)];
 static uint8_t journal[JOURNAL];
+
+/*
+ * A write never shortens a file.  So the settings of a box are a line of fixed
+ * length, in which each setting has its place and its width: a shorter value is
+ * filled up with spaces, and nothing of the old one stays.
+ */
+typedef struct { const char *key; uint32_t offset, width; } setting;
+static const setting baud = {"baud=", 5, 6}, parity = {"parity=", 19, 4};
+enum { LINE = 23 };
 
 /* The boxes of a venue come one after the other.  The last venue comes with the changes. */
 static const char *const venues[] = {"/stage", "/studio", "/cellar"};
-static const struct { const char *path, *settings; } boxes[] = {
-    {"/stage/SN1001", "baud=9600 parity=none"},  {"/stage/SN1002", "baud=9600 parity=odd"},
-    {"/studio/SN1003", "baud=19200 parity=none"}, {"/studio/SN1004", "baud=300"},
-    {"/cellar/SN1005", "baud=57600"},
+static const struct { const char *path, *baud, *parity; } boxes[] = {
+    {"/stage/SN1001", "9600", "none"},   {"/stage/SN1002", "9600", "even"},
+    {"/studio/SN1003", "19200", "none"}, {"/studio/SN1004", "115200", "none"},
+    {"/cellar/SN1005", "57600", "none"},
 };
 enum { VENUES = 3, BOXES = 5, BOXES_OF_VENUE = 2 };
 
-static const char *reason(uint32_t number)
-{
-    static const char *const reasons[] = {
-        [BULGEFS_OK] = "accepted",
-        [BULGEFS_BAD_LENGTH] = "image has a bad length",
-        [BULGEFS_BAD_SIGNATURE] = "image has no signature or another version",
-        [BULGEFS_BAD_GEOMETRY] = "image has bad block counts in its header",
-        [BULGEFS_BAD_SELF] = "a directory is damaged",
-        [BULGEFS_BAD_SLOT] = "a directory slot is damaged",
-        [BULGEFS_BAD_CHAINS] = "a chain is damaged",
-        [BULGEFS_BAD_COUNTS] = "counts of used and free blocks are wrong",
-        [BULGEFS_BAD_JOURNAL] = "journal is not well formed",
-        [BULGEFS_BAD_ARGUMENT] = "bad path, type or amount of data",
-        [BULGEFS_NOT_FOUND] = "not found",
-        [BULGEFS_NAME_TAKEN] = "name is taken",
-        [BULGEFS_BAD_OFFSET] = "offset is past the file's end",
-        [BULGEFS_DIRECTORY_FULL] = "no free slot",
-        [BULGEFS_VOLUME_FULL] = "not enough free blocks",
-        [BULGEFS_JOURNAL_FULL] = "journal is full",
-        [BULGEFS_NOTHING_TO_UNDO] = "nothing to undo",
-        [BULGEFS_TOO_DEEP] = "too many directories in the path",
-        [BULGEFS_NOT_EMPTY] = "directory is not empty",
-    };
-    return number < sizeof reasons / sizeof reasons[0] ? reasons[number] : "unknown number";
-}
+static const char inventory[] = "/inventory", scenes[] = "/stage/scenes";
 
 /* Ends the program if a call was refused. */
 static void require(uint32_t number, const char *what, const char *path)
 {
     if (number == BULGEFS_OK)
         return;
-    fprintf(stderr, "installer: %s %s: refused, %s (%u)\n", what, path, reason(number),
+    fprintf(stderr, "installer: %s %s: refused, %s (%u)\n", what, path, bulgefs_text(number),
             (unsigned)number);
     exit(EXIT_FAILURE);
 }
@@ -72,7 +60,7 @@ static const uint8_t *bytes(const char *text)
 /* ---- changes ---- */
 
 /* The changes that stand, the last one last, as the journal has them. */
-static struct { const char *what, *path; } made[24];
+static struct { const char *what, *path; } made[32];
 static size_t made_count;
 
 static void note_change(const char *what, const char *path, uint32_t record)
@@ -87,8 +75,9 @@ static void note_change(const char *what, const char *path, uint32_t record)
 static void open_venue(const char *path, uint64_t time)
 {
     bulgefs_created c = bulgefs_create_directory(image, sizeof image, journal, sizeof journal,
-                                                 bytes(path), strlen(path), FOLDER_TYPE, 0, 0, 0,
-                                                 0, FOLDER_BLOCKS, time);
+                                                 bytes(path), strlen(path),
+                                                 BULGEFS_PLAIN_DIRECTORY, 0, 0, 0, 0,
+                                                 FOLDER_BLOCKS, time);
     require(c.number, "create folder", path);
     note_change("create folder", path, c.record);
 }
@@ -104,39 +93,17 @@ static void close_venue(const char *path)
 static void create(const char *path, uint64_t time)
 {
     bulgefs_created c = bulgefs_create(image, sizeof image, journal, sizeof journal, bytes(path),
-                                       strlen(path), FILE_TYPE, 0, 0, 0, 0, time);
+                                       strlen(path), BULGEFS_PLAIN_FILE, 0, 0, 0, 0, time);
     require(c.number, "create", path);
     note_change("create", path, c.record);
 }
 
-static void put(const char *path, uint64_t offset, const char *text, uint64_t time)
+static void put(const char *path, uint64_t offset, const char *text, size_t len, uint64_t time)
 {
     bulgefs_changed c = bulgefs_write(image, sizeof image, journal, sizeof journal, bytes(path),
-                                      strlen(path), offset, bytes(text), strlen(text), time);
+                                      strlen(path), offset, bytes(text), len, time);
     require(c.number, "write", path);
     note_change("write", path, c.record);
-}
-
-/* Puts a value over the one that stands behind a key. */
-static void set(const char *path, const char *key, const char *value, uint64_t time)
-{
-    char text[BULGEFS_BLOCK_SIZE + 1] = "";
-    bulgefs_filled r = bulgefs_read(image, sizeof image, bytes(path), strlen(path), 0,
-                                    (uint8_t *)text, sizeof text - 1);
-    require(r.number, "read", path);
-    const char *found = strstr(text, key);
-    if (found == NULL) {
-        fprintf(stderr, "installer: %s has no setting %s\n", path, key);
-        exit(EXIT_FAILURE);
-    }
-    put(path, (uint64_t)(found - text) + strlen(key), value, time);
-}
-
-static void append(const char *path, const char *text, uint64_t time)
-{
-    bulgefs_found f = bulgefs_lookup(image, sizeof image, bytes(path), strlen(path));
-    require(f.number, "look up", path);
-    put(path, f.size, text, time);
 }
 
 static void drop(const char *path)
@@ -147,31 +114,103 @@ static void drop(const char *path)
     note_change("delete", path, c.record);
 }
 
-/* ---- what is on the volume ---- */
-
-/* One line: slot, size, blocks, path and the start of the settings, which is not copied. */
-static void show(const char *path)
+/* Puts a value, filled up with spaces, over the old one: always so many bytes at that place. */
+static void set(const char *path, const setting *s, const char *value, uint64_t time)
 {
-    enum { SHOWN = 32 };
-    bulgefs_found f = bulgefs_lookup(image, sizeof image, bytes(path), strlen(path));
-    if (f.number == BULGEFS_NOT_FOUND)
-        return;
-    require(f.number, "look up", path);
-    bulgefs_part p = bulgefs_look_in_place(image, sizeof image, bytes(path), strlen(path), 0);
-    printf("  %4u %5u %6u  %-14s %.*s%s\n", (unsigned)f.slot, (unsigned)f.size,
-           (unsigned)f.blocks, path, p.length < SHOWN ? (int)p.length : SHOWN,
-           (const char *)image + p.start, f.size > SHOWN ? "..." : "");
+    char field[LINE + 1];
+    int len = snprintf(field, sizeof field, "%-*s", (int)s->width, value);
+    assert(len == (int)s->width);
+    put(path, s->offset, field, s->width, time);
 }
 
-static void list(const char *title)
+static void add_box(int i, uint64_t time)
+{
+    char line[LINE + 1];
+    int len = snprintf(line, sizeof line, "%s%-*s %s%-*s", baud.key, (int)baud.width,
+                       boxes[i].baud, parity.key, (int)parity.width, boxes[i].parity);
+    assert(len == LINE);
+    create(boxes[i].path, time);
+    put(boxes[i].path, 0, line, LINE, time);
+}
+
+/* A text that may become shorter: the file goes, and comes again with the new text. */
+static void replace(const char *path, const char *text, uint64_t time)
+{
+    if (bulgefs_lookup(image, sizeof image, bytes(path), strlen(path)).number == BULGEFS_OK)
+        drop(path);
+    create(path, time);
+    put(path, 0, text, strlen(text), time);
+}
+
+/* ---- what is on the volume ---- */
+
+/* What the three stages of the program have in each box, and the image then. */
+enum { INSTALLED, CHANGED, UNDONE, STAGES };
+static const char *const stage_names[STAGES] = {"installed", "changed", "after undo"};
+static char lines[STAGES][BOXES][LINE + 1];
+static uint8_t images[STAGES][sizeof image], journals[STAGES][sizeof journal];
+
+/* Keeps image, journal and the line of every box that is there. */
+static void keep(int stage)
 {
     require(bulgefs_check(image, sizeof image), "check", "the volume");
-    printf("\n%s\n  slot  size blocks  path           settings\n", title);
+    memcpy(images[stage], image, sizeof image);
+    memcpy(journals[stage], journal, sizeof journal);
+    for (int i = 0; i < BOXES; i++) {
+        bulgefs_filled r = bulgefs_read(image, sizeof image, bytes(boxes[i].path),
+                                        strlen(boxes[i].path), 0, (uint8_t *)lines[stage][i], LINE);
+        if (r.number == BULGEFS_NOT_FOUND)
+            strcpy(lines[stage][i], "-");
+        else
+            require(r.number, "read", boxes[i].path);
+    }
+}
+
+static void show_boxes(void)
+{
+    printf("\nThe boxes\n  %-14s  %-23s  %-23s  %s\n", "", stage_names[INSTALLED],
+           stage_names[CHANGED], stage_names[UNDONE]);
     for (int i = 0; i < BOXES; i++)
-        show(boxes[i].path);
+        printf("  %-14s  %-23s  %-23s  %s\n", boxes[i].path, lines[INSTALLED][i],
+               lines[CHANGED][i], lines[UNDONE][i]);
+}
+
+/* A sign for each block: # if a byte of it differs from the installed image. */
+static void show_blocks(void)
+{
+    printf("\nThe image's %d blocks: # differs from the installed one\n", BLOCKS);
+    for (int stage = 0; stage < STAGES; stage++) {
+        printf("  %-14s  ", stage_names[stage]);
+        for (size_t at = 0; at < sizeof image; at += BULGEFS_BLOCK_SIZE)
+            putchar(memcmp(images[stage] + at, images[INSTALLED] + at, BULGEFS_BLOCK_SIZE) == 0
+                        ? '.' : '#');
+        putchar('\n');
+    }
+}
+
+/* The text of a file, which is not copied. */
+static void show_text(const char *path)
+{
+    enum { SHOWN = 40 };
+    bulgefs_found f = bulgefs_lookup(image, sizeof image, bytes(path), strlen(path));
+    require(f.number, "look up", path);
+    bulgefs_part p = bulgefs_look_in_place(image, sizeof image, bytes(path), strlen(path), 0);
+    printf("  %s now has %u bytes: %.*s%s\n", path, (unsigned)f.size,
+           p.length < SHOWN ? (int)p.length : SHOWN, (const char *)image + p.start,
+           f.size > SHOWN ? "..." : "");
 }
 
 /* ---- install, change, undo ---- */
+
+/* A text that is longer than a block. */
+static const char *scene_list(void)
+{
+    static char text[800] = "scenes:";
+    size_t len = strlen(text);
+    for (int i = 1; i <= 180; i++)
+        len += (size_t)snprintf(text + len, sizeof text - len, " %d", i);
+    return text;
+}
 
 static void install(void)
 {
@@ -181,39 +220,32 @@ static void install(void)
                            sizeof volume_name),
             "format", "the volume");
     require(bulgefs_journal_start(journal, sizeof journal), "start", "the journal");
-    printf("Install: %d blocks, room for %d venues of %d boxes\n", BLOCKS,
-           (int)BULGEFS_SLOTS_PER_BLOCK * ROOT_BLOCKS - 2,
-           (int)BULGEFS_SLOTS_PER_BLOCK * FOLDER_BLOCKS - 2);
+    printf("Install: %d blocks, room for %u files and venues, and %u in each venue\n", BLOCKS,
+           BULGEFS_MAX_FILES(ROOT_BLOCKS), BULGEFS_MAX_FILES(FOLDER_BLOCKS));
+    create(inventory, 1000);
+    put(inventory, 0, "boxes=4", 7, 1000);
     for (int v = 0; v < VENUES - 1; v++) {
-        open_venue(venues[v], 1000);
-        for (int i = v * BOXES_OF_VENUE; i < (v + 1) * BOXES_OF_VENUE; i++) {
-            create(boxes[i].path, 1001);
-            put(boxes[i].path, 0, boxes[i].settings, 1002);
-        }
+        open_venue(venues[v], 1001);
+        for (int i = v * BOXES_OF_VENUE; i < (v + 1) * BOXES_OF_VENUE; i++)
+            add_box(i, 1002);
     }
-}
-
-/* A text that is longer than a block. */
-static const char *calibration(void)
-{
-    static char text[800];
-    size_t len = (size_t)snprintf(text, sizeof text, " cal=");
-    for (int i = 0; i < 160; i++)
-        len += (size_t)snprintf(text + len, sizeof text - len, "%d,", 500 + i * i % 97);
-    return text;
+    replace(scenes, scene_list(), 1003);
+    show_text(scenes);
 }
 
 static void change(void)
 {
     printf("\nChange\n");
-    set(boxes[0].path, "baud=", "4800", 2001);
-    append(boxes[1].path, calibration(), 2002);
+    set(boxes[0].path, &baud, "300", 2001);
+    set(boxes[1].path, &parity, "odd", 2002);
+    replace(scenes, "scenes: 1 2", 2003);
     drop(boxes[2].path);
     drop(boxes[3].path);
     close_venue(venues[1]);
-    open_venue(venues[2], 2003);
-    create(boxes[4].path, 2004);
-    put(boxes[4].path, 0, boxes[4].settings, 2005);
+    open_venue(venues[2], 2004);
+    add_box(4, 2005);
+    put(inventory, 6, "3", 1, 2006);
+    show_text(scenes);
 }
 
 /* Takes changes back, the last one first, until so many stand. */
@@ -227,6 +259,7 @@ static void take_back(size_t standing)
         printf("  undo %-13s %-14s record of %4u bytes\n", made[made_count].what,
                made[made_count].path, (unsigned)u.record);
     }
+    show_text(scenes);
 }
 
 /*
@@ -241,39 +274,60 @@ static void try_refusals(void)
     printf("\nRefused\n");
     for (int i = 0; i < 5; i++) {
         bulgefs_found f = bulgefs_lookup(image, sizeof image, bytes(paths[i]), strlen(paths[i]));
-        printf("  look up       %-20s %s (%u)\n", paths[i], reason(f.number), (unsigned)f.number);
+        printf("  look up       %-20s %s (%u)\n", paths[i], bulgefs_text(f.number),
+               (unsigned)f.number);
     }
     bulgefs_changed d = bulgefs_delete_directory(image, sizeof image, journal, sizeof journal,
                                                  bytes(venues[0]), strlen(venues[0]));
-    printf("  delete folder %-20s %s (%u)\n", venues[0], reason(d.number), (unsigned)d.number);
+    printf("  delete folder %-20s %s (%u)\n", venues[0], bulgefs_text(d.number),
+           (unsigned)d.number);
+}
+
+/*
+ * Leaves a file to look at.  This is not how to save settings: against a loss
+ * of power, image and journal go into one new file that is renamed over the
+ * old one (see the header, "What it is not").
+ */
+static void leave(const char *folder, const char *name, const uint8_t *content, size_t len)
+{
+    char path[4096];
+    snprintf(path, sizeof path, "%s/%s", folder, name);
+    FILE *f = fopen(path, "wb");
+    if (f == NULL || fwrite(content, 1, len, f) != len || fclose(f) != 0) {
+        fprintf(stderr, "installer: cannot write %s\n", path);
+        exit(EXIT_FAILURE);
+    }
 }
 
 static bool same(const char *what, const uint8_t *now, const uint8_t *then, size_t len)
 {
     bool equal = memcmp(now, then, len) == 0;
-    printf("  %-8s %6zu bytes %s\n", what, len, equal ? "equal" : "DIFFERENT");
+    printf("  %-14s  %6zu bytes %s\n", what, len, equal ? "equal" : "DIFFERENT");
     return equal;
 }
 
-int main(void)
+int main(int argc, char **argv)
 {
-    static uint8_t image_then[sizeof image], journal_then[sizeof journal];
-
     install();
-    list("Installed");
-    memcpy(image_then, image, sizeof image);
-    memcpy(journal_then, journal, sizeof journal);
+    keep(INSTALLED);
     size_t standing = made_count;
-
     change();
-    list("Changed");
+    keep(CHANGED);
     try_refusals();
-
     take_back(standing);
-    list("After undo");
+    keep(UNDONE);
 
-    printf("\nBefore the changes and after undo\n");
-    bool equal = same("image", image, image_then, sizeof image);
-    equal = same("journal", journal, journal_then, sizeof journal) && equal;
+    show_boxes();
+    show_blocks();
+    printf("\nInstalled, and after undo\n");
+    bool equal = same("image", images[UNDONE], images[INSTALLED], sizeof image);
+    equal = same("journal", journals[UNDONE], journals[INSTALLED], sizeof journal) && equal;
+
+    if (argc > 1) {
+        leave(argv[1], "changed.img", images[CHANGED], sizeof image);
+        leave(argv[1], "changed.journal", journals[CHANGED], sizeof journal);
+        leave(argv[1], "settings.img", images[UNDONE], sizeof image);
+        leave(argv[1], "settings.journal", journals[UNDONE], sizeof journal);
+    }
     return equal ? EXIT_SUCCESS : EXIT_FAILURE;
 }

@@ -7,9 +7,9 @@
  * takes the last change back, byte for byte.
  *
  * The library keeps nothing between calls: no handles, no allocation, no
- * input or output, no global state.  A call takes at most BULGEFS_STACK bytes
- * of stack (measured, not proved).  Calls on different buffers may run at the
- * same time.  Link libcapi.a; examples/installer.c shows every call in use.
+ * input or output, no global state.  Calls on different buffers may run at the
+ * same time.  docs/FORMAT.md has every rule; examples/installer.c shows every
+ * kind of call in use.
  *
  * Buffers
  *   The caller owns every buffer and lends it for the length of one call.
@@ -22,10 +22,42 @@
  *
  * Answers
  *   Every call but bulgefs_look_in_place answers a number: 0 (BULGEFS_OK) if
- *   the call was accepted, otherwise one of the refusals below.  If several
- *   refusals apply, the first in this order is given: 1 to 9, 17, 10 to 12,
- *   18, 13 to 16.  A refused call changes no byte of any buffer, and all other
- *   fields of its answer are 0.
+ *   the call was accepted, otherwise one of the refusals below; bulgefs_text
+ *   has words for it.  If several refusals apply, the first in this order is
+ *   given: 1 to 9, 17, 21, 10 to 12, 18, 13 to 16.  A refused call changes no
+ *   byte of any buffer, and all other fields of its answer are 0.
+ *
+ * What it is not
+ *   - The journal is an undo journal, not a journal against loss of power.
+ *     Image and journal are memory; how they reach a disk is up to you.  Keep
+ *     both in one file, write a new one, fsync it, rename it over the old one
+ *     and fsync the directory.  An image that was half written is refused
+ *     (1 to 7), and then undo is refused too.
+ *   - A file's bytes have no checksum.  The check finds damage to the header,
+ *     the table and the form of directories; a flipped bit in a file's bytes,
+ *     a time or a user is not found.
+ *   - A write never shortens a file.  "300" written over "9600" leaves "3000".
+ *     Give a setting a fixed length, or store the length in front of it, or
+ *     delete the file, create it and write it again; undo takes back each step.
+ *   - Nothing ties a journal to its image.  Undo with another image's journal
+ *     puts that image's blocks into this one.  Keep them together, and start
+ *     the journal whenever you replace the image.
+ *   - A journal does not grow.  When it is full, changes are refused with
+ *     BULGEFS_JOURNAL_FULL.  Then undo, or give up undoing what stands: save
+ *     the image and call bulgefs_journal_start.  See the sizes below.
+ *
+ * Cost
+ *   Every call but format and journal start checks the image first: it reads
+ *   the header, the table and all directories, and no file's bytes.  That is
+ *   linear in the blocks, and in the names of a directory a comparison of
+ *   every two fingerprints; what the call itself does is small beside it.  A
+ *   change also reads the journal's record heads.  docs/PERFORMANCE.md has
+ *   figures.  No call needs more stack than BULGEFS_STACK.
+ *
+ * Linking
+ *   x86-64, System V calling convention.  The archive needs memset and nothing
+ *   else.  Every function has a section of its own: with -Wl,--gc-sections a
+ *   boot loader that only checks, finds and reads gets just the reader.
  */
 #ifndef BULGEFS_H
 #define BULGEFS_H
@@ -35,6 +67,25 @@
 
 #ifdef __cplusplus
 extern "C" {
+#endif
+
+/*
+ * The version of this header, 10000 * major + 100 * minor + patch.  The minor
+ * number rises with every call, number or limit that comes or changes.
+ */
+#define BULGEFS_VERSION            400u
+#define BULGEFS_VERSION_TEXT       "0.4.0"
+
+/*
+ * The compiler says if an answer is not used.  Define BULGEFS_CHECKED as
+ * nothing before this header to have it silent.
+ */
+#ifndef BULGEFS_CHECKED
+#if defined(__GNUC__)
+#define BULGEFS_CHECKED __attribute__((warn_unused_result))
+#else
+#define BULGEFS_CHECKED
+#endif
 #endif
 
 /* Limits. */
@@ -48,23 +99,49 @@ extern "C" {
 #define BULGEFS_MAX_NAME           80u       /* bytes in the longest name              */
 #define BULGEFS_VOLUME_NAME_SIZE   128u      /* bytes of a volume name, always         */
 #define BULGEFS_MAX_DATA           4096u     /* bytes that one write accepts           */
-#define BULGEFS_MIN_DIRECTORY_TYPE 0x20u     /* lowest type of a directory             */
-#define BULGEFS_MAX_DIRECTORY_TYPE 0x5Fu     /* highest type of a directory            */
-#define BULGEFS_MIN_FILE_TYPE      0x60u     /* lowest type of a file                  */
-#define BULGEFS_MAX_FILE_TYPE      0x9Fu     /* highest type of a file                 */
 #define BULGEFS_MIN_JOURNAL        5u        /* bytes in the smallest journal          */
 #define BULGEFS_MAX_JOURNAL        67108864u /* bytes in the largest journal           */
 #define BULGEFS_STACK              262144u   /* bytes of stack that suffice for a call */
 
+/* Types.  The 64 of each kind are all treated alike; take the plain one. */
+#define BULGEFS_PLAIN_FILE         0x60u     /* the type of a plain file               */
+#define BULGEFS_PLAIN_DIRECTORY    0x20u     /* the type of a plain directory          */
+#define BULGEFS_MIN_FILE_TYPE      0x60u     /* lowest type of a file                  */
+#define BULGEFS_MAX_FILE_TYPE      0x9Fu     /* highest type of a file                 */
+#define BULGEFS_MIN_DIRECTORY_TYPE 0x20u     /* lowest type of a directory             */
+#define BULGEFS_MAX_DIRECTORY_TYPE 0x5Fu     /* highest type of a directory            */
+
 /* The longest path of a file: each of its names after a '/'. */
 #define BULGEFS_MAX_PATH           ((BULGEFS_MAX_LEVELS + 1u) * (BULGEFS_MAX_NAME + 1u))
 
+/* Files and directories that a directory of so many blocks has room for. */
+#define BULGEFS_MAX_FILES(directory_blocks) (BULGEFS_SLOTS_PER_BLOCK * (directory_blocks) - 2u)
+
 /*
- * Length of a journal record that saves k blocks.  A create saves 1 block, a
- * write at most 20, a delete at most 510, that of a directory 66; a new
- * directory at most 130.
+ * Size of an image.  A file of so many bytes takes BULGEFS_FILE_BLOCKS of them,
+ * a directory the blocks that it is given.  BULGEFS_IMAGE_BLOCKS of their sum,
+ * the root included, is the least n that has room for them, and
+ * BULGEFS_IMAGE_SIZE(n) its bytes.
  */
-#define BULGEFS_RECORD_SIZE(k)     (4u + 516u * (k))
+#define BULGEFS_FILE_BLOCKS(size)      (((size) + 511u) / 512u)
+#define BULGEFS_TABLE_BLOCKS(n)        (((n) + 127u) / 128u)
+#define BULGEFS_IMAGE_BLOCKS(content)  ((content) + 1u + ((content) + 127u) / 127u)
+#define BULGEFS_IMAGE_SIZE(n)          (BULGEFS_BLOCK_SIZE * (n))
+
+/*
+ * Size of a journal.  A change that saves k blocks adds BULGEFS_RECORD_SIZE(k)
+ * bytes.  A create saves 1 block; the others at most these: a write of so many
+ * bytes (20 for the longest), a delete in an image of n blocks, a directory of
+ * d blocks made.  So for a thousand settings that are created and written once,
+ * 200 bytes each, with undo for all of them:
+ *
+ *   BULGEFS_JOURNAL_SIZE(1000, 1) + BULGEFS_JOURNAL_SIZE(1000, BULGEFS_WRITE_BLOCKS(200))
+ */
+#define BULGEFS_RECORD_SIZE(k)         (4u + 516u * (k))
+#define BULGEFS_WRITE_BLOCKS(bytes)    (3u + ((bytes) + 1022u) / 512u + ((bytes) + 511u) / 512u)
+#define BULGEFS_DELETE_BLOCKS(n)       (2u + BULGEFS_TABLE_BLOCKS(n))
+#define BULGEFS_NEW_DIRECTORY_BLOCKS(d) (2u + 2u * (d))
+#define BULGEFS_JOURNAL_SIZE(changes, k) (BULGEFS_MIN_JOURNAL + (changes) * BULGEFS_RECORD_SIZE(k))
 
 /* The number that a call answers. */
 enum bulgefs_number {
@@ -91,8 +168,45 @@ enum bulgefs_number {
     BULGEFS_NOTHING_TO_UNDO = 16, /* undo: the journal holds no record                 */
     BULGEFS_TOO_DEEP        = 17, /* more than 8 directories in a path; just after 9   */
     BULGEFS_NOT_EMPTY       = 18, /* the directory to delete is not empty; after 12    */
-    BULGEFS_BAD_TABLE_SIZE  = 21  /* entry_count is not the number of blocks           */
+    BULGEFS_BAD_TABLE_SIZE  = 21  /* entry_count is not the number of blocks; after 9  */
 };
+
+/* The keyword for a function that stands in a header; C89 has none. */
+#if defined(__cplusplus) || (defined(__STDC_VERSION__) && __STDC_VERSION__ >= 199901L)
+#define BULGEFS_INLINE static inline
+#elif defined(__GNUC__)
+#define BULGEFS_INLINE static __inline__
+#else
+#define BULGEFS_INLINE static
+#endif
+
+/* Words for a number. */
+BULGEFS_INLINE const char *bulgefs_text(uint32_t number)
+{
+    switch (number) {
+    case BULGEFS_OK:              return "accepted";
+    case BULGEFS_BAD_LENGTH:      return "image has a bad length";
+    case BULGEFS_BAD_SIGNATURE:   return "image has no signature or another version";
+    case BULGEFS_BAD_GEOMETRY:    return "image has bad block numbers in its header";
+    case BULGEFS_BAD_SELF:        return "a directory is damaged";
+    case BULGEFS_BAD_SLOT:        return "a directory slot is damaged";
+    case BULGEFS_BAD_CHAINS:      return "a chain or the table is damaged";
+    case BULGEFS_BAD_COUNTS:      return "counts of used and free blocks are wrong";
+    case BULGEFS_BAD_JOURNAL:     return "journal is not well formed";
+    case BULGEFS_BAD_ARGUMENT:    return "bad path, type or amount";
+    case BULGEFS_NOT_FOUND:       return "not found";
+    case BULGEFS_NAME_TAKEN:      return "name is taken";
+    case BULGEFS_BAD_OFFSET:      return "offset is past the file's end";
+    case BULGEFS_DIRECTORY_FULL:  return "no free slot in the directory";
+    case BULGEFS_VOLUME_FULL:     return "not enough free blocks";
+    case BULGEFS_JOURNAL_FULL:    return "journal is full";
+    case BULGEFS_NOTHING_TO_UNDO: return "nothing to undo";
+    case BULGEFS_TOO_DEEP:        return "too many directories in the path";
+    case BULGEFS_NOT_EMPTY:       return "directory is not empty";
+    case BULGEFS_BAD_TABLE_SIZE:  return "not one number for each block";
+    default:                      return "no such number";
+    }
+}
 
 /* Sixteen bytes, handed over by value. */
 typedef struct { uint8_t bytes[16]; } bulgefs_uuid;
@@ -124,12 +238,18 @@ typedef struct { uint32_t number, record; } bulgefs_changed;
  *   A path of more is refused with BULGEFS_TOO_DEEP.  A path that leads through
  *   a file or a missing part, or to a directory where a file is wanted, or the
  *   reverse, is refused with BULGEFS_NOT_FOUND.
+ *
+ * Times
+ *   A time is any 64-bit number, stored as given; no call compares it or looks
+ *   at a clock.  BulgeFS means milliseconds since 1970 began (UTC): take these
+ *   if other programs read the image.
  */
 
 /*
  * Checks the whole image.  BULGEFS_OK means that the image is sound.
  * Refusals: 1 to 7.
  */
+BULGEFS_CHECKED
 uint32_t bulgefs_check(const uint8_t *image, size_t image_len);
 
 /*
@@ -141,6 +261,7 @@ uint32_t bulgefs_check(const uint8_t *image, size_t image_len);
  * to 64, volume_name_len other than 128); BULGEFS_VOLUME_FULL (header, table
  * and root do not fit into the image).
  */
+BULGEFS_CHECKED
 uint32_t bulgefs_format(uint8_t *image, size_t image_len,
                         uint32_t root_blocks, uint64_t time, bulgefs_uuid uuid,
                         const uint8_t *volume_name, size_t volume_name_len);
@@ -149,6 +270,7 @@ uint32_t bulgefs_format(uint8_t *image, size_t image_len,
  * Finds a file.
  * Refusals: 1 to 7, BULGEFS_BAD_ARGUMENT, BULGEFS_TOO_DEEP, BULGEFS_NOT_FOUND.
  */
+BULGEFS_CHECKED
 bulgefs_found bulgefs_lookup(const uint8_t *image, size_t image_len,
                              const uint8_t *path, size_t path_len);
 
@@ -159,6 +281,7 @@ bulgefs_found bulgefs_lookup(const uint8_t *image, size_t image_len,
  * Refusals: 1 to 7, BULGEFS_BAD_ARGUMENT, BULGEFS_TOO_DEEP, BULGEFS_NOT_FOUND,
  * BULGEFS_BAD_OFFSET.
  */
+BULGEFS_CHECKED
 bulgefs_filled bulgefs_read(const uint8_t *image, size_t image_len,
                             const uint8_t *path, size_t path_len,
                             uint64_t offset, uint8_t *buffer, size_t buffer_len);
@@ -171,6 +294,7 @@ bulgefs_filled bulgefs_read(const uint8_t *image, size_t image_len,
  * not sound, the path is bad, too deep or not found, or index is not below the
  * file's blocks; bulgefs_lookup tells which.
  */
+BULGEFS_CHECKED
 bulgefs_part bulgefs_look_in_place(const uint8_t *image, size_t image_len,
                                    const uint8_t *path, size_t path_len,
                                    uint64_t index);
@@ -179,6 +303,7 @@ bulgefs_part bulgefs_look_in_place(const uint8_t *image, size_t image_len,
  * Makes an empty journal of the whole buffer and writes every byte of it.
  * Refusals: BULGEFS_BAD_JOURNAL (length outside 5 to 67,108,864).
  */
+BULGEFS_CHECKED
 uint32_t bulgefs_journal_start(uint8_t *journal, size_t journal_len);
 
 /*
@@ -189,6 +314,7 @@ uint32_t bulgefs_journal_start(uint8_t *journal, size_t journal_len);
  * type outside 0x60 to 0x9F), BULGEFS_TOO_DEEP, BULGEFS_NOT_FOUND,
  * BULGEFS_NAME_TAKEN, BULGEFS_DIRECTORY_FULL, BULGEFS_JOURNAL_FULL.
  */
+BULGEFS_CHECKED
 bulgefs_created bulgefs_create(uint8_t *image, size_t image_len,
                                uint8_t *journal, size_t journal_len,
                                const uint8_t *path, size_t path_len,
@@ -197,12 +323,14 @@ bulgefs_created bulgefs_create(uint8_t *image, size_t image_len,
 
 /*
  * Puts data into a file at offset; the file grows if the data reaches past
- * its end, and never shrinks.  The modified time becomes time.  A write of no
- * bytes is a change too: it sets the time and adds a record.
+ * its end, and never becomes shorter (see "What it is not").  The modified
+ * time becomes time.  A write of no bytes is a change too: it sets the time
+ * and adds a record.
  * Refusals: 1 to 7, BULGEFS_BAD_JOURNAL, BULGEFS_BAD_ARGUMENT (also for
  * data_len above 4,096), BULGEFS_TOO_DEEP, BULGEFS_NOT_FOUND,
  * BULGEFS_BAD_OFFSET, BULGEFS_VOLUME_FULL, BULGEFS_JOURNAL_FULL.
  */
+BULGEFS_CHECKED
 bulgefs_changed bulgefs_write(uint8_t *image, size_t image_len,
                               uint8_t *journal, size_t journal_len,
                               const uint8_t *path, size_t path_len,
@@ -214,6 +342,7 @@ bulgefs_changed bulgefs_write(uint8_t *image, size_t image_len,
  * Refusals: 1 to 7, BULGEFS_BAD_JOURNAL, BULGEFS_BAD_ARGUMENT,
  * BULGEFS_TOO_DEEP, BULGEFS_NOT_FOUND, BULGEFS_JOURNAL_FULL.
  */
+BULGEFS_CHECKED
 bulgefs_changed bulgefs_delete(uint8_t *image, size_t image_len,
                                uint8_t *journal, size_t journal_len,
                                const uint8_t *path, size_t path_len);
@@ -229,6 +358,7 @@ bulgefs_changed bulgefs_delete(uint8_t *image, size_t image_len,
  * BULGEFS_NOT_FOUND, BULGEFS_NAME_TAKEN, BULGEFS_DIRECTORY_FULL,
  * BULGEFS_VOLUME_FULL, BULGEFS_JOURNAL_FULL.
  */
+BULGEFS_CHECKED
 bulgefs_created bulgefs_create_directory(uint8_t *image, size_t image_len,
                                          uint8_t *journal, size_t journal_len,
                                          const uint8_t *path, size_t path_len,
@@ -243,6 +373,7 @@ bulgefs_created bulgefs_create_directory(uint8_t *image, size_t image_len,
  * BULGEFS_TOO_DEEP, BULGEFS_NOT_FOUND, BULGEFS_NOT_EMPTY,
  * BULGEFS_JOURNAL_FULL.
  */
+BULGEFS_CHECKED
 bulgefs_changed bulgefs_delete_directory(uint8_t *image, size_t image_len,
                                          uint8_t *journal, size_t journal_len,
                                          const uint8_t *path, size_t path_len);
@@ -257,6 +388,7 @@ bulgefs_changed bulgefs_delete_directory(uint8_t *image, size_t image_len,
  * be sound afterwards.
  * Refusals: 1 to 7, BULGEFS_BAD_JOURNAL, BULGEFS_NOTHING_TO_UNDO.
  */
+BULGEFS_CHECKED
 bulgefs_changed bulgefs_undo(uint8_t *image, size_t image_len,
                              uint8_t *journal, size_t journal_len);
 
@@ -271,9 +403,11 @@ bulgefs_changed bulgefs_undo(uint8_t *image, size_t image_len,
  * image that is not sound, and a journal that is not its own any more.
  * Refusals: 1 to 7, BULGEFS_BAD_TABLE_SIZE (entry_count other than n).
  */
+BULGEFS_CHECKED
 uint32_t bulgefs_load_table(const uint8_t *image, size_t image_len,
                             uint32_t *entries, size_t entry_count);
 
+BULGEFS_CHECKED
 uint32_t bulgefs_store_table(uint8_t *image, size_t image_len,
                              const uint32_t *entries, size_t entry_count);
 

@@ -10,6 +10,8 @@
  */
 #define _DEFAULT_SOURCE
 
+/* Some calls are made for what they do to a buffer, whatever they answer. */
+#define BULGEFS_CHECKED
 #include "bulgefs.h"
 
 #include <stdbool.h>

@@ -1,4 +1,4 @@
-//! Links the library under test, libcapi.a, from the folder BULGEFS_LIB_DIR.
+//! Links the library under test, libbulgefs.a, from the folder BULGEFS_LIB_DIR.
 
 use std::env;
 use std::path::PathBuf;
@@ -7,15 +7,15 @@ fn main() {
     println!("cargo:rerun-if-env-changed=BULGEFS_LIB_DIR");
     let folder = match env::var("BULGEFS_LIB_DIR") {
         Ok(folder) => PathBuf::from(folder),
-        Err(_) => fail("set BULGEFS_LIB_DIR to the folder that holds libcapi.a"),
+        Err(_) => fail("set BULGEFS_LIB_DIR to the folder that holds libbulgefs.a"),
     };
-    let library = folder.join("libcapi.a");
+    let library = folder.join("libbulgefs.a");
     if !library.is_file() {
         fail(&format!("there is no {}", library.display()));
     }
     println!("cargo:rerun-if-changed={}", library.display());
     println!("cargo:rustc-link-search=native={}", folder.display());
-    println!("cargo:rustc-link-lib=static=capi");
+    println!("cargo:rustc-link-lib=static=bulgefs");
 }
 
 fn fail(message: &str) -> ! {

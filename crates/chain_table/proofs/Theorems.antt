@@ -1,4 +1,4 @@
--- What is promised of the table held as numbers (02, L8): load then store changes no byte; each question and change on the numbers gives what the
+-- What is promised of the table held as numbers (FORMAT.md, 12): load then store changes no byte; each question and change on the numbers gives what the
 -- byte form gives, over any n.
 use Prim.Native.Nat.{ℕ, _+_, _*_, _≤_, _<_}
 use mathlib.Core.List.{List}

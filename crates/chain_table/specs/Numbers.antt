@@ -1,4 +1,4 @@
--- The chain table held as numbers (02, L8: "a lent run of 32-bit numbers, one per block"). A question is asked of the values, a function from block
+-- The chain table held as numbers (FORMAT.md, 12: "a lent run of 32-bit numbers, one per block"). A question is asked of the values, a function from block
 -- numbers: of an image `next s`, of numbers `valueIn xs`. So the layout's definitions say what each question answers on either.
 use Prim.Native.Nat.{ℕ, zero, suc, _-_, _<_}
 use mathlib.Core.List.{List, map}

@@ -1,4 +1,4 @@
--- Runs in which the table is loaded and stored too (02, L8): "storing numbers that differ from the image's entries ends demand 3's run ..; any other
+-- Runs in which the table is loaded and stored too (FORMAT.md, 12): "storing numbers that differ from the image's entries ends demand 3's run ..; any other
 -- store counts there as a call that only looks". So the replay keeps its changes at a load and at a store, and answers by its own image.
 use Prim.Native.Nat.{ℕ, _≤_, _<_}
 use mathlib.Core.List.{List, [], _∷_}

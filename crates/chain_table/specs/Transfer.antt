@@ -1,4 +1,4 @@
--- Loading and storing the table (02, L8: "the chain table is loaded once into a lent run of 32-bit numbers, one per block, and stored back").
+-- Loading and storing the table (FORMAT.md, 12: "the chain table is loaded once into a lent run of 32-bit numbers, one per block, and stored back").
 use Prim.Native.Nat.{ℕ}
 use mathlib.Core.List.{List}
 use lib.ListN.{length}

@@ -1,4 +1,4 @@
--- The check (01, "The check, in stages"): "The first stage that is not met gives the number." The paper calls an image that meets all seven sound:
+-- The check (FORMAT.md, 4): "The first stage that is not met gives the number." The paper calls an image that meets all seven sound:
 -- check s ≡ 0.
 use Prim.Native.Nat.{ℕ, zero, suc, _+_, _-_, _*_}
 use mathlib.Core.List.{List, [], _∷_, _++_}
@@ -35,7 +35,7 @@ directoryOk s n b parent =
     eqb (typeOf s e) 1 && (eqb (selfOf s e) b && (eqb (parentOf s e) parent && (within 1 maxDirectory (blocksOf s e)
     && (chainOk (next s) n b (blocksOf s e) && distinct eqb (directory s b)))))
 
--- 02, L4: "A child's stage 4 wants self, name and d as in its entry, its parent's first block as parent": of the child of the directory at block
+-- "A child's stage 4 wants self, name and d as in its entry, its parent's first block as parent": of the child of the directory at block
 -- `parent` whose entry is at e
 unfoldable pub childOk : List ℕ → ℕ → ℕ → ℕ → Bool
 childOk s n parent e =
@@ -43,7 +43,7 @@ childOk s n parent e =
     directoryOk s n b parent && (eqb (blocksOf s (512 * b)) (blocksOf s e) && same (part s (512 * b + 48) 80) (part s (e + 48) 80))
 
 -- 5. "Slot 4d−1 has type 0xFF. Each slot from 1 to 4d−2 is free or a file. For a file: a good name, none equal to another; both attribute fields 0;
--- size in blocks = ceil(size/512); first block 0 exactly if the size is 0." 02, L4: "Of a directory entry stage 5 asks a good name, none equal, and
+-- size in blocks = ceil(size/512); first block 0 exactly if the size is 0." "Of a directory entry stage 5 asks a good name, none equal, and
 -- attribute fields and size in bytes 0."
 unfoldable pub attributesOk : List ℕ → ℕ → Bool
 attributesOk s e = eqb (be32 s (e + 32)) 0 && eqb (be32 s (e + 36)) 0
@@ -64,7 +64,7 @@ newName s ds k =
     let e = slotAt ds k in
     isFree (typeOf s e) || every (λ j. isFree (typeOf s (slotAt ds j)) || not (same (nameOf s (slotAt ds j)) (nameOf s e))) (interval 1 (k - 1))
 
--- 02, L4: "The check goes from a directory to its entries and from an entry back to a child directory: stage 4, the end slot, then each slot by
+-- "The check goes from a directory to its entries and from an entry back to a child directory: stage 4, the end slot, then each slot by
 -- stage 5 (of equal names the later fails), a child wholly before the next slot; the first fault met gives 4 or 5." A visit is handed the directory
 -- blocks met so far, and gives the fault, or all blocks met then.
 pub data Visit : Type 0 where

@@ -1,4 +1,4 @@
--- Directories and their entries (01, "Directory entry, 128 bytes"). A directory is the list ds of its blocks in chain order; an entry is named by
+-- Directories and their entries (FORMAT.md, 3.3). A directory is the list ds of its blocks in chain order; an entry is named by
 -- the offset e at which it begins.
 use Prim.Native.Nat.{ℕ, zero, suc, _+_, _-_, _*_, _/_, _%_}
 use mathlib.Core.List.{List, [], _∷_, _++_, map}
@@ -49,11 +49,11 @@ isFile type = within 0x60 0x9F type
 abbrev pub isUsed : ℕ → Bool
 isUsed type = not (isFree type)
 
--- 02, L4: "Child directories (types 0x20 to 0x5F) join"
+-- "Child directories (types 0x20 to 0x5F) join"
 abbrev pub isDirectory : ℕ → Bool
 isDirectory type = within 0x20 0x5F type
 
--- "A name is 1 to 80 non-zero bytes, zeros after it if any room is left" (02, L2); "The byte `/` is no longer part of a name" (02, L4)
+-- "A name is 1 to 80 non-zero bytes, zeros after it if any room is left"; "The byte `/` is no longer part of a name" (FORMAT.md, 3.4)
 abbrev pub slash : ℕ
 slash = 0x2F
 
@@ -93,7 +93,7 @@ freeSlot s ds = lowest (λ k. isFree (typeOf s (slotAt ds k))) (slots ds)
 unfoldable pub directory : List ℕ → ℕ → List ℕ
 directory s b = chain (next s) b (blocksOf s (512 * b))
 
--- 02, L4: "only when empty": every slot between the self entry and the end is free
+-- "only when empty": every slot between the self entry and the end is free
 unfoldable pub isEmpty : List ℕ → ℕ → Bool
 isEmpty s b = let ds = directory s b in every (λ k. isFree (typeOf s (slotAt ds k))) (slots ds)
 

@@ -1,7 +1,7 @@
--- The limits of document 01, each named once, as document 02 amends them.
+-- The limits (FORMAT.md, 2), each named once.
 use Prim.Native.Nat.{ℕ, _*_}
 
--- "An image is 512·n bytes, 3 ≤ n"; 02, L8: "Raise n to 65,536"
+-- "An image is 512·n bytes, 3 ≤ n"; "Raise n to 65,536"
 abbrev pub minBlocks : ℕ
 minBlocks = 3
 
@@ -20,11 +20,11 @@ maxDirectory = 64
 abbrev pub maxSlots : ℕ
 maxSlots = 4 * maxDirectory
 
--- 02, L4: "at most 8 levels below the root"
+-- "at most 8 levels below the root"
 abbrev pub maxLevels : ℕ
 maxLevels = 8
 
--- "A name is 1 to 80 non-zero bytes" (02, L2): the whole field
+-- "A name is 1 to 80 non-zero bytes" (FORMAT.md, 3.4): the whole field
 abbrev pub maxName : ℕ
 maxName = 80
 
@@ -32,7 +32,7 @@ maxName = 80
 abbrev pub maxData : ℕ
 maxData = 4096
 
--- the journal: "It is 5 to" (02, L8) "67,108,864 bytes"
+-- the journal: "It is 5 to", and "67,108,864 bytes"
 abbrev pub minJournal : ℕ
 minJournal = 5
 

@@ -1,4 +1,4 @@
--- The listing (01: "The lister reads up to 65,536 bytes from standard input (more gives 1) and writes one line, `refused`, a space and the number,
+-- The listing (FORMAT.md, 13: "The lister reads up to 65,536 bytes from standard input (more gives 1) and writes one line, `refused`, a space and the number,
 -- or the list").
 use Prim.Native.Nat.{ℕ, zero, suc, _+_, _/_, _%_}
 use mathlib.Core.List.{List, [], _∷_, _++_, map}

@@ -1,4 +1,4 @@
--- Directories made and removed, on a sound image (02, L4: "Two calls of their own create a directory and, only when empty, delete it as a file is
+-- Directories made and removed, on a sound image (FORMAT.md, 9.4 and 9.5: "Two calls of their own create a directory and, only when empty, delete it as a file is
 -- deleted, record and all").
 use Prim.Native.Nat.{ℕ, _/_}
 use mathlib.Core.List.{List, _∷_, _++_}

@@ -1,4 +1,4 @@
--- Write, on a sound image (01: "Write needs offset ≤ size and puts the data at offset; the file's other bytes stay"). The file is given by the
+-- Write, on a sound image (FORMAT.md, 9.2: "Write needs offset ≤ size and puts the data at offset; the file's other bytes stay"). The file is given by the
 -- offset e of its entry.
 use Prim.Native.Nat.{ℕ, zero, suc, _+_, _-_, _*_, _/_, _%_, max}
 use mathlib.Core.List.{List, [], _∷_, _++_}

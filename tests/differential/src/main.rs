@@ -1,4 +1,4 @@
-//! Holds the C entry points of libcapi.a against the reference.
+//! Holds the C entry points of libbulgefs.a against the reference.
 //!
 //! Usage: differential [--rounds N] [--suite NAME] [--round K] [--trace]
 //!                     [--lister PROGRAM] [--scripts PROGRAM]

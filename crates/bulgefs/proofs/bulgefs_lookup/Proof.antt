@@ -1,8 +1,8 @@
 use mathlib.Core.Path.{ap, sym, _∙_}
 use Rattle.layout.specs.Answers.{lookupAnswer}
 use borrow.Author.Needs.{needs}
-use Rattle.capi.proofs.bulgefs_lookup.Statement.{statement}
-use Rattle.capi.proofs.bulgefs_lookup.Tie as tie
+use Rattle.bulgefs.proofs.bulgefs_lookup.Statement.{statement}
+use Rattle.bulgefs.proofs.bulgefs_lookup.Tie as tie
 
 lookup-requires : tie.Need-lookup-requires
 lookup-requires c κs = search needs

@@ -1,6 +1,6 @@
 use borrow.Author.Needs.{needs}
-use Rattle.capi.proofs.with_slot.Statement.{statement}
-use Rattle.capi.proofs.with_slot.Tie as tie
+use Rattle.bulgefs.proofs.with_slot.Statement.{statement}
+use Rattle.bulgefs.proofs.with_slot.Tie as tie
 
 enum-known-c : tie.Need-enum-known-c
 enum-known-c c = search needs

@@ -1,8 +1,8 @@
 use mathlib.Core.Path.{refl}
 use Rattle.volume.specs.Change.{slotGiven}
 use borrow.Author.Needs.{needs}
-use Rattle.capi.proofs.bulgefs_delete.Statement.{statement}
-use Rattle.capi.proofs.bulgefs_delete.Tie as tie
+use Rattle.bulgefs.proofs.bulgefs_delete.Statement.{statement}
+use Rattle.bulgefs.proofs.bulgefs_delete.Tie as tie
 
 delete-requires : tie.Need-delete-requires
 delete-requires c κs = search needs

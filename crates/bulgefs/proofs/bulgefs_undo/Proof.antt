@@ -1,7 +1,7 @@
-use Rattle.capi.proofs.Bounds.{undo-case}
+use Rattle.bulgefs.proofs.Bounds.{undo-case}
 use borrow.Author.Needs.{needs}
-use Rattle.capi.proofs.bulgefs_undo.Statement.{statement}
-use Rattle.capi.proofs.bulgefs_undo.Tie as tie
+use Rattle.bulgefs.proofs.bulgefs_undo.Statement.{statement}
+use Rattle.bulgefs.proofs.bulgefs_undo.Tie as tie
 
 undo-requires : tie.Need-undo-requires
 undo-requires c κs = search needs

@@ -1,8 +1,8 @@
 use mathlib.Core.Path.{refl}
 use Rattle.volume.specs.Change.{slotGiven}
 use borrow.Author.Needs.{needs}
-use Rattle.capi.proofs.bulgefs_delete_directory.Statement.{statement}
-use Rattle.capi.proofs.bulgefs_delete_directory.Tie as tie
+use Rattle.bulgefs.proofs.bulgefs_delete_directory.Statement.{statement}
+use Rattle.bulgefs.proofs.bulgefs_delete_directory.Tie as tie
 
 delete-directory-requires : tie.Need-delete-directory-requires
 delete-directory-requires c κs = search needs

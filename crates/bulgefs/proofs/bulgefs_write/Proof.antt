@@ -1,8 +1,8 @@
 use mathlib.Core.Path.{refl}
 use Rattle.volume.specs.Change.{slotGiven}
 use borrow.Author.Needs.{needs}
-use Rattle.capi.proofs.bulgefs_write.Statement.{statement}
-use Rattle.capi.proofs.bulgefs_write.Tie as tie
+use Rattle.bulgefs.proofs.bulgefs_write.Statement.{statement}
+use Rattle.bulgefs.proofs.bulgefs_write.Tie as tie
 
 write-requires : tie.Need-write-requires
 write-requires c κs = search needs

@@ -1,8 +1,8 @@
 use native.Mathlib.Omega.{arith}
 use borrow.Author.Needs.{needs}
-use Rattle.capi.proofs.bulgefs_look_in_place.Statement.{statement}
+use Rattle.bulgefs.proofs.bulgefs_look_in_place.Statement.{statement}
 use Rattle.layout.proofs.Laws.Looks.{extent-small}
-use Rattle.capi.proofs.bulgefs_look_in_place.Tie as tie
+use Rattle.bulgefs.proofs.bulgefs_look_in_place.Tie as tie
 
 extent-in-place-requires : tie.Need-extent-in-place-requires
 extent-in-place-requires c κs = search needs

@@ -1,7 +1,7 @@
 use mathlib.Core.Path.{_∙_}
 use borrow.Author.Needs.{needs}
-use Rattle.capi.proofs.bulgefs_create.Statement.{statement}
-use Rattle.capi.proofs.bulgefs_create.Tie as tie
+use Rattle.bulgefs.proofs.bulgefs_create.Statement.{statement}
+use Rattle.bulgefs.proofs.bulgefs_create.Tie as tie
 
 create-requires : tie.Need-create-requires
 create-requires c κs = search needs

@@ -1,7 +1,7 @@
-use Rattle.capi.proofs.Bounds.{change-case, no-slot}
+use Rattle.bulgefs.proofs.Bounds.{change-case, no-slot}
 use borrow.Author.Needs.{needs}
-use Rattle.capi.proofs.slotless.Statement.{statement}
-use Rattle.capi.proofs.slotless.Tie as tie
+use Rattle.bulgefs.proofs.slotless.Statement.{statement}
+use Rattle.bulgefs.proofs.slotless.Tie as tie
 
 enum-known-c : tie.Need-enum-known-c
 enum-known-c c = search needs

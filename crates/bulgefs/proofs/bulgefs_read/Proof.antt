@@ -1,11 +1,11 @@
-use Rattle.capi.proofs.Bounds.{read-case}
+use Rattle.bulgefs.proofs.Bounds.{read-case}
 use mathlib.Core.Path.{ap}
 use native.Mathlib.Omega.{arith}
 use Rattle.layout.specs.Looks.{ReadAnswer}
 use borrow.Author.Needs.{needs}
-use Rattle.capi.proofs.bulgefs_read.Statement.{statement}
+use Rattle.bulgefs.proofs.bulgefs_read.Statement.{statement}
 use Rattle.layout.proofs.Laws.Looks.{count-small}
-use Rattle.capi.proofs.bulgefs_read.Tie as tie
+use Rattle.bulgefs.proofs.bulgefs_read.Tie as tie
 
 read-requires : tie.Need-read-requires
 read-requires c κs = search needs

@@ -1,7 +1,7 @@
 use mathlib.Core.Path.{_∙_}
 use borrow.Author.Needs.{needs}
-use Rattle.capi.proofs.bulgefs_create_directory.Statement.{statement}
-use Rattle.capi.proofs.bulgefs_create_directory.Tie as tie
+use Rattle.bulgefs.proofs.bulgefs_create_directory.Statement.{statement}
+use Rattle.bulgefs.proofs.bulgefs_create_directory.Tie as tie
 
 create-directory-requires : tie.Need-create-directory-requires
 create-directory-requires c κs = search needs

@@ -1,0 +1,28 @@
+/* What the parts of the benchmark share: the timed calls, the clock, and SQLite's side. */
+#ifndef BENCH_H
+#define BENCH_H
+
+#include <stddef.h>
+#include <stdint.h>
+
+enum { CHECK, LOOKUP, READ, WRITE, DELETE, CREATE_DIRECTORY, DELETE_DIRECTORY, UNDO, CALLS };
+
+/* Seconds since some time. */
+double now(void);
+
+/*
+ * The same work in SQLite, in memory, with statements prepared beforehand: a
+ * table of paths and contents.  check is its integrity check, lookup and read
+ * select by path, write and delete stand in a savepoint, undo rolls that back.
+ * It has no folders.  Without SQLite's development package sqlite_version says
+ * NULL, and the others do nothing.
+ */
+const char *sqlite_version(void);
+void sqlite_start(void);
+void sqlite_add(const uint8_t *path, size_t path_len, const uint8_t *data, size_t len);
+
+/* Makes every call once and adds the time of each; a write leaves the data as the content. */
+void sqlite_calls(const uint8_t *path, size_t path_len, const uint8_t *data, size_t len,
+                  double *sum);
+
+#endif

@@ -1,0 +1,84 @@
+/*
+ * Uses everything that the header has beside the calls, in the language that
+ * C89, C11 and C++17 have in common.
+ */
+#include "bulgefs.h"
+
+#include <stdio.h>
+#include <string.h>
+
+/* A header may be met twice. */
+#include "bulgefs.h"
+
+static int failed;
+
+static void expect(int right, const char *what)
+{
+    if (!right) {
+        printf("header: %s\n", what);
+        failed = 1;
+    }
+}
+
+/* Whether n blocks hold so many blocks of directories and files. */
+static int has_room(uint32_t n, uint32_t content)
+{
+    return n >= 1u + BULGEFS_TABLE_BLOCKS(n) + content;
+}
+
+static void sizes(void)
+{
+    uint32_t content;
+    for (content = 1; content <= 65023u; content++) {
+        uint32_t n = BULGEFS_IMAGE_BLOCKS(content);
+        if (!has_room(n, content) || has_room(n - 1u, content))
+            expect(0, "BULGEFS_IMAGE_BLOCKS is not the least number of blocks");
+    }
+    expect(BULGEFS_IMAGE_BLOCKS(65023u) == BULGEFS_MAX_BLOCKS, "the largest image");
+    expect(BULGEFS_IMAGE_BLOCKS(1u) == BULGEFS_MIN_BLOCKS, "the smallest image");
+    expect(BULGEFS_IMAGE_SIZE(3u) == 1536u, "BULGEFS_IMAGE_SIZE");
+    expect(BULGEFS_FILE_BLOCKS(0u) == 0 && BULGEFS_FILE_BLOCKS(513u) == 2u, "BULGEFS_FILE_BLOCKS");
+    expect(BULGEFS_MAX_FILES(1u) == 2u && BULGEFS_MAX_FILES(64u) == 254u, "BULGEFS_MAX_FILES");
+    expect(BULGEFS_MAX_PATH == 729u, "BULGEFS_MAX_PATH");
+}
+
+static void journals(void)
+{
+    expect(BULGEFS_RECORD_SIZE(1u) == 520u, "a create's record");
+    expect(BULGEFS_WRITE_BLOCKS(4096u) == 20u && BULGEFS_WRITE_BLOCKS(1u) == 5u,
+           "BULGEFS_WRITE_BLOCKS");
+    expect(BULGEFS_DELETE_BLOCKS(65536u) == 514u, "BULGEFS_DELETE_BLOCKS");
+    expect(BULGEFS_NEW_DIRECTORY_BLOCKS(64u) == 130u, "BULGEFS_NEW_DIRECTORY_BLOCKS");
+    expect(BULGEFS_JOURNAL_SIZE(2u, 1u) == 1045u, "BULGEFS_JOURNAL_SIZE");
+}
+
+static void texts(void)
+{
+    uint32_t number;
+    for (number = 0; number <= 30u; number++) {
+        int named = number <= 18u || number == 21u;
+        int known = strcmp(bulgefs_text(number), bulgefs_text(4294967295u)) != 0;
+        expect(named == known, "bulgefs_text does not know just the numbers that are given");
+    }
+    expect(strcmp(bulgefs_text(BULGEFS_OK), "accepted") == 0, "bulgefs_text");
+}
+
+static void answers(void)
+{
+    expect(sizeof(bulgefs_uuid) == 16 && sizeof(bulgefs_found) == 16, "uuid, found");
+    expect(sizeof(bulgefs_filled) == 8 && sizeof(bulgefs_part) == 8, "filled, part");
+    expect(sizeof(bulgefs_created) == 12 && sizeof(bulgefs_changed) == 8, "created, changed");
+    expect(BULGEFS_VERSION >= 400u && strlen(BULGEFS_VERSION_TEXT) >= 5, "version");
+    expect(BULGEFS_PLAIN_FILE >= BULGEFS_MIN_FILE_TYPE
+               && BULGEFS_PLAIN_DIRECTORY >= BULGEFS_MIN_DIRECTORY_TYPE,
+           "plain types");
+}
+
+int main(void)
+{
+    sizes();
+    journals();
+    texts();
+    answers();
+    return failed;
+}
