@@ -1,4 +1,4 @@
--- A table of chains over the entries' values v, one for each number k that is P: from f k, of l k blocks. Told by other functions; with one chain
+-- A table of chains over the entries' values v, one for each number k that is P: from f k, of l k blocks. Stated by other functions; with one chain
 -- changed, without its front block (delete), with a block at its end (write). In an image k is the offset of the entry that owns the chain.
 use Prim.Native.Nat.{ℕ, zero, suc, _-_, _*_, _≤_, _<_}
 use mathlib.Core.Logic.{_⊎_, inl, inr, ⊎-elim, _≢_}

@@ -60,15 +60,15 @@ module _ (s : List ℕ) (n parent e : ℕ) (m : List ℕ) where
   unfolding childEntry
   childEntry-below h = ltb-true _ _ (and-split (ltb (firstBlock s e) n) _ (sym h) .0)
 
-  pub record Told (m₁ : List ℕ) : Type 0 where
+  pub record ChildFacts (m₁ : List ℕ) : Type 0 where
     pub inside : firstBlock s e < n
     pub stage : walked true m₁ ≡ followDirectory s n (firstBlock s e) parent m
 
-  pub followChild-right : (m₁ : List ℕ) → walked true m₁ ≡ followChild s n parent e m → Told m₁
+  pub followChild-right : (m₁ : List ℕ) → walked true m₁ ≡ followChild s n parent e m → ChildFacts m₁
   unfolding followChild
   followChild-right m₁ h = go (childEntry s n e) refl
     where
-      go : (t : Bool) → childEntry s n e ≡ t → Told m₁
+      go : (t : Bool) → childEntry s n e ≡ t → ChildFacts m₁
       go true q = record { inside = childEntry-below (sym q); stage = rw q at h }
       go false q = absurd (false≢true (sym (ap (λ (w : Walk). w .ok) (rw q at h))))
 

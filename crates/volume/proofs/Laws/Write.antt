@@ -1,4 +1,4 @@
--- Write: blocks are taken, the data is put, the entry is set anew. The image after it is sound; the file's content, blocks and entry are those
+-- Write: blocks are taken, the data is put, the entry is set again. The image after it is sound; the file's content, blocks and entry are those
 -- that the write asks for, and the other files stay.
 use Prim.Native.Nat.{ℕ, zero, suc, _+_, _-_, _*_, _≤_, _<_, _/_, max}
 use mathlib.Core.Path.{_≡_, refl, sym, ap, _∙_, subst}
@@ -174,7 +174,7 @@ module _ (s : List ℕ) (S : Sound s) (d : ℕ × ℕ) (di : In d (dirs s)) (k :
     pub larger-blocks : chain (next larger) first c ≡ old ++ new
     larger-blocks = chain-start (next larger) c first (grow .0) first-is ∙ grow .2
 
-    -- the entry, set anew
+    -- the entry, set again
     fits : e + 128 ≤ length full
     fits = omega (arith, filled .len, entry-high s S e mine)
 
@@ -184,7 +184,7 @@ module _ (s : List ℕ) (S : Sound s) (d : ℕ × ℕ) (di : In d (dirs s)) (k :
     outside : (a w : ℕ) → (a + w ≤ e) ⊎ (e + 128 ≤ a) → Same full done a w
     outside a w h = set-file-same full e first size c time fits a w (⊎-elim (λ x. inl (omega arith)) (λ x. inr (omega arith)) h)
 
-    -- the slot before it is set anew
+    -- the slot before it is set again
     slot-kept : Same s full e 128
     slot-kept = let h = mine .aligned in same-inner s full (512 * (e / 512)) 512 e 128 (filled .kept (e / 512) (mine .within-tree)) (omega arith) (omega arith)
 
@@ -289,7 +289,7 @@ module _ (s : List ℕ) (S : Sound s) (d : ℕ × ℕ) (di : In d (dirs s)) (k :
           put-outside n (S .least) q (old ++ new) larger offset bytes larger-length below (λ i. ⊎-elim not-old not-new (in-append q old new i))
           ∙ larger-block q (held-above s S j h x g) not-new
 
-    -- the table's entries and the data of every other entry's blocks, when the entry is set anew
+    -- the table's entries and the data of every other entry's blocks, when the entry is set again
     pub written-next : (a : ℕ) → Entry s a → a ≢ e → (x : ℕ) → x < heldAt s a → next (writeAt s e offset bytes time) (nth (next s) x (firstBlock s a)) ≡ next s (nth (next s) x (firstBlock s a))
     written-next a A ne x g =
         rw write-is (before-next full done n (outside 0 (512 * rootBlock n) (inl (omega (arith, entry-low s S e mine)))) (nth (next s) x (firstBlock s a)) (omega (arith, held-below s S a A x g)) ∙ next-kept a A ne x g)

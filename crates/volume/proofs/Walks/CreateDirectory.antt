@@ -1,4 +1,4 @@
--- What the code of making a directory weighs and writes.
+-- What the code of making a directory tests and writes.
 use Prim.Native.Nat.{ℕ, _+_, _-_, _*_, _/_, _%_, _≤_, _<_}
 use mathlib.Core.Path.{_≡_, refl, sym, ap, _∙_}
 use mathlib.Core.Bool.{true, false, _&&_, and-false}

@@ -1,4 +1,4 @@
--- What the code of removing a directory weighs: the directory of an accepted path, with its chain.
+-- What the code of removing a directory tests: the directory of an accepted path, with its chain.
 use Prim.Native.Nat.{ℕ, suc, _-_, _*_}
 use mathlib.Core.Path.{_≡_, sym, subst}
 use mathlib.Core.Bool.{true, false, not}

@@ -1,4 +1,4 @@
--- A write, step by step: the blocks taken, the data put and the entry set anew give writeAt.
+-- A write, step by step: the blocks taken, the data put and the entry set again give writeAt.
 use Prim.Native.Nat.{ℕ, _+_, _*_, _≤_, _<_}
 use mathlib.Core.Path.{_≡_, sym, ap, _∙_}
 use mathlib.Core.Bool.{true}
