@@ -381,28 +381,42 @@ bulgefs_changed ENTRY(write)(uint8_t *image, size_t image_len,
     return (bulgefs_changed){BULGEFS_OK, record};
 }
 
+/* Names what freeing a chain changes: its blocks, their table blocks, and block 0. */
+static void name_freed(const uint8_t *image, uint32_t first, uint32_t count, block_set *named)
+{
+    if (count > 0)
+        add(named, 0);
+    for (uint32_t i = 0, b = first; i < count; i++, b = next_of(image, b)) {
+        add(named, b);
+        add(named, table_block(b));
+    }
+}
+
+/* Frees a chain and zeroes its blocks. */
+static void free_chain(uint8_t *image, uint32_t first, uint32_t count)
+{
+    for (uint32_t i = 0, b = first; i < count; i++) {
+        uint32_t next = next_of(image, b);
+        set_next(image, b, 0);
+        memset(image + (size_t)b * BLOCK, 0, BLOCK);
+        b = next;
+    }
+    count_blocks(image, 0u - count);
+}
+
 /* Removes a file or an empty directory.  Weighs 15. */
 static bulgefs_changed release(uint8_t *image, const volume *v, uint8_t *journal,
                                size_t journal_len, const target *to)
 {
     uint8_t *entry = image + slot_at(&to->home, to->slot);
-    uint32_t blocks = get32(entry + BLOCKS);
+    uint32_t first = get32(entry + FIRST), blocks = get32(entry + BLOCKS);
     block_set named = {{0}};
     add(&named, block_of(to));
-    if (blocks > 0)
-        add(&named, 0);
-    for (uint32_t i = 0, b = get32(entry + FIRST); i < blocks; i++, b = next_of(image, b))
-        add(&named, table_block(b));
+    name_freed(image, first, blocks, &named);
     uint32_t record = save(image, v->n, &named, journal, journal_len);
     if (record == 0)
         return (bulgefs_changed){BULGEFS_JOURNAL_FULL, 0};
-    uint32_t b = get32(entry + FIRST);
-    for (uint32_t i = 0; i < blocks; i++) {
-        uint32_t next = next_of(image, b);
-        set_next(image, b, 0);
-        b = next;
-    }
-    count_blocks(image, 0u - blocks);
+    free_chain(image, first, blocks);
     memset(entry, 0, SLOT);
     return (bulgefs_changed){BULGEFS_OK, record};
 }

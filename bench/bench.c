@@ -65,15 +65,18 @@ static const side sides[SIDES] = {
 };
 
 static const char *const call_names[CALLS] = {"check", "lookup", "read", "write", "delete",
-                                              "create directory", "delete directory", "undo"};
+                                              "delete 64 blocks", "create directory",
+                                              "delete directory", "undo"};
 
 static const uint32_t block_counts[] = {16, 64, 256, 1024, 4096, 16384, 65536};
 /* The last lie in folders, a hundred in each; all others in the root. */
 static const uint32_t file_counts[] = {10, 100, 250, 900};
 enum { IN_FOLDER = 100, FOLDER_BLOCKS = 26 };
 enum { NS = 7, FILES = 4, MAX_SAMPLES = 9, JOURNAL = 65536, DATA = 1000, PATH_SIZE = 160 };
-/* The last file, of which the calls are made; a write makes it longer. */
+/* The last file, of which the calls are made, has three blocks; a write makes it longer. */
 enum { LAST_SIZE = DATA + 500, LAST_WRITTEN = 2 * DATA };
+/* A file of many blocks, whose delete saves and zeroes them all; only where there is room. */
+enum { LARGE_BLOCKS = 64 };
 
 static int samples = MAX_SAMPLES;
 static double sample_seconds = 3e-3;
@@ -84,6 +87,9 @@ static size_t image_len;
 
 /* Bytes of header, table and directories: the first of the image, as no directory came later. */
 static size_t check_len;
+
+/* Whether the volume has the file of many blocks. */
+static int has_large;
 
 /* Seconds per call; 0 where the files do not fit, or there is no such call. */
 static double measured[CALLS][FILES][NS][COLUMNS];
@@ -134,21 +140,41 @@ static void make_folders(uint32_t count)
     }
 }
 
+static const uint8_t large[] = "/a large file";
+enum { LARGE = sizeof large - 1 };
+
+/* The file of many blocks, written piece by piece. */
+static void make_large(void)
+{
+    require(bulgefs_journal_start(journal, JOURNAL), "start");
+    require(bulgefs_create(image, image_len, journal, JOURNAL, large, LARGE, 0x60, 0, 0, 0, 0,
+                           1).number,
+            "create");
+    for (uint32_t at = 0; at < LARGE_BLOCKS * 512; at += sizeof buffer) {
+        require(bulgefs_journal_start(journal, JOURNAL), "start");
+        require(bulgefs_write(image, image_len, journal, JOURNAL, large, LARGE, at, buffer,
+                              sizeof buffer, 2).number,
+                "write");
+    }
+}
+
 /*
  * A volume of n blocks and so many files.  Every second file has a block, as
  * long as some stay free; the last file has a few.  One slot of the root stays
- * free.  Gives 0 if they do not fit.
+ * free, and another is for the file of many blocks.  Gives 0 if they do not fit.
  */
 static int make_volume(uint32_t n, uint32_t files)
 {
     static const uint8_t volume_name[128] = "bench";
     bulgefs_uuid uuid = {{0}};
     uint32_t folders = folder_count(files);
-    uint32_t root = ((folders > 0 ? folders : files) + 1 + 2 + 3) / 4;
+    uint32_t root = ((folders > 0 ? folders : files) + 2 + 2 + 3) / 4;
     uint32_t used = (n + 127) / 128 + 1 + root + folders * FOLDER_BLOCKS;
     if (used + 8 > n)
         return 0;
     uint32_t spare = n - used - 8;
+    has_large = spare >= LARGE_BLOCKS + files;
+    spare -= has_large ? LARGE_BLOCKS : 0;
     image_len = (size_t)n * 512;
     check_len = (size_t)used * 512;
     require(bulgefs_format(image, image_len, root, 1, uuid, volume_name, 128), "format");
@@ -168,12 +194,23 @@ static int make_volume(uint32_t n, uint32_t files)
                 "write");
         sqlite_add(path, len, buffer, size);
     }
+    if (has_large)
+        make_large();
     require(bulgefs_journal_start(journal, JOURNAL), "start");
     return 1;
 }
 
 static const uint8_t new_folder[] = "/one more venue";
 enum { NEW_FOLDER = sizeof new_folder - 1, NEW_BLOCKS = 2 };
+
+/* Deletes the file of many blocks and takes it back. */
+static void delete_large(const side *s, double *sum)
+{
+    double begin = now();
+    uint32_t number = s->delete(image, image_len, journal, JOURNAL, large, LARGE).number;
+    sum[DELETE_LARGE] += now() - begin;
+    require(number | s->undo(image, image_len, journal, JOURNAL).number, "a timed call");
+}
 
 /* Makes every call once and adds the time of each. */
 static void make_calls(const side *s, const uint8_t *path, size_t len, double *sum)
@@ -211,6 +248,8 @@ static void make_calls(const side *s, const uint8_t *path, size_t len, double *s
     sum[DELETE] += t[6] - t[5];
     sum[CREATE_DIRECTORY] += t[8] - t[7];
     sum[DELETE_DIRECTORY] += t[9] - t[8];
+    if (has_large)
+        delete_large(s, sum);
 }
 
 /* Ends the program if the two sides differ in an answer, the image or the journal. */
@@ -219,7 +258,7 @@ static void compare_sides(const uint8_t *path, size_t len)
     static uint8_t images[SIDES][sizeof image], journals[SIDES][JOURNAL], buffers[SIDES][4096];
     bulgefs_found found[SIDES];
     bulgefs_created created[SIDES];
-    bulgefs_changed changed[SIDES][5];
+    bulgefs_changed changed[SIDES][6];
     for (int s = 0; s < SIDES; s++) {
         uint8_t *i = images[s], *j = journals[s];
         memcpy(i, image, image_len);
@@ -235,6 +274,7 @@ static void compare_sides(const uint8_t *path, size_t len)
                                                0x20, 1, 2, 3, 4, NEW_BLOCKS, 5);
         changed[s][4] = sides[s].delete_directory(i, image_len, j, JOURNAL, new_folder,
                                                   NEW_FOLDER);
+        changed[s][5] = sides[s].delete(i, image_len, j, JOURNAL, large, LARGE);
     }
     if (memcmp(&found[OURS], &found[BASELINE], sizeof found[OURS]) != 0
         || memcmp(&created[OURS], &created[BASELINE], sizeof created[OURS]) != 0

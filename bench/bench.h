@@ -5,7 +5,8 @@
 #include <stddef.h>
 #include <stdint.h>
 
-enum { CHECK, LOOKUP, READ, WRITE, DELETE, CREATE_DIRECTORY, DELETE_DIRECTORY, UNDO, CALLS };
+enum { CHECK, LOOKUP, READ, WRITE, DELETE, DELETE_LARGE, CREATE_DIRECTORY, DELETE_DIRECTORY, UNDO,
+       CALLS };
 
 /* Seconds since some time. */
 double now(void);
@@ -13,9 +14,10 @@ double now(void);
 /*
  * The same work in SQLite, in memory, with statements prepared beforehand: a
  * table of paths and contents.  check is its integrity check, lookup and read
- * select by path, write and delete stand in a savepoint, undo rolls that back.
- * It has no folders.  Without SQLite's development package sqlite_version says
- * NULL, and the others do nothing.
+ * select by path, write and delete stand in a savepoint, undo rolls that back;
+ * deleted content is zeroed (secure_delete).  It has no folders.  Without
+ * SQLite's development package sqlite_version says NULL, and the others do
+ * nothing.
  */
 const char *sqlite_version(void);
 void sqlite_start(void);

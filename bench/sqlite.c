@@ -45,6 +45,7 @@ void sqlite_start(void)
         sqlite3_finalize(statements[i]);
     sqlite3_close(db);
     require(sqlite3_open(":memory:", &db) == SQLITE_OK, "open");
+    require(sqlite3_exec(db, "PRAGMA secure_delete = ON", NULL, NULL, NULL) == SQLITE_OK, "pragma");
     require(sqlite3_exec(db,
                          "CREATE TABLE files (path TEXT PRIMARY KEY, content BLOB, time INTEGER)"
                          " WITHOUT ROWID",

@@ -200,7 +200,25 @@ static void show_text(const char *path)
            f.size > SHOWN ? "..." : "");
 }
 
+/* Whether a text stands anywhere in the image, as an editor would find it. */
+static void look_for(const char *text)
+{
+    size_t len = strlen(text), at = 0;
+    while (at + len <= sizeof image && memcmp(image + at, text, len) != 0)
+        at++;
+    printf("  \"%s\" %s in the image\n", text, at + len <= sizeof image ? "stands" : "is nowhere");
+}
+
 /* ---- install, change, undo ---- */
+
+/* What is deleted by the changes. */
+static const char *const deleted[] = {"baud=115200", "98 99 100"};
+
+static void look_for_deleted(void)
+{
+    for (size_t i = 0; i < sizeof deleted / sizeof deleted[0]; i++)
+        look_for(deleted[i]);
+}
 
 /* A text that is longer than a block. */
 static const char *scene_list(void)
@@ -231,6 +249,7 @@ static void install(void)
     }
     replace(scenes, scene_list(), 1003);
     show_text(scenes);
+    look_for_deleted();
 }
 
 static void change(void)
@@ -246,6 +265,7 @@ static void change(void)
     add_box(4, 2005);
     put(inventory, 6, "3", 1, 2006);
     show_text(scenes);
+    look_for_deleted();
 }
 
 /* Takes changes back, the last one first, until so many stand. */
@@ -260,6 +280,7 @@ static void take_back(size_t standing)
                made[made_count].path, (unsigned)u.record);
     }
     show_text(scenes);
+    look_for_deleted();
 }
 
 /*

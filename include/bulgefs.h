@@ -45,6 +45,9 @@
  *   - A journal does not grow.  When it is full, changes are refused with
  *     BULGEFS_JOURNAL_FULL.  Then undo, or give up undoing what stands: save
  *     the image and call bulgefs_journal_start.  See the sizes below.
+ *   - A journal holds what was deleted.  A delete zeroes the blocks that it
+ *     frees, and the image has nothing of them any more; the journal's record
+ *     has their bytes, for undo, until bulgefs_journal_start zeroes it.
  *
  * Cost
  *   Every call but format and journal start checks the image first: it reads
@@ -73,8 +76,8 @@ extern "C" {
  * The version of this header, 10000 * major + 100 * minor + patch.  The minor
  * number rises with every call, number or limit that comes or changes.
  */
-#define BULGEFS_VERSION            400u
-#define BULGEFS_VERSION_TEXT       "0.4.0"
+#define BULGEFS_VERSION            500u
+#define BULGEFS_VERSION_TEXT       "0.5.0"
 
 /*
  * The compiler says if an answer is not used.  Define BULGEFS_CHECKED as
@@ -131,15 +134,19 @@ extern "C" {
 /*
  * Size of a journal.  A change that saves k blocks adds BULGEFS_RECORD_SIZE(k)
  * bytes.  A create saves 1 block; the others at most these: a write of so many
- * bytes (20 for the longest), a delete in an image of n blocks, a directory of
- * d blocks made.  So for a thousand settings that are created and written once,
- * 200 bytes each, with undo for all of them:
+ * bytes (20 for the longest), a delete of a file or directory of so many blocks
+ * in an image of n, all of which are saved, a directory of d blocks made.  So
+ * for a thousand settings that are created and written once, 200 bytes each,
+ * with undo for all of them:
  *
  *   BULGEFS_JOURNAL_SIZE(1000, 1) + BULGEFS_JOURNAL_SIZE(1000, BULGEFS_WRITE_BLOCKS(200))
+ *
+ * BULGEFS_JOURNAL_SIZE(1, n) has room for any one change of an image of n blocks.
  */
 #define BULGEFS_RECORD_SIZE(k)         (4u + 516u * (k))
 #define BULGEFS_WRITE_BLOCKS(bytes)    (3u + ((bytes) + 1022u) / 512u + ((bytes) + 511u) / 512u)
-#define BULGEFS_DELETE_BLOCKS(n)       (2u + BULGEFS_TABLE_BLOCKS(n))
+#define BULGEFS_DELETE_BLOCKS(blocks, n) (2u + (blocks) \
+    + ((blocks) < BULGEFS_TABLE_BLOCKS(n) ? (blocks) : BULGEFS_TABLE_BLOCKS(n)))
 #define BULGEFS_NEW_DIRECTORY_BLOCKS(d) (2u + 2u * (d))
 #define BULGEFS_JOURNAL_SIZE(changes, k) (BULGEFS_MIN_JOURNAL + (changes) * BULGEFS_RECORD_SIZE(k))
 
@@ -338,7 +345,9 @@ bulgefs_changed bulgefs_write(uint8_t *image, size_t image_len,
                               uint64_t time);
 
 /*
- * Deletes a file and frees its blocks.  The freed blocks keep their bytes.
+ * Deletes a file and frees its blocks.  All bytes of a freed block become 0;
+ * blocks that were free before keep theirs.  The record holds the freed blocks,
+ * so it is larger than the file.
  * Refusals: 1 to 7, BULGEFS_BAD_JOURNAL, BULGEFS_BAD_ARGUMENT,
  * BULGEFS_TOO_DEEP, BULGEFS_NOT_FOUND, BULGEFS_JOURNAL_FULL.
  */
@@ -368,7 +377,7 @@ bulgefs_created bulgefs_create_directory(uint8_t *image, size_t image_len,
 
 /*
  * Deletes a directory that holds no file and no directory, and frees its
- * blocks, which keep their bytes.
+ * blocks, whose bytes become 0 as by bulgefs_delete.
  * Refusals: 1 to 7, BULGEFS_BAD_JOURNAL, BULGEFS_BAD_ARGUMENT,
  * BULGEFS_TOO_DEEP, BULGEFS_NOT_FOUND, BULGEFS_NOT_EMPTY,
  * BULGEFS_JOURNAL_FULL.

@@ -202,6 +202,7 @@ static void call_file_changes(const material *m, const buffer *path)
     journal = lend(m->journal, m->journal_len);
     bulgefs_changed d = bulgefs_delete(image.at, image.len, journal.at, journal.len, path->at,
                                        path->len);
+    expect(d.number != 0 || bulgefs_check(image.at, image.len) == 0, "delete: sound");
     settle(&image, &journal, d.number, d.record, common, "delete");
 
     expect(unchanged(&data), "changes: data stays");
@@ -547,6 +548,45 @@ static void full_name(void)
     expect(memcmp(image, before, sizeof image) == 0, "full: as it was");
 }
 
+/* Whether so many bytes stand anywhere in others. */
+static bool holds(const uint8_t *in, size_t in_len, const uint8_t *part, size_t len)
+{
+    for (size_t at = 0; at + len <= in_len; at++)
+        if (memcmp(in + at, part, len) == 0)
+            return true;
+    return false;
+}
+
+/*
+ * A file of three blocks, deleted: no sixteen bytes of it are left in the image,
+ * a block that was free before keeps its bytes, and undo brings all back.
+ */
+static void freed_blocks(void)
+{
+    static uint8_t image[16 * 512], before[16 * 512], journal[16384], data[1300];
+    static const uint8_t path[] = "/scenes";
+    bulgefs_uuid uuid = {{0}};
+    bool left = false;
+    fill_random(data, sizeof data);
+    expect(bulgefs_format(image, sizeof image, 2, 1, uuid, volume_name, 128) == 0, "freed: format");
+    expect(bulgefs_journal_start(journal, sizeof journal) == 0, "freed: start");
+    fill_random(image + 15 * 512, 512);
+    expect(bulgefs_create(image, sizeof image, journal, sizeof journal, path, 7, 0x60, 0, 0, 0, 0,
+                          2).number == 0, "freed: create");
+    expect(bulgefs_write(image, sizeof image, journal, sizeof journal, path, 7, 0, data,
+                         sizeof data, 3).number == 0, "freed: write");
+    memcpy(before, image, sizeof image);
+    bulgefs_changed d = bulgefs_delete(image, sizeof image, journal, sizeof journal, path, 7);
+    expect(d.number == 0 && d.record == BULGEFS_RECORD_SIZE(6), "freed: delete");
+    for (size_t at = 0; at + 16 <= sizeof data; at++)
+        left = left || holds(image, sizeof image, data + at, 16);
+    expect(!left, "freed: nothing is left");
+    expect(memcmp(image + 15 * 512, before + 15 * 512, 512) == 0, "freed: a block free before");
+    expect(bulgefs_undo(image, sizeof image, journal, sizeof journal).record == d.record,
+           "freed: undo");
+    expect(memcmp(image, before, sizeof image) == 0, "freed: as it was");
+}
+
 /* The largest image and the longest journal. */
 static void largest(void)
 {
@@ -573,6 +613,7 @@ int main(void)
     cut_journals();
     damaged_volumes();
     full_name();
+    freed_blocks();
     largest();
     printf("%lu passed, %lu failed\n", passed, failed);
     return failed == 0 ? 0 : 1;

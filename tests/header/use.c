@@ -47,7 +47,10 @@ static void journals(void)
     expect(BULGEFS_RECORD_SIZE(1u) == 520u, "a create's record");
     expect(BULGEFS_WRITE_BLOCKS(4096u) == 20u && BULGEFS_WRITE_BLOCKS(1u) == 5u,
            "BULGEFS_WRITE_BLOCKS");
-    expect(BULGEFS_DELETE_BLOCKS(65536u) == 514u, "BULGEFS_DELETE_BLOCKS");
+    /* A file of one block, and the largest file: table blocks 5 to 512 have its entries. */
+    expect(BULGEFS_DELETE_BLOCKS(1u, 16u) == 4u, "BULGEFS_DELETE_BLOCKS");
+    expect(BULGEFS_DELETE_BLOCKS(65022u, 65536u) >= 65022u + 508u + 2u, "the largest delete");
+    expect(BULGEFS_JOURNAL_SIZE(1u, 65536u) < BULGEFS_MAX_JOURNAL, "a journal for any change");
     expect(BULGEFS_NEW_DIRECTORY_BLOCKS(64u) == 130u, "BULGEFS_NEW_DIRECTORY_BLOCKS");
     expect(BULGEFS_JOURNAL_SIZE(2u, 1u) == 1045u, "BULGEFS_JOURNAL_SIZE");
 }
@@ -68,7 +71,7 @@ static void answers(void)
     expect(sizeof(bulgefs_uuid) == 16 && sizeof(bulgefs_found) == 16, "uuid, found");
     expect(sizeof(bulgefs_filled) == 8 && sizeof(bulgefs_part) == 8, "filled, part");
     expect(sizeof(bulgefs_created) == 12 && sizeof(bulgefs_changed) == 8, "created, changed");
-    expect(BULGEFS_VERSION >= 400u && strlen(BULGEFS_VERSION_TEXT) >= 5, "version");
+    expect(BULGEFS_VERSION >= 500u && strlen(BULGEFS_VERSION_TEXT) >= 5, "version");
     expect(BULGEFS_PLAIN_FILE >= BULGEFS_MIN_FILE_TYPE
                && BULGEFS_PLAIN_DIRECTORY >= BULGEFS_MIN_DIRECTORY_TYPE,
            "plain types");

@@ -90,7 +90,7 @@ module _ {s xs : List ℕ} {n : ℕ} (held : Held s xs n) (whole : length s ≡ 
   link-of-numbers = held-link held (omega arith)
 
   pub take-of-numbers : (last b : ℕ) → last < n → tableBlocks n < b → b < n → b < 0x100000000 → Held (taken s n last b) (takenIn xs last b) n
-  take-of-numbers last b = held-take last b held whole low
+  take-of-numbers last b l t h = held-take b held whole low t h last l
 
-  pub free-of-numbers : (b : ℕ) → b < n → Held (freed s n b) (freedIn xs b) n
-  free-of-numbers b = held-free b held (omega arith)
+  pub free-of-numbers : (b : ℕ) → tableBlocks n < b → b < n → Held (freed s n b) (freedIn xs b) n
+  free-of-numbers b = held-free b held whole low

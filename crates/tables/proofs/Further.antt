@@ -5,7 +5,7 @@ use mathlib.Core.List.{List, [], _∷_, _++_, map}
 use mathlib.Core.Bool.{Bool, true, false}
 use lib.ListN.{replicate, take, drop}
 use Rattle.layout.specs.Lists.{interval}
-use Rattle.layout.specs.Bytes.{be32, bytes4, splice}
+use Rattle.layout.specs.Bytes.{be32, bytes4, splice, block}
 use Rattle.layout.specs.Table.{next, setNext}
 use Rattle.layout.specs.Check.{check}
 use Rattle.layout.specs.Listing.{listing}
@@ -22,7 +22,7 @@ bit false = 0
 
 -- n = 8, d = 2: root blocks 2 and 3, file A of 513 bytes in slot 1 (at 1,152) and blocks 4 and 5, blocks 6 and 7 free; record of the write at 525
 p₁ : State
-p₁ = step (record { image = formattedAs 8 2; journal = started 8000 }) (change (createFile 65))
+p₁ = step (record { image = formattedAs 8 2; journal = started 8800 }) (change (createFile 65))
 
 p₂ : State
 p₂ = step p₁ (change (writeA 0 513))
@@ -127,10 +127,11 @@ changes =
     let again = step (step gone (change (createFile 66))) (change (write (inRoot 66) 0 (pattern 600) 9)) in
     let full = after (after (after (after (after s (createFile 66)) (createFile 67)) (createFile 68)) (createFile 69)) (createFile 70) in
     let short : State = record { image = s; journal = started 525 } in
-    -- delete, and undo of it: image and journal as before
-    (numbers (answer p₂ (change (delete fileA))), 0 ∷ 0 ∷ 1552 ∷ [])
+    -- delete: a record of blocks 0, 1, 2 and of the freed ones, which are zero then; and undo of it: image and journal as before
+    (numbers (answer p₂ (change (delete fileA))) ++ ascending 8 (named s (delete fileA)), 0 ∷ 0 ∷ 2584 ∷ 0 ∷ 1 ∷ 2 ∷ 4 ∷ 5 ∷ [])
+    ∷ (block (gone .image) 4 ++ block (gone .image) 5, replicate 1024 0)
     ∷ (map (next (gone .image)) (interval 0 6) ++ (be32 (gone .image) 20 ∷ be32 (gone .image) 24 ∷ check (gone .image) ∷ []), 1 ∷ 1 ∷ 3 ∷ 1 ∷ 0 ∷ 0 ∷ 4 ∷ 4 ∷ 0 ∷ [])
-    ∷ (numbers (answer gone undo), 0 ∷ 1552 ∷ [])
+    ∷ (numbers (answer gone undo), 0 ∷ 2584 ∷ [])
     ∷ (back .image, s)
     ∷ (back .journal, p₂ .journal)
     -- a freed block is taken again, lowest first
@@ -163,7 +164,7 @@ pub forms : List (List ℕ × List ℕ)
 forms =
     let j = p₂ .journal in (
       map (λ x. bit (wellFormed x 8))
-          (j ∷ splice j 0 (2 ∷ []) ∷ splice j 1 (bytes4 4) ∷ splice j 1 (bytes4 8001) ∷ splice (started 20) 1 (bytes4 9 ++ bytes4 4) ∷ splice j 1 (bytes4 3110) ∷ splice j 1045 (bytes4 0) ∷ splice j 2593 (bytes4 8) ∷ take 4 j ∷ []),
+          (j ∷ splice j 0 (2 ∷ []) ∷ splice j 1 (bytes4 4) ∷ splice j 1 (bytes4 8801) ∷ splice (started 20) 1 (bytes4 9 ++ bytes4 4) ∷ splice j 1 (bytes4 3110) ∷ splice j 1045 (bytes4 0) ∷ splice j 2593 (bytes4 8) ∷ take 4 j ∷ []),
       1 ∷ 0 ∷ 0 ∷ 0 ∷ 0 ∷ 0 ∷ 0 ∷ 0 ∷ 0 ∷ [],
     )
     -- below n of the image that is lent with it; past the used part nothing is looked at

@@ -4,7 +4,7 @@ use Rattle.layout.specs.Geometry.{inVolume}
 use Rattle.layout.specs.Table.{next, setNext, chain, endsAfter, chainOk, freeBlocks, occupied}
 use Rattle.layout.specs.Directory.{slotAt, goodName, nameOf, nameOk, files, slotOf, freeSlot, directory, isEmpty, children, below, dirs, fileBlocks, content}
 use Rattle.layout.specs.Check.{stage1, stage2, stage3, directoryOk, childOk, attributesOk, fileOk, directoryEntryOk, slotOk, newName, visitSlots, visitEntries, visitChild, visitRoot, fileChains, chains, allChains, owned, tableOk, stage6, stage7, check}
-use Rattle.volume.specs.Entries.{entryBytes, directoryMade, setOccupied, linked, taken, grown, freed, released, entriesNamed}
+use Rattle.volume.specs.Entries.{entryBytes, directoryMade, setOccupied, linked, taken, grown, freed, released, entriesNamed, blocksNamed}
 use Rattle.volume.specs.Format.{formatRefusal, firstEntries, headerBytes, formatImage, formatted}
 use Rattle.layout.specs.Paths.{cut, parts, pathOk, shallow, childOf, resolve, home, pathSlot, entryOf, fileRefusal, directoryRefusal}
 use Rattle.volume.specs.Create.{createRefusal, createSlot, place, placeRefusal, createImage, createNamed}
@@ -21,7 +21,7 @@ unfoldable pub rules : Unit {0}
 unfolding be32 bytes4 bytes8 zeros splice inVolume next setNext chain endsAfter chainOk freeBlocks occupied slotAt goodName nameOf nameOk files slotOf freeSlot directory isEmpty children below dirs fileBlocks content
     stage1 stage2 stage3 directoryOk childOk attributesOk fileOk directoryEntryOk slotOk newName visitSlots visitEntries visitChild visitRoot fileChains chains allChains owned tableOk stage6 stage7 check
     cut parts pathOk shallow childOf resolve home pathSlot entryOf fileRefusal directoryRefusal lookupRefusal lookup readRefusal read extentOf lookInPlace decimal printed entryLine fileLine countLine refusedLine listing
-    entryBytes directoryMade setOccupied linked taken grown freed released entriesNamed formatRefusal firstEntries headerBytes formatImage formatted
+    entryBytes directoryMade setOccupied linked taken grown freed released entriesNamed blocksNamed formatRefusal firstEntries headerBytes formatImage formatted
     createRefusal createSlot place placeRefusal createImage createNamed newSize needed newBlocks put written setFile writeAt changedEntries writeNamed writeAtRefusal writeRefusal
     deleteAt deleteNamed createDirectoryRefusal newDirectoryBlocks createDirectoryImage createDirectoryNamed deleteDirectoryRefusal refusal after named slotGiven used started startRefusal copies recordOk recordsFrom records wellFormed ascending recordBytes added
     lastRecord restored undoneImage undoneJournal recordOf changeRefusal afterChange changeAnswer undoRefusal afterUndo undoAnswer lookAnswer step answer run answers

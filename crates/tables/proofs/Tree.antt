@@ -3,7 +3,7 @@
 use Prim.Native.Nat.{ℕ, zero, suc}
 use mathlib.Core.List.{List, [], _∷_, _++_, map}
 use lib.ListN.{replicate}
-use Rattle.layout.specs.Bytes.{be32, bytes4, splice}
+use Rattle.layout.specs.Bytes.{be32, bytes4, splice, block}
 use Rattle.layout.specs.Table.{next, setNext}
 use Rattle.layout.specs.Directory.{dirs}
 use Rattle.layout.specs.Check.{check}
@@ -29,7 +29,7 @@ folder xs d = createDirectory (way xs) 0x20 1 2 3 0 2000 d
 -- n = 9, root of one block, 2; directory /D (68) of two blocks, 3 and 4, its entry at 1,152; file /D/A (65) of 513 bytes in blocks 5 and 6, its entry
 -- at 1,664; directory /E (69) of one block, 7, its entry at 1,280; block 8 is free
 q₀ : State
-q₀ = record { image = formattedAs 9 1; journal = started 9400 }
+q₀ = record { image = formattedAs 9 1; journal = started 9900 }
 
 q₁ : State
 q₁ = step q₀ (change (folder (68 ∷ []) 2))
@@ -59,8 +59,9 @@ built =
     -- look up by a path; the lister shows the root's files only: "blocks 9 used 8 free 1"
     ∷ (numbers (answer q₄ (look (findFile (way (68 ∷ 65 ∷ []))))), 0 ∷ 1 ∷ 513 ∷ 2 ∷ [])
     ∷ (listing (q₄ .image), 98 ∷ 108 ∷ 111 ∷ 99 ∷ 107 ∷ 115 ∷ 32 ∷ 57 ∷ 32 ∷ 117 ∷ 115 ∷ 101 ∷ 100 ∷ 32 ∷ 56 ∷ 32 ∷ 102 ∷ 114 ∷ 101 ∷ 101 ∷ 32 ∷ 49 ∷ 10 ∷ [])
-    -- an empty directory is deleted: a record of blocks 0, 1 and 2; its block is free again
-    ∷ (numbers (answer q₄ (change (deleteDirectory (way (69 ∷ []))))), 0 ∷ 0 ∷ 1552 ∷ [])
+    -- an empty directory is deleted: a record of blocks 0, 1, 2 and of its block, which is free again and zero
+    ∷ (numbers (answer q₄ (change (deleteDirectory (way (69 ∷ []))))), 0 ∷ 0 ∷ 2068 ∷ [])
+    ∷ (block (gone .image) 7, replicate 512 0)
     ∷ (next (gone .image) 7 ∷ be32 (gone .image) 20 ∷ check (gone .image) ∷ map (λ d. d .0) (dirs (gone .image)), 0 ∷ 7 ∷ 0 ∷ 2 ∷ 3 ∷ [])
     -- undo of a created directory: image and journal as before
     ∷ (numbers (answer q₄ undo), 0 ∷ 2068 ∷ [])

@@ -16,6 +16,7 @@ pub mod Write
 pub mod Sound
 pub mod Format
 pub mod Framed
+pub mod Blank
 pub mod Content
 pub mod Views
 pub mod Folders

@@ -22,9 +22,10 @@ use Rattle.layout.specs.Looks.{lookup, lookupRefusal, read, lookInPlace}
 use Rattle.volume.specs.Format.{formatRefusal, formatted}
 use Rattle.volume.specs.Write.{needed, newBlocks}
 use Rattle.volume.specs.Change.{Change, create, write, createDirectory, deleteDirectory, refusal, after, named, slotGiven}
-use Rattle.volume.specs.Claims.{NoRoom}
+use Rattle.volume.specs.Claims.{NoRoom, Blanked}
 use Rattle.volume.specs.Views.{File, nothing, just, fileOf, fileAt, folderAt, subject, made, madeFolder, takes, gives, givesFolder}
 use Rattle.volume.proofs.Laws.Framed.{frame}
+use Rattle.volume.proofs.Laws.Blank.{blank}
 use Rattle.volume.proofs.Laws.Format.{sound-format}
 use Rattle.volume.proofs.Laws.Sound.{kept}
 use Rattle.volume.proofs.Laws.Places.{file-at-path, write-given}
@@ -104,6 +105,10 @@ module _ (s : List ℕ) (ok : check s ≡ 0) where
 
     pub named-below : (b : ℕ) → has eqb b (named s c) ≡ true → b < blockCount s
     named-below = frame s c ok r .inside
+
+    -- Every block that it freed holds only zeros; blocks that were free, and are still, hold what they held.
+    pub freed-blank : Blanked s (after s c)
+    freed-blank = blank s c ok r
 
     -- Of what its own path shows, the file and the directory, it makes what its rule says, a function of that alone (made, madeFolder).
     pub own-file : fileAt (after s c) (subject c) ≡ made c (fileAt s (subject c))

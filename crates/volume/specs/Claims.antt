@@ -2,13 +2,21 @@
 use Prim.Native.Nat.{ℕ, _≤_, _<_}
 use mathlib.Core.Path.{_≡_}
 use mathlib.Core.List.{List}
+use mathlib.Core.Logic.{_≢_}
 use lib.ListN.{length}
 use Rattle.layout.specs.Limits.{maxData}
+use Rattle.layout.specs.Bytes.{block, zeros}
 use Rattle.layout.specs.Geometry.{blockCount}
 use Rattle.layout.specs.Table.{next, freeBlocks}
 use Rattle.layout.specs.Directory.{sizeOf, isFile}
 use Rattle.layout.specs.Paths.{entryOf, fileRefusal}
 use Rattle.volume.specs.Write.{needed}
+
+-- L7, "Freeing a block now also zeroes its 512 bytes", "Blocks that were free before aren't touched": what a change from s to s′ leaves in the blocks
+-- that are free after it. Those that were in use hold only zeros, those that were free hold what they held.
+pub record Blanked (s s′ : List ℕ) : Type 0 where
+  pub freed : (b : ℕ) → b < blockCount s → next s b ≢ 0 → next s′ b ≡ 0 → block s′ b ≡ zeros 512
+  pub spared : (b : ℕ) → b < blockCount s → next s b ≡ 0 → next s′ b ≡ 0 → block s′ b ≡ block s b
 
 -- 14, "fewer free blocks than needed", of a write: no lower number applies, and fewer blocks are free than needed
 pub record NoRoom (s path : List ℕ) (offset count : ℕ) : Type 0 where

@@ -1,7 +1,7 @@
 -- Directories made and removed, on a sound image (FORMAT.md, 9.4 and 9.5: "Two calls of their own create a directory and, only when empty, delete it as a file is
 -- deleted, record and all").
 use Prim.Native.Nat.{ℕ, _/_}
-use mathlib.Core.List.{List, _∷_, _++_}
+use mathlib.Core.List.{List, _∷_}
 use mathlib.Core.Bool.{_&&_}
 use lib.ListN.{length, getD, take}
 use lib.Dec.{leb}
@@ -13,7 +13,7 @@ use Rattle.layout.specs.Geometry.{blockCount}
 use Rattle.layout.specs.Table.{next, freeBlocks}
 use Rattle.layout.specs.Directory.{firstBlock, isDirectory, isEmpty}
 use Rattle.layout.specs.Paths.{parts, pathOk, lastPart, shallow, home, entryOf, directoryRefusal}
-use Rattle.volume.specs.Entries.{entryBytes, directoryMade, grown, entriesNamed}
+use Rattle.volume.specs.Entries.{entryBytes, directoryMade, grown, blocksNamed}
 use Rattle.volume.specs.Create.{placeRefusal, place}
 
 -- "A new directory is given its d (9 if type or d is out of range)", 17 "in directory calls the last part counts", 10, 11, 13 as for create, 14
@@ -38,7 +38,7 @@ createDirectoryImage s path type user group permissions flags time d =
 
 -- "Creating one names, in the journal, its blocks and what a write names."
 unfoldable pub createDirectoryNamed : List ℕ → List ℕ → ℕ → List ℕ
-createDirectoryNamed s path d = place s path / 512 ∷ (newDirectoryBlocks s d ++ entriesNamed (newDirectoryBlocks s d))
+createDirectoryNamed s path d = place s path / 512 ∷ blocksNamed (newDirectoryBlocks s d)
 
 -- 9, 17, 10; "18 directory not empty". What it does and names is delete's, of the directory's entry.
 unfoldable pub deleteDirectoryRefusal : List ℕ → List ℕ → ℕ

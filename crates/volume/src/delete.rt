@@ -10,7 +10,7 @@ ghost use Rattle.layout.specs.Directory.{isFile};
 ghost use Rattle.layout.specs.Check.{check};
 ghost use Rattle.layout.specs.Paths.{fileRefusal, entryOf};
 ghost use Rattle.layout.specs.Walks.Slots.{entryAt};
-ghost use Rattle.volume.specs.Entries.{released, entriesNamed};
+ghost use Rattle.volume.specs.Entries.{released, blocksNamed};
 ghost use Rattle.volume.specs.Delete.{deleteAt, deleteNamed};
 ghost use Rattle.volume.specs.Walks.Marks.{marked};
 ghost use Rattle.volume.specs.Walks.Drops.{Droppable};
@@ -27,14 +27,14 @@ pub fn delete_refusal(image: &[u8], path: &[u8]) -> u32
 // Marks what an entry of block b names that goes with its chain of k blocks from `first` on.
 pub fn drop_named(image: &[u8], b: usize, first: usize, k: usize, marks: &mut [u8])
     requires { ⌜ (Droppable (now image) b first k) × (blockCount (now image) ≤ length (now marks)) ⌝ }
-    ensures { λ _. ⌜ now (marks .exit) ≡ marked (now (marks .entry)) (b ∷ entriesNamed (chain (next (now (image .entry))) first k)) ⌝ }
+    ensures { λ _. ⌜ now (marks .exit) ≡ marked (now (marks .entry)) (b ∷ blocksNamed (chain (next (now (image .entry))) first k)) ⌝ }
 {
     let n = image.len() / 512;
     super::marks::mark(marks, b);
-    super::marks::mark_entries(image, n, first, k, marks);
+    super::marks::mark_freed(image, n, first, k, marks);
 }
 
-// Frees the chain of k blocks from `first` on and zeroes a slot of block b.
+// Frees the chain of k blocks from `first` on, which zeroes them, and zeroes a slot of block b.
 pub fn drop_entry(image: &mut [u8], b: usize, slot: usize, first: usize, k: usize)
     requires { ⌜ Droppable (now image) b first k ⌝ }
     ensures { λ _. ⌜ now (image .exit) ≡ splice (released (now (image .entry)) (blockCount (now (image .entry))) (chain (next (now (image .entry))) first k)) (entryAt b slot) (zeros 128) ⌝ }

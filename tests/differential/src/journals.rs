@@ -42,14 +42,20 @@ pub fn with_records(rng: &mut Rng, image: &[u8], count: usize, spare: usize) -> 
     of_records(rng, &records, spare)
 }
 
+/// The length of a journal that has room for a record of every block.
+pub fn room_for_all(image: &[u8]) -> usize {
+    HEAD + 4 + SAVED * block_count(image)
+}
+
 /// A well-formed journal of any kind.
 pub fn any(rng: &mut Rng, image: &[u8]) -> Vec<u8> {
-    let spare = match rng.below(8) {
+    let spare = match rng.below(9) {
         0 => 0,
         1 => rng.pick(&[1, 3, 4, 519, 520, 521]),
         2 => rng.pick(&[1035, 1036, 1037, 2067, 2068, 2069]),
         3 => rng.pick(&[2583, 2584, 2585]),
         4 => rng.below(6000),
+        5 => room_for_all(image).min(200_000),
         _ => rng.between(12_000, 30_000),
     };
     match rng.below(4) {

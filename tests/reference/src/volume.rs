@@ -281,19 +281,22 @@ fn delete(image: &[u8], d: &Delete) -> Result<Changed, Refusal> {
 
 /// The image without a file or an empty directory.
 fn removed(image: &[u8], entry: &Entry) -> Changed {
-    let blocks = entry.chain(image);
     let mut after = image.to_vec();
-    for &b in &blocks {
-        set_entry(&mut after, b, 0);
-    }
-    after[entry.at..entry.at + SLOT].fill(0);
-    recount(&mut after);
     let mut named = BTreeSet::from([entry.at / BLOCK]);
-    if !blocks.is_empty() {
-        named.insert(0);
-        named.extend(blocks.iter().map(|&b| table_block_of(b)));
-    }
+    after[entry.at..entry.at + SLOT].fill(0);
+    free(&mut after, &entry.chain(image), &mut named);
     Changed { image: after, named, slot: 0 }
+}
+
+/// Frees the blocks of a chain, which become blank. With any of them, block 0
+/// and the table blocks of their entries are named too.
+fn free(image: &mut [u8], blocks: &[usize], named: &mut BTreeSet<usize>) {
+    for &b in blocks {
+        set_entry(image, b, 0);
+        named.extend([0, b, table_block_of(b)]);
+    }
+    blank(image, blocks);
+    recount(image);
 }
 
 /// So many free blocks, lowest number first; weighs 14.

@@ -12,7 +12,7 @@ pub fn formatted(n: usize, d: u32) -> Result<Vec<u8>, Refusal> {
 
 /// Such a volume, and a journal just started with room for all that follows.
 pub fn fresh(n: usize, d: u32) -> State {
-    State { image: formatted(n, d).unwrap(), journal: start(65_536).unwrap() }
+    State { image: formatted(n, d).unwrap(), journal: start(131_072).unwrap() }
 }
 
 fn given(path: &[u8], kind: u8) -> Create {

@@ -135,13 +135,30 @@ fn directory_calls_refused() {
 }
 
 #[test]
+fn a_file_of_it_deleted() {
+    let written = after(&stage(), &write(b"/stage/SN4471", 0, b"baud"));
+    let gone = apply(&written, &delete(b"/stage/SN4471")).unwrap();
+    // Blocks 0 (counts), 1 (table), 3 (the directory's first), 5 (the file's).
+    assert_eq!((gone.slot, gone.record), (0, 4 + 516 * 4));
+    let at = number(&written.journal, 1) as usize;
+    let numbers = [0, 1, 2, 3].map(|i| number(&gone.state.journal, at + 4 + 516 * i));
+    assert_eq!(numbers, [0, 1, 3, 5]);
+    assert!(gone.state.image[5 * 512..6 * 512].iter().all(|&b| b == 0));
+    assert_eq!(number_of(&gone.state, &delete_directory(b"/stage")), 0);
+    assert_eq!(undo(&gone.state).unwrap().state, written);
+}
+
+#[test]
 fn a_directory_deleted() {
     let first = fresh(24, 1);
     let made = after(&first, &create_directory(b"/stage", 2));
     let gone = apply(&made, &delete_directory(b"/stage")).unwrap();
-    assert_eq!((gone.slot, gone.record), (0, 4 + 516 * 3));
-    assert_eq!(gone.state.image[..3 * 512], first.image[..3 * 512]);
-    assert_eq!(gone.state.image[3 * 512..], made.image[3 * 512..]);
+    // Blocks 0 (counts), 1 (table), 2 (root), 3 and 4 (the directory), which are blank again.
+    assert_eq!((gone.slot, gone.record), (0, 4 + 516 * 5));
+    let used = 5 + 4 + 516 * 5;
+    let numbers = [0, 1, 2, 3, 4].map(|i| number(&gone.state.journal, used + 4 + 516 * i));
+    assert_eq!(numbers, [0, 1, 2, 3, 4]);
+    assert_eq!(gone.state.image, first.image);
     assert_eq!(check(&gone.state.image), 0);
     let back = undo(&gone.state).unwrap().state;
     assert_eq!(back, made);
@@ -273,8 +290,8 @@ fn replay_with_directories() {
     assert_eq!(run.call(&Call::Change(create(b"/d/A"))), gave(0, 1, 520));
     assert_eq!(run.call(&Call::Change(delete_directory(b"/d"))), gave(18, 0, 0));
     assert_eq!(run.call(&Call::Undo), gave(0, 0, 520));
-    assert_eq!(run.call(&Call::Change(delete_directory(b"/d"))), gave(0, 0, 1552));
-    assert_eq!(run.call(&Call::Undo), gave(0, 0, 1552));
+    assert_eq!(run.call(&Call::Change(delete_directory(b"/d"))), gave(0, 0, 2068));
+    assert_eq!(run.call(&Call::Undo), gave(0, 0, 2068));
     assert_eq!(run.call(&Call::Undo), gave(0, 0, 2068));
     assert_eq!(run.replayed(), &first);
 }

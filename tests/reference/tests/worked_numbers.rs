@@ -75,6 +75,36 @@ fn one_more_byte_and_undo() {
 }
 
 #[test]
+fn freed_blocks_are_blank() {
+    let mut before = with_513_bytes().state;
+    // Blocks 3 to 5 are the root's second and the file's; 6 and the last were never used.
+    before.image[6 * BLOCK..7 * BLOCK].fill(b'6');
+    before.image[15 * BLOCK..].fill(b'F');
+    // Behind the file's end its last block may hold anything.
+    before.image[5 * BLOCK + 1..6 * BLOCK].fill(b'z');
+    let gone = apply(&before, &delete(b"/A")).unwrap();
+    assert_eq!((gone.slot, gone.record), (0, 2584));
+    let numbers = [0, 1, 2, 3, 4].map(|i| number(&gone.state.journal, 3109 + 4 + 516 * i));
+    assert_eq!(numbers, [0, 1, 2, 4, 5]);
+    assert_eq!(used(&gone.state), 5693);
+    let mut expected = formatted(16, 2).unwrap();
+    expected[6 * BLOCK..7 * BLOCK].fill(b'6');
+    expected[15 * BLOCK..].fill(b'F');
+    assert_eq!(gone.state.image, expected);
+    let undone = undo(&gone.state).unwrap();
+    assert_eq!((undone.record, used(&undone.state)), (2584, 3109));
+    assert_eq!(undone.state, before);
+}
+
+#[test]
+fn freed_blocks_are_named_even_if_they_are_zero() {
+    let created = apply(&fresh(16, 2), &create(b"/A")).unwrap().state;
+    assert_eq!(apply(&created, &delete(b"/A")).unwrap().record, 520);
+    let written = apply(&created, &write(b"/A", 0, &[0; 513])).unwrap().state;
+    assert_eq!(apply(&written, &delete(b"/A")).unwrap().record, 2584);
+}
+
+#[test]
 fn longest_name() {
     let state = fresh(16, 2);
     let path = |length| [b"/", &vec![b'n'; length][..]].concat();

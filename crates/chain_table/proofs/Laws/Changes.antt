@@ -35,18 +35,26 @@ module _ {s xs : List ℕ} {n : ℕ} (held : Held s xs n) (fits : 512 + 4 * n �
   held-counts : (u : ℕ) → Held (setOccupied s n u) xs n
   held-counts u = held-still held (λ b h. set-occupied-next s n u (omega arith) b)
 
-pub held-free : {s xs : List ℕ} {n : ℕ} (b : ℕ) → Held s xs n → 512 + 4 * n ≤ length s → b < n → Held (freed s n b) (freedIn xs b) n
-unfolding freed freedIn
-held-free {s} b held fits h = held-counts (held-set held fits b 0 h (omega arith)) (omega (arith, set-next-length s b 0 (omega arith))) _
+-- a block that is taken or freed is zeroed, lies above the table, and its entry is set
+module _ {s xs : List ℕ} {n : ℕ} (b : ℕ) (held : Held s xs n) (whole : length s ≡ 512 * n) (low : 3 ≤ n) (t : tableBlocks n < b) (h : b < n) where
+  abbrev z : List ℕ
+  z = splice s (512 * b) (zeros 512)
 
--- a block that is taken is zeroed, and lies above the table
-pub held-take : {s xs : List ℕ} {n : ℕ} (last b : ℕ) → Held s xs n → length s ≡ 512 * n → 3 ≤ n → last < n → tableBlocks n < b → b < n → b < 0x100000000
-    → Held (taken s n last b) (takenIn xs last b) n
-unfolding taken takenIn
-held-take {s} {xs} {n} last b held whole low l t h small =
-    let z : List ℕ = splice s (512 * b) (zeros 512) in
-    let k : length z ≡ 512 * n = cleared-length n low s last b whole l h in
-    let i : length (setNext z b 1) ≡ 512 * n = set-next-length z b 1 (omega arith) ∙ k in
-    let zeroed : Held z xs n = held-still held (λ c g. before-next s z n (same-below s (512 * b) (zeros 512) (omega (arith, length-zeros 512)) 0 (512 * rootBlock n) (omega arith)) c (omega arith)) in
-    let ended : Held (setNext z b 1) (set xs b 1) n = held-set zeroed (omega arith) b 1 h (omega arith) in
-    held-counts (held-link ended (omega arith) last b l small) (omega (arith, linked-length (setNext z b 1) b last (omega arith))) _
+  size : (x : ℕ) → length (setNext z b x) ≡ 512 * n
+  size x = let k : length z ≡ 512 * n = cleared-length n low s b b whole h h in set-next-length z b x (omega arith) ∙ k
+
+  ended : (x : ℕ) → x < 0x100000000 → Held (setNext z b x) (set xs b x) n
+  ended x small =
+      let k : length z ≡ 512 * n = cleared-length n low s b b whole h h in
+      let zeroed : Held z xs n = held-still held (λ c g. before-next s z n (same-below s (512 * b) (zeros 512) (omega (arith, length-zeros 512)) 0 (512 * rootBlock n) (omega arith)) c (omega arith)) in
+      held-set zeroed (omega arith) b x h small
+
+  pub held-free : Held (freed s n b) (freedIn xs b) n
+  unfolding freed freedIn
+  held-free = held-counts (ended 0 (omega arith)) (omega (arith, size 0)) _
+
+  pub held-take : (last : ℕ) → last < n → b < 0x100000000 → Held (taken s n last b) (takenIn xs last b) n
+  unfolding taken takenIn
+  held-take last l small =
+      let i = size 1 in
+      held-counts (held-link (ended 1 (omega arith)) (omega arith) last b l small) (omega (arith, linked-length (setNext z b 1) b last (omega arith))) _

@@ -17,7 +17,7 @@ use Rattle.layout.specs.Table.{next, freeBlocks}
 use Rattle.layout.specs.Directory.{slotAt, slots, typeOf, firstBlock, isFree, isDirectory, isEmpty, goodName, directory, dirs, fileBlocks, freeSlot}
 use Rattle.layout.specs.Check.{check}
 use Rattle.layout.specs.Paths.{parts, pathOk, leading, lastPart, shallow, home, pathSlot, entryOf, directoryRefusal}
-use Rattle.volume.specs.Entries.{directoryMade, entriesNamed}
+use Rattle.volume.specs.Entries.{directoryMade, blocksNamed}
 use Rattle.volume.specs.Create.{placeRefusal, createSlot}
 use Rattle.volume.specs.Directories.{createDirectoryRefusal, newDirectoryBlocks, createDirectoryImage, deleteDirectoryRefusal}
 use Rattle.volume.specs.Delete.{deleteAt, deleteNamed}
@@ -284,7 +284,7 @@ module _ (s path : List ℕ) (ok : check s ≡ 0) (r : deleteDirectoryRefusal s 
   S′ = removed-sound s T b i home-there x (N .low) (N .high) (N .typed) bare
 
   -- it changes no byte outside its named blocks
-  agreed : Agree s small (e / 512 ∷ entriesNamed (fileBlocks s e))
+  agreed : Agree s small (e / 512 ∷ blocksNamed (fileBlocks s e))
   unfolding after named deleteNamed entryOf
   agreed = frame s (deleteDirectory path) ok (unfold refusal in r) .agree
 

@@ -3,7 +3,7 @@
 use Prim.Native.Nat.{ℕ, suc, _+_, _-_, _*_, _/_, _%_, _≤_, _<_}
 use mathlib.Core.Path.{_≡_, sym, ap, _∙_, refl, subst}
 use mathlib.Core.Bool.{Bool, true, _&&_, _||_, or-true}
-use mathlib.Core.List.{List, [], _∷_, _++_}
+use mathlib.Core.List.{List, [], _∷_}
 use mathlib.Core.Logic.{inl, inr, ⊎-elim, _≢_, _⊎_}
 use native.Mathlib.Decide.{ℕ-discrete}
 use native.Mathlib.Omega.{arith}
@@ -19,7 +19,7 @@ use Rattle.layout.specs.Table.{next, chain, freeBlocks}
 use Rattle.layout.specs.Directory.{slotAt, typeOf, firstBlock, sizeOf, blocksOf, isFree, isFile, isDirectory, padded, nameOf, goodName, directory, dirs, freeSlot}
 use Rattle.layout.specs.Check.{attributesOk, fileOk, directoryEntryOk, slotOk, check}
 use Rattle.layout.specs.Paths.{parts, pathOk, leading, lastPart, shallow, home}
-use Rattle.volume.specs.Entries.{entryBytes, directoryMade, grown, entriesNamed}
+use Rattle.volume.specs.Entries.{entryBytes, directoryMade, grown, blocksNamed}
 use Rattle.volume.specs.Views.{folderOf}
 use Rattle.volume.specs.Create.{placeRefusal}
 use Rattle.volume.specs.Directories.{createDirectoryRefusal, newDirectoryBlocks, createDirectoryImage}
@@ -30,7 +30,7 @@ use Rattle.volume.proofs.Laws.Data.{grown-zero}
 use Rattle.layout.proofs.Laws.Bytes.{part-same, length-splice, splice-first, be32-bytes4, getD-part, getD-zeros}
 use Rattle.layout.proofs.Laws.Tests.{and-split, require-zero, firstOf-zero, within-split, lt-or-gt}
 use Rattle.layout.proofs.Laws.Names.{padded-length, name-is, name-ok}
-use Rattle.layout.proofs.Laws.Lists.{In, in-append, getD-in}
+use Rattle.layout.proofs.Laws.Lists.{In, getD-in}
 use Rattle.layout.proofs.Laws.Frames.{Same, same-then, same-beside, same-below, same-inside, same-be32, before-next, Agree, agree-block}
 use Rattle.layout.proofs.Laws.Counts.{occupied-most}
 use Rattle.layout.proofs.Laws.Entries.{same-type, same-field, same-name-field}
@@ -45,7 +45,7 @@ use Rattle.layout.proofs.Laws.Steps.{over-same, Midway, bytes-step}
 use Rattle.layout.proofs.Laws.Empties.{Empty, OneMore, staying-more, last-slot, directory-made, made-dirs}
 use Rattle.layout.proofs.Laws.Changed.{OneSlot}
 use Rattle.layout.proofs.Laws.Newcomers.{newcomer-untouched}
-use Rattle.volume.proofs.Laws.Frame.{entries-low}
+use Rattle.volume.proofs.Laws.Frame.{blocks-not}
 use Rattle.volume.proofs.Laws.Table.{grown-next, grown-used}
 
 -- a free slot k of the directory b₀ of the tree, a good name that none has there, d blocks free
@@ -224,8 +224,8 @@ module _ (s : List ℕ) (S : Sound s) (b₀ j : ℕ) (i₀ : In (b₀, suc j) (d
         same-then larger made t′ 0 R (same-then larger t₁ made 0 R (same-below larger (512 * b₁) p₁ (omega (arith, long₁, fits₁)) 0 R (omega arith)) (same-below t₁ last ends fits₂ 0 R (omega (arith, last-is))))
         (outside 0 R (inl (omega (arith, entry-low s S e mine))))
 
-    values : (x : ℕ) → x < 128 * tableBlocks n → next t′ x ≡ next larger x
-    values = before-next larger t′ n same₃
+    pub made-table : (x : ℕ) → x < 128 * tableBlocks n → next t′ x ≡ next larger x
+    made-table = before-next larger t′ n same₃
 
     -- the self entry stays after it is written
     apart-end : (512 * b₁ + 128 ≤ last) ⊎ (last + length ends ≤ 512 * b₁)
@@ -274,7 +274,7 @@ module _ (s : List ℕ) (S : Sound s) (b₀ j : ℕ) (i₀ : In (b₀, suc j) (d
 
     -- its chain
     passed : (y : ℕ) → y < d → next t′ (B y) ≡ next larger (B y)
-    passed y h = values (B y) (omega (arith, right₁ .below y h))
+    passed y h = made-table (B y) (omega (arith, right₁ .below y h))
 
     nth-same : (x : ℕ) → x ≤ d → nth (next t′) x b₁ ≡ B x
     nth-same x h = nth-agree (next larger) (next t′) x b₁ (λ y l. passed y (omega arith))
@@ -400,18 +400,18 @@ module _ (s : List ℕ) (S : Sound s) (b₀ j : ℕ) (i₀ : In (b₀, suc j) (d
 
       made-next : next t′ q ≡ next s q
       made-next =
-          values q (omega (arith, held-below s S a A x g))
+          made-table q (omega (arith, held-below s S a A x g))
           ∙ grown-next n (S .least) new s 0 q (S .whole) (omega (arith, S .least)) (F .below) (F .above) (omega (arith, held-below s S a A x g)) not-new (λ pos. absurd (omega arith))
 
       -- a block that is neither taken nor the entry's stays
-      made-block : Agree s t′ (e / 512 ∷ (new ++ entriesNamed new)) → isFile (typeOf s a) ≡ true → block t′ q ≡ block s q
+      made-block : Agree s t′ (e / 512 ∷ blocksNamed new) → isFile (typeOf s a) ≡ true → block t′ q ≡ block s q
       made-block G f = agree-block q G named-not
         where
-          named-not : In q (e / 512 ∷ (new ++ entriesNamed new)) → ⊥
+          named-not : In q (e / 512 ∷ blocksNamed new) → ⊥
           named-not (inl z) = tree-apart s S a A x g (file-no-self s S a A f) (subst (λ (y : ℕ). In y (dirBlocks s)) (sym z) (mine .within-tree))
-          named-not (inr m) = ⊎-elim not-new (λ i. omega (arith, held-above s S a A x g, entries-low n new (F .below) q i)) (in-append q new (entriesNamed new) m)
+          named-not (inr m) = blocks-not n new (F .below) q (held-above s S a A x g) not-new m
 
-    pub made-untouched : Agree s t′ (e / 512 ∷ (new ++ entriesNamed new)) → (other : List ℕ) → Untouched s t′ other
+    pub made-untouched : Agree s t′ (e / 512 ∷ blocksNamed new) → (other : List ℕ) → Untouched s t′ other
     made-untouched G other =
         newcomer-untouched s t′ S b₀ j i₀ k k₁ k₂ made-slot free (rw e-type dir) (rw e-first bare)
         (λ x h g ne used q. none x h g used (sym (name-is name good t′ e e-field) ∙ q))

@@ -26,12 +26,12 @@ use Rattle.layout.proofs.Laws.Frames.{Same, same-be32, same-beside, before-next
 use Rattle.layout.proofs.Laws.Trees.{sizeAt}
 use Rattle.layout.proofs.Laws.Sound.{heldAt, Sound, Entry, sound, check-zero}
 use Rattle.layout.proofs.Laws.Slots.{slot-entry, entry-high, entry-low}
-use Rattle.layout.proofs.Laws.Owners.{file-holds, file-no-dir, file-no-self, file-chained, file-below, file-used, file-apart, held-above, held-below, entry-elsewhere, tree-apart}
+use Rattle.layout.proofs.Laws.Owners.{file-holds, file-no-dir, file-no-self, file-chained, file-above, file-below, file-used, file-apart, held-above, held-below, entry-elsewhere, tree-apart}
 use Rattle.layout.proofs.Laws.Visits.{dirBlocks}
 use Rattle.layout.proofs.Laws.Chains.{nth, chain-distinct, chainOk-split}
 use Rattle.layout.proofs.Laws.Files.{length-fileBlocks}
 use Rattle.layout.proofs.Laws.Changed.{OneSlot}
-use Rattle.volume.proofs.Laws.Frame.{entries-low, released-agree}
+use Rattle.volume.proofs.Laws.Frame.{blocks-not, released-agree}
 use Rattle.volume.proofs.Laws.Table.{released-next, released-occupied}
 use Rattle.layout.proofs.Laws.Steps.{Midway, staying, midway-start, midway-end, one-slot}
 use Rattle.layout.proofs.Laws.Paths.{path-named, path-home}
@@ -103,7 +103,7 @@ module _ (s : List ℕ) (S : Sound s) (d : ℕ × ℕ) (di : In d (dirs s)) (k :
   unfolding deleteAt
   deleted-used =
       let l = length-fileBlocks s e in
-      let o = released-occupied n (S .least) (fileBlocks s e) s (S .whole) (file-below s S e mine file) (file-used s S e mine file) once in
+      let o = released-occupied n (S .least) (fileBlocks s e) s (S .whole) (file-below s S e mine file) (file-above s S e mine file) (file-used s S e mine file) once in
       let u = done .1 .used in
       let w = S .used-is in
       let g = entry-low s S e mine in
@@ -118,7 +118,8 @@ module _ (s : List ℕ) (S : Sound s) (d : ℕ × ℕ) (di : In d (dirs s)) (k :
     unfolding deleteAt
     deleted-next =
         before-next freer (deleteAt s e) n (zeroed-outside freer e fit 0 (512 * rootBlock n) (inl (omega (arith, entry-low s S e mine)))) q (omega (arith, held-below s S a A x g))
-        ∙ released-next n (S .least) (fileBlocks s e) s q (S .whole) (file-below s S e mine file) (file-apart s S e mine file a A ne x g)
+        ∙ released-next n (S .least) (fileBlocks s e) s q (S .whole) (file-below s S e mine file) (file-above s S e mine file)
+        (omega (arith, held-below s S a A x g)) (file-apart s S e mine file a A ne x g)
 
     pub deleted-block : isFile (typeOf s a) ≡ true → block (deleteAt s e) q ≡ block s q
     unfolding deleteAt
@@ -126,7 +127,7 @@ module _ (s : List ℕ) (S : Sound s) (d : ℕ × ℕ) (di : In d (dirs s)) (k :
         entry-elsewhere s S e mine freer (deleteAt s e) (done .1 .len) (zeroed-length freer e fit) (zeroed-outside freer e fit) q (held-below s S a A x g)
         (λ z. tree-apart s S a A x g (file-no-self s S a A f) (subst (λ (y : ℕ). In y (dirBlocks s)) z (mine .within-tree)))
         ∙ agree-block q (released-agree n (S .least) (fileBlocks s e) s (S .whole) (file-below s S e mine file))
-        (λ i. omega (arith, held-above s S a A x g, entries-low n (fileBlocks s e) (file-below s S e mine file) q i))
+        (blocks-not n (fileBlocks s e) (file-below s S e mine file) q (held-above s S a A x g) (file-apart s S e mine file a A ne x g))
 
 -- by paths
 pub kept-delete : (s path : List ℕ) → check s ≡ 0 → fileRefusal s path ≡ 0 → check (deleteAt s (entryOf isFile s path)) ≡ 0

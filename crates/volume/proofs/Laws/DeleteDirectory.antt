@@ -17,7 +17,7 @@ use Rattle.layout.specs.Table.{next}
 use Rattle.layout.specs.Directory.{slotAt, slots, typeOf, firstBlock, blocksOf, isFree, isFile, isDirectory, isEmpty, nameOf, directory, children, dirs, fileBlocks}
 use Rattle.layout.specs.Check.{check}
 use Rattle.layout.specs.Paths.{parts, pathOk, leading, shallow, home, pathSlot, entryOf, directoryRefusal}
-use Rattle.volume.specs.Entries.{released, entriesNamed}
+use Rattle.volume.specs.Entries.{released, blocksNamed}
 use Rattle.volume.specs.Delete.{deleteAt}
 use Rattle.volume.specs.Directories.{deleteDirectoryRefusal}
 use Rattle.volume.proofs.Laws.Release.{released-steps}
@@ -33,7 +33,7 @@ use Rattle.layout.proofs.Laws.Owners.{file-no-self, held-above, held-below, hel
 use Rattle.layout.proofs.Laws.Visits.{blocksIn, dirBlocks}
 use Rattle.layout.proofs.Laws.Chains.{nth, chain-used, chain-distinct}
 use Rattle.layout.proofs.Laws.Changed.{OneSlot, blocks-stay, size-stays, type-stays, name-stays}
-use Rattle.volume.proofs.Laws.Frame.{entries-low}
+use Rattle.volume.proofs.Laws.Frame.{blocks-not}
 use Rattle.volume.proofs.Laws.Table.{released-at, released-next, released-occupied}
 use Rattle.layout.proofs.Laws.Spread.{split-at}
 use Rattle.layout.proofs.Laws.Comes.{inserted-in, in-inserted}
@@ -113,6 +113,9 @@ module _ (s : List ℕ) (S : Sound s) (b₀ j : ℕ) (i₀ : In (b₀, suc j) (d
     within : (q : ℕ) → In q (fileBlocks s e₀) → q < blockCount s
     within q i = let x = in-directory s c q (rw own-blocks at i) in rw (x .2) (D .chained .below (x .0) (x .1))
 
+    beyond : (q : ℕ) → In q (fileBlocks s e₀) → tableBlocks (blockCount s) < q
+    beyond q i = let x = in-directory s c q (rw own-blocks at i) in rw (x .2) (D .chained .above (x .0) (x .1))
+
     once : distinct eqb (fileBlocks s e₀) ≡ true
     unfolding directory
     once = rw own-blocks (chain-distinct (next s) (blockCount s) c (sizeAt s c) (D .chained) (S .least))
@@ -128,7 +131,7 @@ module _ (s : List ℕ) (S : Sound s) (b₀ j : ℕ) (i₀ : In (b₀, suc j) (d
     unfolding deleteAt
     removed-used =
         let l = length-fileBlocks s e₀ in
-        let o = released-occupied (blockCount s) (S .least) (fileBlocks s e₀) s (S .whole) within in-use once in
+        let o = released-occupied (blockCount s) (S .least) (fileBlocks s e₀) s (S .whole) within beyond in-use once in
         let u = released-all .1 .used in
         let w = S .used-is in
         let low = entry-low s S e₀ E₀ in
@@ -208,21 +211,20 @@ module _ (s : List ℕ) (S : Sound s) (b₀ j : ℕ) (i₀ : In (b₀, suc j) (d
           (let b = below-n in let m = S .least in omega arith)
 
       not-freed : In q (fileBlocks s e₀) → ⊥
-      not-freed m = held-used small removed-sound a A x g (table-kept ∙ released-at (blockCount s) (S .least) (fileBlocks s e₀) s (S .whole) within once q m)
+      not-freed m = held-used small removed-sound a A x g (table-kept ∙ released-at (blockCount s) (S .least) (fileBlocks s e₀) s (S .whole) within beyond once q m)
 
       back-value : next s q ≡ next small q
-      back-value = sym (table-kept ∙ released-next (blockCount s) (S .least) (fileBlocks s e₀) s q (S .whole) within not-freed)
+      back-value = sym (table-kept ∙ released-next (blockCount s) (S .least) (fileBlocks s e₀) s q (S .whole) within beyond (let b = below-n in let m = S .least in omega arith) not-freed)
 
-      back-block : Agree s small (e₀ / 512 ∷ entriesNamed (fileBlocks s e₀)) → isFile (typeOf small a) ≡ true → block s q ≡ block small q
+      back-block : Agree s small (e₀ / 512 ∷ blocksNamed (fileBlocks s e₀)) → isFile (typeOf small a) ≡ true → block s q ≡ block small q
       back-block G f = sym (agree-block q G named-not)
         where
-          named-not : In q (e₀ / 512 ∷ entriesNamed (fileBlocks s e₀)) → ⊥
+          named-not : In q (e₀ / 512 ∷ blocksNamed (fileBlocks s e₀)) → ⊥
           named-not (inl z) =
               tree-apart small removed-sound a A x g (file-no-self small removed-sound a A f) (subst (λ (y : ℕ). In y (dirBlocks small)) (sym z) (subst (λ (y : ℕ). In (y / 512) (dirBlocks small)) (ap (λ (ds : List ℕ). slotAt ds k) small-dir)
               (slot-entry small removed-sound (b₀, suc j) small-in k (let w = small-size in omega arith) .within-tree)))
           named-not (inr m) =
-              let h = held-above small removed-sound a A x g in
-              omega (arith, entries-low (blockCount s) (fileBlocks s e₀) within q m, subst (λ (y : ℕ). tableBlocks y < q) count-same h)
+              blocks-not (blockCount s) (fileBlocks s e₀) within q (subst (λ (y : ℕ). tableBlocks y < q) count-same (held-above small removed-sound a A x g)) not-freed m
 
     pub back-new : (x : ℕ) → 1 ≤ x → x < 4 * sizeAt (deleteAt s e₀) b₀ - 1 → x ≢ k → typeOf (deleteAt s e₀) (slotAt (directory (deleteAt s e₀) b₀) x) ≢ 0
         → nameOf s (slotAt (directory (deleteAt s e₀) b₀) k) ≢ nameOf (deleteAt s e₀) (slotAt (directory (deleteAt s e₀) b₀) x)
@@ -238,7 +240,7 @@ module _ (s : List ℕ) (S : Sound s) (b₀ j : ℕ) (i₀ : In (b₀, suc j) (d
         (λ z. u (ap (typeOf small) p ∙ type ∙ z)) (ap (nameOf s) (sym p₀) ∙ q ∙ ap (nameOf small) p ∙ name)
 
     -- the file of every path is the one that was
-    pub back-untouched : Agree s (deleteAt s e₀) (e₀ / 512 ∷ entriesNamed (fileBlocks s e₀)) → (other : List ℕ) → Untouched (deleteAt s e₀) s other
+    pub back-untouched : Agree s (deleteAt s e₀) (e₀ / 512 ∷ blocksNamed (fileBlocks s e₀)) → (other : List ℕ) → Untouched (deleteAt s e₀) s other
     back-untouched G other =
         newcomer-untouched small s removed-sound b₀ j small-in k k₁ (let w = small-size in omega arith) small-slot (rw small-dir removed-type) (rw small-dir was) (rw small-dir empty) back-new
         (λ a A ne x g. back-value a A x g) (λ a A ne f x g. back-block a A x g G f) other

@@ -1,4 +1,4 @@
--- The frame law: an accepted change keeps the image's length, changes no byte outside its named blocks, and names blocks of the image.
+-- Which blocks each step of a change writes to: blocks freed, taken, data put.
 use Prim.Native.Nat.{ℕ, _+_, _*_, _/_, _≤_, _<_, _-_, zero, suc, _%_, max}
 use mathlib.Core.Path.{_≡_, refl, sym, _∙_, subst}
 use mathlib.Core.List.{List, [], _∷_, _++_}
@@ -9,7 +9,7 @@ use lib.ListN.{length, drop, length-drop, length-append, take}
 use Rattle.layout.specs.Bytes.{splice, be32, bytes4, zeros}
 use Rattle.layout.specs.Table.{setNext, tableBlockOf}
 use Rattle.layout.specs.Geometry.{blocksFor, tableBlocks}
-use Rattle.volume.specs.Entries.{setOccupied, freed, released, entriesNamed, linked, taken, grown}
+use Rattle.volume.specs.Entries.{setOccupied, freed, released, entriesNamed, blocksNamed, linked, taken, grown}
 use Rattle.volume.specs.Write.{put, written, changedEntries}
 use Rattle.layout.proofs.Laws.Bytes.{length-take-most, length-bytes4, length-zeros, splice-nil}
 use Rattle.layout.proofs.Laws.Lists.{In, in-left, in-right, in-append, in-take, in-drop, in-some, in-part, in-map, map-in, in-single}
@@ -30,7 +30,7 @@ unfolding entriesNamed
 entries-of (y ∷ xs) b (inl e) = (y, inl refl, inl e)
 entries-of (y ∷ xs) b (inr i) = let r = map-in tableBlockOf b (y ∷ xs) i in (r .0, r .1, inr (r .2))
 
-entries-more : (xs ys : List ℕ) → ((x : ℕ) → In x xs → In x ys) → (b : ℕ) → In b (entriesNamed xs) → In b (entriesNamed ys)
+pub entries-more : (xs ys : List ℕ) → ((x : ℕ) → In x xs → In x ys) → (b : ℕ) → In b (entriesNamed xs) → In b (entriesNamed ys)
 entries-more xs ys f b i =
     let r = entries-of xs b i in
     ⊎-elim (λ e. subst (λ (z : ℕ). In z (entriesNamed ys)) (sym e) (entries-zero ys (r .0) (f (r .0) (r .1))))
@@ -39,7 +39,36 @@ entries-more xs ys f b i =
 pub entries-low : (n : ℕ) (xs : List ℕ) → ((x : ℕ) → In x xs → x < n) → (b : ℕ) → In b (entriesNamed xs) → b ≤ tableBlocks n
 entries-low n xs h b i = let r = entries-of xs b i in ⊎-elim (λ e. omega arith) (λ e. omega (arith, h (r .0) (r .1))) (r .2)
 
+-- the blocks that freed and new blocks name: themselves, block 0 and the table block of each entry
+pub blocks-in : (xs : List ℕ) (b : ℕ) → In b xs → In b (blocksNamed xs)
+unfolding blocksNamed
+blocks-in xs b i = in-left b xs (entriesNamed xs) i
+
+pub blocks-of : (xs : List ℕ) (b : ℕ) → In b (blocksNamed xs) → In b xs ⊎ In b (entriesNamed xs)
+unfolding blocksNamed
+blocks-of xs b i = in-append b xs (entriesNamed xs) i
+
+pub blocks-entries : (xs : List ℕ) (b : ℕ) → In b (entriesNamed xs) → In b (blocksNamed xs)
+unfolding blocksNamed
+blocks-entries xs b i = in-right b xs (entriesNamed xs) i
+
+pub blocks-more : (xs ys : List ℕ) → ((x : ℕ) → In x xs → In x ys) → (b : ℕ) → In b (blocksNamed xs) → In b (blocksNamed ys)
+blocks-more xs ys f b i = ⊎-elim (λ j. blocks-in ys b (f b j)) (λ j. blocks-entries ys b (entries-more xs ys f b j)) (blocks-of xs b i)
+
+-- of blocks below n they are below n; and a block behind the table that is none of them is not named
+module _ (n : ℕ) (xs : List ℕ) (h : (x : ℕ) → In x xs → x < n) where
+  pub blocks-below : 3 ≤ n → (b : ℕ) → In b (blocksNamed xs) → b < n
+  blocks-below n₁ b i = ⊎-elim (h b) (λ j. omega (arith, entries-low n xs h b j)) (blocks-of xs b i)
+
+  pub blocks-not : (b : ℕ) → tableBlocks n < b → (In b xs → ⊥) → In b (blocksNamed xs) → ⊥
+  blocks-not b t f i = ⊎-elim f (λ j. omega (arith, entries-low n xs h b j)) (blocks-of xs b i)
+
 -- the entries that change: of the blocks taken, and of the block before them
+pub changed-first : (xs : List ℕ) → changedEntries 0 xs ≡ xs
+unfolding changedEntries
+changed-first [] = refl
+changed-first (x ∷ xs) = refl
+
 pub changed-new : (last : ℕ) (xs : List ℕ) (x : ℕ) → In x xs → In x (changedEntries last xs)
 unfolding changedEntries
 changed-new zero (y ∷ xs) x i = i
@@ -115,19 +144,25 @@ module _ (n : ℕ) (n₁ : 3 ≤ n) where
       splice-agree s 0 20 (bytes4 u ++ bytes4 (n - u)) (omega arith) (omega arith) (omega arith)
 
   -- blocks freed
-  freed-agree : (s : List ℕ) (b : ℕ) → length s ≡ 512 * n → b < n → Agree s (freed s n b) (entriesNamed (b ∷ []))
-  unfolding freed entriesNamed
+  freed-agree : (s : List ℕ) (b : ℕ) → length s ≡ 512 * n → b < n → Agree s (freed s n b) (blocksNamed (b ∷ []))
+  unfolding freed blocksNamed entriesNamed
   freed-agree s b len h =
-      let a = set-next-agree s b 0 (omega arith) in
-      agree-then a (set-occupied-agree (setNext s b 0) (be32 s 20 - 1) (a .size ∙ len)) (λ x i. inr i) (in-single 0 (entriesNamed (b ∷ [])) (inl refl))
+      let u = splice s (512 * b) (zeros 512) in
+      let lz : length (zeros 512) ≡ 512 = length-zeros 512 in
+      let zeroed = splice-agree s b (512 * b) (zeros 512) (omega arith) (omega arith) (omega arith) in
+      let a = set-next-agree u b 0 (omega (arith, zeroed .size)) in
+      let ns : List ℕ = b ∷ 0 ∷ tableBlockOf b ∷ [] in
+      let counted = set-occupied-agree (setNext u b 0) (be32 s 20 - 1) (a .size ∙ zeroed .size ∙ len) in
+      let rest : Agree u (freed s n b) ns = agree-then a counted (in-single (tableBlockOf b) ns (inr (inr (inl refl)))) (in-single 0 ns (inr (inl refl))) in
+      agree-then zeroed rest (in-single b ns (inl refl)) (λ x i. i)
 
-  pub released-agree : (bs s : List ℕ) → length s ≡ 512 * n → ((x : ℕ) → In x bs → x < n) → Agree s (released s n bs) (entriesNamed bs)
+  pub released-agree : (bs s : List ℕ) → length s ≡ 512 * n → ((x : ℕ) → In x bs → x < n) → Agree s (released s n bs) (blocksNamed bs)
   unfolding released
-  released-agree [] s len h = agree-refl s (entriesNamed [])
+  released-agree [] s len h = agree-refl s (blocksNamed [])
   released-agree (b ∷ bs) s len h =
       let a = freed-agree s b len (h b (inl refl)) in
       agree-then a (released-agree bs (freed s n b) (a .size ∙ len) (λ x i. h x (inr i)))
-      (entries-more (b ∷ []) (b ∷ bs) (in-single b (b ∷ bs) (inl refl))) (entries-more bs (b ∷ bs) (λ x i. inr i))
+      (blocks-more (b ∷ []) (b ∷ bs) (in-single b (b ∷ bs) (inl refl))) (blocks-more bs (b ∷ bs) (λ x i. inr i))
 
   -- blocks taken
   linked-agree : (s : List ℕ) (a b : ℕ) → length s ≡ 512 * n → a < n → Agree s (linked s a b) (entriesNamed (changedEntries a (b ∷ [])))

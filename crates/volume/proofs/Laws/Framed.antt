@@ -1,6 +1,6 @@
 -- THE FRAME LAW: an accepted change on a sound image changes no byte outside its named blocks, and these are below n.
 use Prim.Native.Nat.{ℕ, _+_, _-_, _*_, _/_, _%_, _≤_, _<_, max}
-use mathlib.Core.Path.{_≡_, refl, _∙_}
+use mathlib.Core.Path.{_≡_, refl, _∙_, subst}
 use mathlib.Core.Bool.{Bool, true, _&&_}
 use mathlib.Core.List.{List, [], _∷_, _++_}
 use mathlib.Core.Logic.{_⊎_, inl, inr, ⊎-elim}
@@ -16,21 +16,21 @@ use Rattle.layout.specs.Table.{next, freeBlocks}
 use Rattle.layout.specs.Directory.{slotAt, typeOf, firstBlock, sizeOf, blocksOf, isFile, isDirectory, directory, fileBlocks, freeSlot, goodName}
 use Rattle.layout.specs.Check.{check}
 use Rattle.layout.specs.Paths.{parts, pathOk, leading, lastPart, shallow, home, pathSlot, entryOf, fileRefusal, directoryRefusal}
-use Rattle.volume.specs.Entries.{entryBytes, directoryMade, released, grown, entriesNamed}
+use Rattle.volume.specs.Entries.{entryBytes, directoryMade, released, grown, entriesNamed, blocksNamed}
 use Rattle.volume.specs.Create.{place, placeRefusal, createRefusal, createImage, createNamed}
 use Rattle.volume.specs.Write.{put, written, changedEntries, newSize, needed, newBlocks, setFile, writeAt, writeRefusal, writeNamed}
 use Rattle.volume.specs.Delete.{deleteAt, deleteNamed}
 use Rattle.volume.specs.Directories.{createDirectoryRefusal, newDirectoryBlocks, createDirectoryImage, createDirectoryNamed, deleteDirectoryRefusal}
 use Rattle.volume.specs.Change.{Change, create, write, delete, createDirectory, deleteDirectory, refusal, after, named}
 use Rattle.volume.proofs.Laws.Entries.{entry-length}
-use Rattle.volume.proofs.Laws.Frame.{entries-low, changed-below, written-in, taken-written, released-agree, grown-agree, put-agree}
+use Rattle.volume.proofs.Laws.Frame.{entries-low, blocks-in, blocks-below, changed-first, changed-below, written-in, taken-written, released-agree, grown-agree, put-agree}
 use Rattle.volume.proofs.Laws.Places.{At, file-at-path, directory-at-path, WriteGiven, write-given, path-levels, path-name, place-is, place-home, place-free}
 use Rattle.volume.proofs.Laws.Space.{new-fresh, new-length, all-below, last-below}
 use Rattle.layout.proofs.Laws.Bytes.{length-bytes4, length-bytes8, length-zeros}
 use Rattle.layout.proofs.Laws.Tests.{and-split, require-zero, firstOf-zero, within-split}
 use Rattle.layout.proofs.Laws.Names.{padded-length}
 use Rattle.layout.proofs.Laws.Lists.{In, in-left, in-right, in-append, in-has-eqb, has-eqb-in, in-single, getD-in}
-use Rattle.layout.proofs.Laws.Chains.{in-chain}
+use Rattle.layout.proofs.Laws.Chains.{Chain, in-chain}
 use Rattle.layout.proofs.Laws.Frames.{Agree, agree-more, agree-then, splice-agree}
 use Rattle.layout.proofs.Laws.Trees.{childOk-split, directoryOk-split}
 use Rattle.layout.proofs.Laws.Sound.{Sound, Entry, sound}
@@ -68,15 +68,15 @@ module _ (s : List ℕ) (S : Sound s) where
         }
 
     -- a chain is freed, and the entry zeroed
-    freed-framed : (c : Change) → named s c ≡ e / 512 ∷ entriesNamed (fileBlocks s e) → after s c ≡ deleteAt s e → ((x : ℕ) → In x (fileBlocks s e) → x < n) → Framed s c
+    freed-framed : (c : Change) → named s c ≡ e / 512 ∷ blocksNamed (fileBlocks s e) → after s c ≡ deleteAt s e → ((x : ℕ) → In x (fileBlocks s e) → x < n) → Framed s c
     unfolding deleteAt
     freed-framed c q r below =
         let a = released-agree n (S .least) (fileBlocks s e) s (S .whole) below in
         let l = length-zeros 128 in
-        framed-by c (entriesNamed (fileBlocks s e)) q
+        framed-by c (blocksNamed (fileBlocks s e)) q
         (rw r (agree-then a (slot-agree (released s n (fileBlocks s e)) e (zeros 128) (a .size ∙ S .whole) (omega arith) (omega arith)) (λ x m. inr m)
-        (in-single (e / 512) (e / 512 ∷ entriesNamed (fileBlocks s e)) (inl refl))))
-        (λ b m. omega (arith, entries-low n (fileBlocks s e) below b m, S .least))
+        (in-single (e / 512) (e / 512 ∷ blocksNamed (fileBlocks s e)) (inl refl))))
+        (blocks-below n (fileBlocks s e) below (S .least))
 
   -- where a path's entry stands
   pub at-entry : (type : ℕ → Bool) (path : List ℕ) → At type s path → Entry s (entryOf type s path)
@@ -110,22 +110,27 @@ module _ (s : List ℕ) (S : Sound s) where
       typed A = unfold entryOf in A .named .typed
 
   -- the blocks of a directory, by its entry
-  child-below-n : (path : List ℕ) → At isDirectory s path → (x : ℕ) → In x (fileBlocks s (entryOf isDirectory s path)) → x < n
-  unfolding fileBlocks entryOf
-  child-below-n path A x i =
+  pub child-chain : (path : List ℕ) → At isDirectory s path → Chain (next s) n (firstBlock s (entryOf isDirectory s path)) (blocksOf s (entryOf isDirectory s path))
+  unfolding entryOf
+  child-chain path A =
       let b : ℕ = home s path in
       let k : ℕ = pathSlot isDirectory s path in
       let e : ℕ = slotAt (directory s b) k in
       let v = childOk-split s n b e (S .tree .local (b, A .level) (A .home-in) .child e (children-in s b k (A .named .low) (A .named .high) (A .named .typed))) in
       let D = directoryOk-split s n (firstBlock s e) b (v .0) in
-      let r = in-chain (next s) (firstBlock s e) (blocksOf s e) x i in
-      rw (r .2) (D .chained .below (r .0) (omega (arith, v .1, r .1)))
+      subst (Chain (next s) n (firstBlock s e)) (v .1) (D .chained)
+
+  child-below : (path : List ℕ) → At isDirectory s path → (x : ℕ) → In x (fileBlocks s (entryOf isDirectory s path)) → x < n
+  unfolding fileBlocks
+  child-below path A x i =
+      let r = in-chain (next s) (firstBlock s (entryOf isDirectory s path)) (blocksOf s (entryOf isDirectory s path)) x i in
+      rw (r .2) (child-chain path A .below (r .0) (r .1))
 
   delete-directory-framed : (path : List ℕ) → deleteDirectoryRefusal s path ≡ 0 → Framed s (deleteDirectory path)
   unfolding after named deleteNamed deleteDirectoryRefusal
   delete-directory-framed path r =
       let A = directory-at-path s path (firstOf-zero (directoryRefusal s path) _ r .0) in
-      freed-framed (entryOf isDirectory s path) (at-entry isDirectory path A) (deleteDirectory path) refl refl (child-below-n path A)
+      freed-framed (entryOf isDirectory s path) (at-entry isDirectory path A) (deleteDirectory path) refl refl (child-below path A)
 
   module _ (path : List ℕ) (type user group permissions flags time d : ℕ) (r : createDirectoryRefusal s path type d ≡ 0) where
     record CreateDirectoryGiven : Type 0 where
@@ -160,6 +165,10 @@ module _ (s : List ℕ) (S : Sound s) where
     in-taken t q at p ns len i low high sub =
         agree-more (splice-agree t q at p (omega (arith, fresh-taken .below q i)) low high) (λ x m. sub x (in-single q taken-blocks i x m))
 
+    same-entries : (x : ℕ) → In x (taken-blocks ++ entriesNamed (changedEntries 0 taken-blocks)) → In x (blocksNamed taken-blocks)
+    unfolding blocksNamed
+    same-entries x m = subst (λ (bs : List ℕ). In x (taken-blocks ++ entriesNamed bs)) (changed-first taken-blocks) m
+
     create-directory-framed : Framed s (createDirectory path type user group permissions flags time d)
     unfolding after named createDirectoryImage createDirectoryNamed newDirectoryBlocks directoryMade slotAt changedEntries
     create-directory-framed =
@@ -169,13 +178,13 @@ module _ (s : List ℕ) (S : Sound s) where
         let name = lastPart (parts path) in
         let new = taken-blocks in
         let b₁ : ℕ = getD new 0 0 in
-        let rest : List ℕ = new ++ entriesNamed new in
+        let rest : List ℕ = blocksNamed new in
         let ns : List ℕ = e / 512 ∷ rest in
-        let sub : (x : ℕ) → In x new → In x ns = λ x i. inr (in-left x new (entriesNamed new) i) in
+        let sub : (x : ℕ) → In x new → In x ns = λ x i. inr (blocks-in new x i) in
         let eighty = padded-length name (g .good) in
         let L = many-taken in
         let larger = grown s n 0 new in
-        let a : Agree s larger ns = agree-more (grown-agree n (S .least) new s 0 (S .whole) (omega (arith, S .least)) (fresh-taken .below)) (λ x i. inr (same-entries new x i)) in
+        let a : Agree s larger ns = agree-more (grown-agree n (S .least) new s 0 (S .whole) (omega (arith, S .least)) (fresh-taken .below)) (λ x i. inr (same-entries x i)) in
         let p₁ : List ℕ = entryBytes 1 0 0 0 b₁ (home s path) (length new) time 0 name in
         let l₁ = entry-length name eighty 1 0 0 0 b₁ (home s path) (length new) time 0 in
         let t₁ = splice larger (512 * b₁) p₁ in
@@ -190,11 +199,7 @@ module _ (s : List ℕ) (S : Sound s) where
         let l₃ = entry-length name eighty type user group permissions b₁ 0 d time flags in
         framed-by e E (createDirectory path type user group permissions flags time d) rest refl
         (agree-then c (slot-agree e E made e p₂ (c .size ∙ S .whole) (omega arith) (omega arith)) (λ x i. i) (in-single (e / 512) ns (inl refl)))
-        (λ x i. ⊎-elim (λ j. fresh-taken .below x j) (λ j. omega (arith, entries-low n new (fresh-taken .below) x j, S .least)) (in-append x new (entriesNamed new) i))
-      where
-        same-entries : (bs : List ℕ) (x : ℕ) → In x (bs ++ entriesNamed (changedEntries 0 bs)) → In x (bs ++ entriesNamed bs)
-        same-entries [] x m = m
-        same-entries (y ∷ bs) x m = m
+        (blocks-below n new (fresh-taken .below) (S .least))
 
   module _ (path : List ℕ) (offset : ℕ) (bytes : List ℕ) (time : ℕ) (r : writeRefusal s path offset (length bytes) ≡ 0) where
     given : WriteGiven s path offset (length bytes)

@@ -1,19 +1,21 @@
 -- The steps of a delete: each frees the first block of the chain.
-use Prim.Native.Nat.{ℕ, zero, suc, _+_, _-_, _*_, _≤_, _<_}
+use Prim.Native.Nat.{ℕ, zero, suc, _-_, _*_, _<_}
 use mathlib.Core.Path.{_≡_, sym, _∙_}
 use mathlib.Core.List.{List}
-use mathlib.Core.Logic.{inl, inr, _≢_}
+use mathlib.Core.Logic.{inl, inr, ⊎-elim, _≢_}
 use native.Mathlib.Omega.{arith}
 use lib.ListN.{length}
-use Rattle.layout.specs.Geometry.{blockCount}
+use Rattle.layout.specs.Geometry.{blockCount, tableBlocks}
 use Rattle.layout.specs.Table.{next, chain}
 use Rattle.layout.specs.Directory.{firstBlock}
 use Rattle.volume.specs.Entries.{released, freed}
 use Rattle.volume.proofs.Laws.Table.{freed-size, freed-same, freed-at, freed-other, freed-used, freed-free}
+use Rattle.layout.proofs.Laws.Lists.{In}
+use Rattle.layout.proofs.Laws.Tests.{lt-or-gt}
 use Rattle.layout.proofs.Laws.Frames.{same-then}
 use Rattle.layout.proofs.Laws.Chains.{Chain, chain-used, rest-same}
 use Rattle.layout.proofs.Laws.Tables.{table-popped}
-use Rattle.layout.proofs.Laws.Sound.{heldAt, Sound}
+use Rattle.layout.proofs.Laws.Sound.{heldAt, Sound, blocksOfAll}
 use Rattle.layout.proofs.Laws.Steps.{over, over-same, over-other, Midway, Staying, kept-above, dir-apart}
 
 module _ (s : List ℕ) (S : Sound s) (ks : List (ℕ × ℕ)) (P : ℕ → Type 0) (k : ℕ) (St : Staying s ks P k) where
@@ -34,28 +36,35 @@ module _ (s : List ℕ) (S : Sound s) (ks : List (ℕ × ℕ)) (P : ℕ → Type
     bn : b < n
     bn = mine .below 0 (omega arith)
 
-    fit : 512 + 4 * b + 4 ≤ length t
-    fit = omega (arith, I .len, S .whole, S .least, bn)
+    tb : tableBlocks n < b
+    tb = mine .above 0 (omega arith)
+
+    whole : length t ≡ 512 * n
+    whole = I .len ∙ S .whole
 
     used-b : next t b ≢ 0
     used-b = chain-used (next t) n b (suc c) mine (S .least) 0 (omega arith)
 
+    away : (q : ℕ) → In q (blocksOfAll s ks) → q ≢ b
+    away q i = dir-apart s S ks P k St t b (suc c) I q i 0 (omega arith)
+
     freed-step : Midway s ks P k (freed t n b) (next t b) c
     freed-step =
         record {
-          len = freed-size t n b fit ∙ I .len;
-          head = same-then s t (freed t n b) 0 20 (I .head) (freed-same t n b fit 0 20 (inl (omega arith)) (inl (omega arith)));
-          tail = same-then s t (freed t n b) 28 4 (I .tail) (freed-same t n b fit 28 4 (inr (omega arith)) (inl (omega arith)));
+          len = freed-size n (S .least) t b whole bn tb ∙ I .len;
+          head = same-then s t (freed t n b) 0 20 (I .head) (freed-same n (S .least) t b whole bn tb 0 20 (inl (omega arith)) (inl (omega arith)));
+          tail = same-then s t (freed t n b) 28 4 (I .tail) (freed-same n (S .least) t b whole bn tb 28 4 (inr (omega arith)) (inl (omega arith)));
           kept = λ q i.
               let w = kept-above s S ks P k St q i in
-              same-then s t (freed t n b) (512 * q) 512 (I .kept q i) (freed-same t n b fit (512 * q) 512 (inr (omega arith)) (inr (omega (arith, bn))));
-          values = λ q i. freed-other t n b fit q (dir-apart s S ks P k St t b (suc c) I q i 0 (omega arith)) ∙ I .values q i;
+              same-then s t (freed t n b) (512 * q) 512 (I .kept q i) (freed-same n (S .least) t b whole bn tb (512 * q) 512 (inr (omega arith))
+              (inr (omega arith, ⊎-elim (λ p. inl (omega arith)) (λ p. inr (omega arith)) (lt-or-gt q b (away q i)))));
+          values = λ q i. freed-other n (S .least) t b whole bn tb q (omega (arith, kept-above s S ks P k St q i .1)) (away q i) ∙ I .values q i;
           table = table-popped n P (next t) (over k b f) (over k (suc c) l) (I .table) (S .least) k (St .owner) (next (freed t n b)) (over k (next t b) f) (over k c l)
               (λ j h ne. over-other k (next t b) f j ne ∙ sym (over-other k b f j ne)) (λ j h ne. over-other k c l j ne ∙ sym (over-other k (suc c) l j ne))
-              (rw (over-same k (suc c) l) (omega arith)) (rw (over-same k b f) (freed-at t n b fit)) (λ x h ne. freed-other t n b fit x (rw (over-same k b f) at ne))
+              (rw (over-same k (suc c) l) (omega arith)) (rw (over-same k b f) (freed-at n (S .least) t b whole bn tb)) (λ x h ne. freed-other n (S .least) t b whole bn tb x h (rw (over-same k b f) at ne))
               (rw (over-same k (next t b) f, over-same k b f)) (omega (arith, over-same k c l, over-same k (suc c) l));
-          used = freed-used t n b fit bn used-b (I .used) (S .most);
-          free = freed-free t n b fit bn used-b (I .used) (S .most);
+          used = freed-used n (S .least) t b whole bn tb used-b (I .used) (S .most);
+          free = freed-free n (S .least) t b whole bn tb used-b (I .used) (S .most);
         }
 
   -- then all of them
@@ -65,6 +74,6 @@ module _ (s : List ℕ) (S : Sound s) (ks : List (ℕ × ℕ)) (P : ℕ → Type
   released-steps (suc c) t b I =
       let e : suc c - 1 ≡ c = omega arith in
       let q : chain (next (freed t n b)) (next t b) c ≡ chain (next t) (next t b) c =
-      rw e at (rest-same (next t) (next (freed t n b)) n b (suc c) (mine t b c I) (S .least) (omega arith) (λ x h ne. freed-other t n b (fit t b c I) x ne)) in
+      rw e at (rest-same (next t) (next (freed t n b)) n b (suc c) (mine t b c I) (S .least) (omega arith) (λ x h ne. freed-other n (S .least) t b (whole t b c I) (bn t b c I) (tb t b c I) x (omega arith) ne)) in
       let r = released-steps c (freed t n b) (next t b) (freed-step t b c I) in
       (r .0, rw q at (r .1))

@@ -321,6 +321,9 @@ module _ (s : List ℕ) (S : Sound s) (d : ℕ × ℕ) (di : In d (dirs s)) (k :
     done-next : (y : ℕ) → y < 128 * tableBlocks n → next done y ≡ next larger y
     done-next y h = before-next full done n (outside 0 (512 * rootBlock n) (inl (omega (arith, entry-low s S e mine)))) y h ∙ full-next y h
 
+    pub written-table : (y : ℕ) → y < 128 * tableBlocks n → next (writeAt s e offset bytes time) y ≡ next larger y
+    written-table y h = rw write-is (done-next y h)
+
     done-blocks : fileBlocks done e ≡ old ++ new
     unfolding fileBlocks
     done-blocks =

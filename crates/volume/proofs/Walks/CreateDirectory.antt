@@ -1,6 +1,6 @@
 -- What the code of making a directory tests and writes.
 use Prim.Native.Nat.{ℕ, _+_, _-_, _*_, _/_, _%_, _≤_, _<_}
-use mathlib.Core.Path.{_≡_, refl, sym, ap, _∙_}
+use mathlib.Core.Path.{_≡_, sym, ap, _∙_}
 use mathlib.Core.Bool.{true, false, _&&_, and-false}
 use mathlib.Core.List.{List, [], _∷_, _++_}
 use native.Mathlib.Omega.{arith}
@@ -25,12 +25,13 @@ use Rattle.layout.proofs.Laws.Owners.{free-count}
 use Rattle.layout.proofs.Walks.Homes.{given-home}
 use Rattle.layout.proofs.Walks.Shapes.{sound-shape}
 use Rattle.layout.proofs.Laws.Sound.{sound}
-use Rattle.volume.specs.Entries.{entryBytes, directoryMade, grown, entriesNamed}
+use Rattle.volume.specs.Entries.{entryBytes, directoryMade, grown, entriesNamed, blocksNamed}
 use Rattle.volume.specs.Create.{placeRefusal}
 use Rattle.volume.specs.Write.{changedEntries}
 use Rattle.volume.specs.Directories.{createDirectoryRefusal, newDirectoryBlocks, createDirectoryImage, createDirectoryNamed}
 use Rattle.volume.specs.Walks.Places.{Vacant}
 use Rattle.volume.specs.Walks.Marks.{marked}
+use Rattle.volume.proofs.Laws.Frame.{changed-first}
 use Rattle.volume.proofs.Laws.Places.{path-levels, place-there}
 use Rattle.volume.proofs.Laws.Taken.{taken-many}
 use Rattle.volume.proofs.Walks.Places.{form-first}
@@ -99,14 +100,9 @@ module _ {s path : List ℕ} {h k b : ℕ} (v : Vacant s path h k b) (d : ℕ) (
   abbrev new : List ℕ
   new = take d (freeBlocks (next s) (blockCount s))
 
-  same-entries : (bs : List ℕ) → entriesNamed (changedEntries 0 bs) ≡ entriesNamed bs
-  unfolding changedEntries
-  same-entries [] = refl
-  same-entries (x ∷ bs) = refl
-
   pub create-directory-marked : (m : List ℕ) → marked (marked m (b ∷ [])) (new ++ entriesNamed (changedEntries 0 new)) ≡ marked m (createDirectoryNamed s path d)
-  unfolding marked createDirectoryNamed newDirectoryBlocks
-  create-directory-marked m = rw (same-entries new, vacant-block v)
+  unfolding marked createDirectoryNamed newDirectoryBlocks blocksNamed
+  create-directory-marked m = rw (changed-first new, vacant-block v)
 
   -- the blocks that are written lie in the image
   home-below : PathGiven s path → placeRefusal s path ≡ 0 → h < blockCount s

@@ -1,6 +1,6 @@
 -- What the code of removing a directory tests: the directory of an accepted path, with its chain.
 use Prim.Native.Nat.{ℕ, suc, _-_, _*_}
-use mathlib.Core.Path.{_≡_, sym, subst}
+use mathlib.Core.Path.{_≡_, sym}
 use mathlib.Core.Bool.{true, false, not}
 use mathlib.Core.List.{List}
 use lib.ListN.{length}
@@ -10,7 +10,7 @@ use Rattle.layout.specs.Limits.{maxLevels}
 use Rattle.layout.specs.Refusals.{require}
 use Rattle.layout.specs.Geometry.{blockCount}
 use Rattle.layout.specs.Table.{next, chainOk}
-use Rattle.layout.specs.Directory.{slotAt, firstBlock, blocksOf, isDirectory, isEmpty, directory, dirs}
+use Rattle.layout.specs.Directory.{firstBlock, blocksOf, isDirectory, isEmpty, dirs}
 use Rattle.layout.specs.Check.{check}
 use Rattle.layout.specs.Paths.{parts, pathOk, leading, shallow, home, pathSlot, entryOf, directoryRefusal}
 use Rattle.layout.specs.Walks.Looks.{Located}
@@ -20,12 +20,11 @@ use Rattle.volume.specs.Walks.Drops.{Droppable}
 use Rattle.layout.proofs.Laws.Tests.{require-zero, firstOf-zero, firstOf-refused}
 use Rattle.layout.proofs.Laws.Lists.{In}
 use Rattle.layout.proofs.Laws.Chains.{chainOk-join}
-use Rattle.layout.proofs.Laws.Trees.{sizeAt, childOk-split, directoryOk-split}
 use Rattle.layout.proofs.Laws.Sound.{sound}
-use Rattle.layout.proofs.Laws.Slots.{children-in}
 use Rattle.layout.proofs.Laws.Goes.{gone-in}
 use Rattle.layout.proofs.Laws.Paths.{path-named, path-home}
 use Rattle.layout.proofs.Walks.Homes.{sound-directory}
+use Rattle.volume.proofs.Laws.Framed.{child-chain}
 use Rattle.volume.proofs.Laws.Places.{path-levels, directory-at-path}
 use Rattle.volume.proofs.Walks.Delete.{droppable}
 
@@ -55,16 +54,7 @@ module _ (s path : List ℕ) where
         )
 
     child-chained : check s ≡ 0 → chainOk (next s) (blockCount s) (firstBlock s (entryOf isDirectory s path)) (blocksOf s (entryOf isDirectory s path)) ≡ true
-    unfolding entryOf
-    child-chained ok =
-        let A = directory-at-path s path z in
-        let n : ℕ = blockCount s in
-        let b : ℕ = home s path in
-        let k : ℕ = pathSlot isDirectory s path in
-        let e : ℕ = slotAt (directory s b) k in
-        let v = childOk-split s n b e (sound s ok .tree .local (b, A .level) (A .home-in) .child e (children-in s b k (A .named .low) (A .named .high) (A .named .typed))) in
-        let D = directoryOk-split s n (firstBlock s e) b (v .0) in
-        subst (λ (x : ℕ). chainOk (next s) n (firstBlock s e) x ≡ true) (v .1) (chainOk-join (next s) n (firstBlock s e) (sizeAt s (firstBlock s e)) (D .chained))
+    child-chained ok = chainOk-join (next s) (blockCount s) _ _ (child-chain s (sound s ok) path (directory-at-path s path z))
 
     module _ {slot b first size blocks : ℕ} (l : Located isDirectory s path slot b first size blocks) where
       pub child-at : check s ≡ 0 → DirectoryAt s (blockCount s) first (blocksOf s (512 * first))

@@ -60,7 +60,8 @@ pub fn edges(rng: &mut Rng, _: u64, t: &mut Tester) {
     longest_journals(rng, t);
     most_records(rng, t);
     largest_record(rng, t);
-    widest_changes(rng, t);
+    widest_writes(rng, t);
+    widest_delete(rng, t);
     largest_file(rng, t);
     let most = 512 * MAX_BLOCKS;
     for len in [0, 1, 511, 512, 1024, 1535, 1536, 1537, 2_097_152, most, most + 1, most + 512] {
@@ -165,23 +166,45 @@ fn nearly_full(rng: &mut Rng) -> Vec<u8> {
 }
 
 /// The write that names the most blocks, from the file's last block over eight
-/// more, and a delete with entries in every table block.
-fn widest_changes(rng: &mut Rng, t: &mut Tester) {
+/// more, and a write within the largest file.
+fn widest_writes(rng: &mut Rng, t: &mut Tester) {
     let image = nearly_full(rng);
     let state = State { image, journal: reference::start(400_000).unwrap() };
     let data = rng.bytes(MAX_DATA);
     let near_end = u64::from(files(&state.image)[1].blocks) * 512 - MAX_DATA as u64;
-    for (change, blocks) in [
-        (write(b"/small", 1, &data), 1 + 1 + 9 + 9),
-        (write(b"/large", near_end, &data), 1 + 8),
-        // The entries of the first four table blocks are those of header, table and root.
-        (delete(b"/large"), 1 + 1 + 508),
-    ] {
-        t.report.about(format!("a change of {blocks} blocks"));
+    for (change, blocks) in
+        [(write(b"/small", 1, &data), 1 + 1 + 9 + 9), (write(b"/large", near_end, &data), 1 + 8)]
+    {
+        t.report.about(format!("a write of {blocks} blocks"));
         t.change(&state, &change);
         let after = reference::apply(&state, &change).unwrap();
         t.report.agree("record", after.record, 4 + 516 * blocks);
         t.undo(&after.state);
+    }
+}
+
+/// The delete that names the most blocks, of the largest file that there can
+/// be, with a journal that its record just fits into and just does not.
+fn widest_delete(rng: &mut Rng, t: &mut Tester) {
+    let mut image = build(rng, MAX_BLOCKS, 1, Fill::Empty);
+    let slots = slot_offsets(&image, root(&image));
+    let mut pool = free_blocks(&image);
+    rng.shuffle(&mut pool);
+    put_file(rng, &mut image, slots[2], b"all", pool.len() * BLOCK, &mut pool);
+    put_header(&mut image);
+    // Directory block, block 0, the file's blocks, and the table blocks but for
+    // the first four, whose entries are those of header, table and root.
+    let record = 4 + 516 * (1 + 1 + 65_022 + 508);
+    for (less, number) in [(1, 15), (0, 0)] {
+        t.report.about(format!("the largest delete, {less} bytes missing"));
+        let journal = reference::start(5 + record - less).unwrap();
+        let state = State { image: image.clone(), journal };
+        let got = t.change(&state, &delete(b"/all"));
+        t.report.agree("plan", got, number);
+        if let Ok(after) = reference::apply(&state, &delete(b"/all")) {
+            t.report.agree("record", after.record as usize, record);
+            t.undo(&after.state);
+        }
     }
 }
 

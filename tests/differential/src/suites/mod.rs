@@ -1,5 +1,6 @@
 //! The suites. Each runs in rounds; a round depends on its number alone.
 
+mod blank;
 mod broken;
 mod fixed;
 mod kept;
@@ -43,6 +44,7 @@ pub const SUITES: &[Suite] = &[
     Suite { name: "tables_largest", rounds: |_| 1, run: tables::largest },
     Suite { name: "order", rounds: |n| n.div_ceil(25), run: order::all },
     Suite { name: "kept", rounds: |n| n.div_ceil(5), run: kept::run },
+    Suite { name: "blank", rounds: |n| n, run: blank::run },
     Suite { name: "runs", rounds: |n| n, run: runs::run },
     Suite { name: "long", rounds: |n| n.div_ceil(250), run: runs::long },
     Suite { name: "large", rounds: |n| n.div_ceil(50), run: runs::large },

@@ -53,7 +53,7 @@ fn maybe_damage(rng: &mut Rng, reasons: &[u32], image: &mut Vec<u8>) -> u32 {
 
 /// A journal with room for any record, or for none, well formed or not.
 fn journal_for(rng: &mut Rng, reasons: &[u32], image: &[u8], records: usize) -> Vec<u8> {
-    let spare = if reasons.contains(&15) { rng.below(520) } else { 12_000 };
+    let spare = if reasons.contains(&15) { rng.below(520) } else { journals::room_for_all(image) };
     let mut journal = journals::with_records(rng, image, records, spare);
     if reasons.contains(&8) {
         if rng.once_in(2) {

@@ -2,6 +2,7 @@
 //! reference's replay after every call. Each call of the library has a small
 //! stack.
 
+use super::blank;
 use crate::arguments::*;
 use crate::ffi;
 use crate::images::{self, build, Fill};
@@ -41,7 +42,11 @@ pub fn run(rng: &mut Rng, round: u64, t: &mut Tester) {
         1 => rng.pick(&[127, 128, 129, 140, 260]),
         _ => rng.between(9, 60),
     };
-    let image = if rng.once_in(3) { build(rng, n, 1, Fill::Empty) } else { images::of(rng, n) };
+    let image = match rng.below(6) {
+        0 | 1 => build(rng, n, 1, Fill::Empty),
+        2 => blank::image(rng, n),
+        _ => images::of(rng, n),
+    };
     let length = match rng.below(5) {
         0 => rng.between(5, 3000),
         1 => rng.between(3000, 20_000),
@@ -81,10 +86,14 @@ fn play(rng: &mut Rng, t: &mut Tester, image: Vec<u8>, length: usize, mix: &Mix,
     let first = State { image, journal };
     let mut replay = Replay::new(first.clone());
     let mut pair = t.lend_pair(&first);
+    let blank = blank::is_blank(&first.image);
     for step in 0..calls {
         let call = any_call(rng, &replay, mix);
         t.report.about(format!("{about} call {step}: {}", brief(&call)));
         make(t, &mut pair, &mut replay, &call);
+        if blank {
+            t.report.agree("blank free blocks", blank::is_blank(pair.image.content()), true);
+        }
     }
     t.report.about(format!("{about} undo of all that stands"));
     for _ in 0..=replay.standing().len() {

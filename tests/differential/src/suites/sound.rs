@@ -82,8 +82,9 @@ fn look_at_all(rng: &mut Rng, t: &mut Tester, image: &[u8]) {
 
 /// Journals that a record just fits into, and just does not.
 fn exact_room(rng: &mut Rng, t: &mut Tester, image: &[u8]) {
+    let room = journals::room_for_all(image);
     for change in changes(rng, image) {
-        let roomy = State { image: image.to_vec(), journal: reference::start(60_000).unwrap() };
+        let roomy = State { image: image.to_vec(), journal: reference::start(room).unwrap() };
         if let Ok(applied) = reference::apply(&roomy, &change) {
             for less in [0, 1, 4] {
                 let journal = journals::with_records(rng, image, 1, applied.record as usize - less);

@@ -1,0 +1,240 @@
+-- The blocks that are free after a change (L7): those that it freed hold only zeros, those that were free before hold what they held.
+use Prim.Native.Nat.{ℕ, suc, _+_, _-_, _*_, _/_, _≤_, _<_}
+use mathlib.Core.Path.{_≡_, refl, sym, ap, _∙_, subst}
+use mathlib.Core.Bool.{true, false, _&&_}
+use mathlib.Core.List.{List, [], _∷_, _++_}
+use mathlib.Core.Logic.{_⊎_, inl, inr, ⊎-elim, _≢_}
+use native.Mathlib.Omega.{arith}
+use lib.ListN.{length, getD, take}
+use lib.Dec.{eqb, leb}
+use borrow.Author.Tests.{eqb-true, leb-true}
+use Rattle.layout.specs.Limits.{maxBlocks, maxLevels, maxDirectory}
+use Rattle.layout.specs.Lists.{within, has, distinct, lastOr}
+use Rattle.layout.specs.Bytes.{block, zeros, splice}
+use Rattle.layout.specs.Geometry.{blockCount, tableBlocks, rootBlock}
+use Rattle.layout.specs.Table.{next, freeBlocks}
+use Rattle.layout.specs.Directory.{slotAt, typeOf, firstBlock, blocksOf, isFile, isDirectory, directory, dirs, fileBlocks, freeSlot}
+use Rattle.layout.specs.Check.{check}
+use Rattle.layout.specs.Paths.{parts, pathOk, leading, lastPart, shallow, home, pathSlot, entryOf, fileRefusal, directoryRefusal}
+use Rattle.volume.specs.Entries.{directoryMade, released, taken, grown, entriesNamed, blocksNamed}
+use Rattle.volume.specs.Create.{place, placeRefusal, createRefusal, createImage, createNamed}
+use Rattle.volume.specs.Write.{written, changedEntries, newBlocks, writeAt, writeRefusal, writeNamed}
+use Rattle.volume.specs.Delete.{deleteAt, deleteNamed}
+use Rattle.volume.specs.Directories.{createDirectoryRefusal, newDirectoryBlocks, createDirectoryImage, createDirectoryNamed, deleteDirectoryRefusal}
+use Rattle.volume.specs.Change.{Change, create, write, delete, createDirectory, deleteDirectory, refusal, after, named}
+use Rattle.volume.specs.Claims.{Blanked}
+use Rattle.layout.proofs.Laws.Tests.{and-split, true-or-false, true-not-false, lt-or-ge, require-zero, firstOf-zero, within-split}
+use Rattle.layout.proofs.Laws.Bytes.{length-zeros, getD-zeros, getD-part, getD-splice-before, getD-splice-inside, getD-splice-after, part-same, length-splice}
+use Rattle.layout.proofs.Laws.Lists.{In, in-append, has-eqb-in, in-has-eqb, last-in, head-apart, tail-distinct}
+use Rattle.layout.proofs.Laws.Frames.{Agree, agree-block, agree-next, before-next, same-below}
+use Rattle.layout.proofs.Laws.Joins.{of-join}
+use Rattle.layout.proofs.Laws.Chains.{Chain, chain-used, chain-distinct, chainOk-split, in-chain}
+use Rattle.layout.proofs.Laws.Visits.{blocksIn, dirBlocks}
+use Rattle.layout.proofs.Laws.Trees.{sizeAt, in-directory}
+use Rattle.layout.proofs.Laws.Sound.{Sound, Entry, sound}
+use Rattle.layout.proofs.Laws.Slots.{entry-low, entry-high, right-dir}
+use Rattle.layout.proofs.Laws.Owners.{Fresh, free-fresh, file-used, file-chained}
+use Rattle.volume.proofs.Laws.Table.{taken-length, taken-first, taken-zeros, released-next, released-zero}
+use Rattle.volume.proofs.Laws.Frame.{entries-low, blocks-not, written-in, changed-below, released-agree}
+use Rattle.volume.proofs.Laws.Framed.{frame, at-entry, place-entry, child-chain}
+use Rattle.volume.proofs.Laws.Places.{At, file-at-path, directory-at-path, path-levels, path-name, place-is, place-home, place-free, place-new, write-given}
+use Rattle.volume.proofs.Laws.CreateDirectory.{made-table}
+use Rattle.volume.proofs.Laws.Space.{new-fresh, last-below}
+use Rattle.volume.proofs.Laws.Write.{written-table}
+
+-- a block that is free after blocks were taken was free before, and is none of them
+module _ (n : ℕ) (n₁ : 3 ≤ n) (most : n ≤ maxBlocks) where
+  pub grown-free : (bs s : List ℕ) (a y : ℕ) → length s ≡ 512 * n → a < n → (0 < a → next s a ≢ 0) → Fresh n (next s) bs → y < n → next (grown s n a bs) y ≡ 0
+      → (next s y ≡ 0) × (In y bs → ⊥)
+  unfolding grown
+  grown-free [] s a y len an used F yn z = (z, λ i. i)
+  grown-free (x ∷ bs) s a y len an used F yn z =
+      let xn = F .below x (inl refl) in
+      let tx = F .above x (inl refl) in
+      let first = taken-first n n₁ s a x len an xn tx (F .empty x (inl refl)) used most in
+      let same = taken-zeros n n₁ s a x len an xn tx (F .empty x (inl refl)) used most in
+      let apart : (q : ℕ) → In q bs → q ≢ x = λ q i e. head-apart x bs (F .distinct-all) (subst (λ (w : ℕ). In w bs) e i) in
+      let rest : Fresh n (next (taken s n a x)) bs = record {
+        above = λ q i. F .above q (inr i);
+        below = λ q i. F .below q (inr i);
+        empty = λ q i. eqb-true _ _ (same q (F .below q (inr i)) (apart q i) ∙ ap (λ (w : ℕ). eqb w 0) (F .empty q (inr i)));
+        distinct-all = tail-distinct x bs (F .distinct-all);
+      } in
+      let r = grown-free bs (taken s n a x) x y (taken-length n n₁ s a x len an xn) xn (λ pos e. omega (arith, first)) rest yn z in
+      let ne : y ≢ x = λ e. omega (arith, first, ap (next (taken s n a x)) e, r .0) in
+      (eqb-true _ _ (sym (same y yn ne) ∙ ap (λ (w : ℕ). eqb w 0) (r .0)), λ m. ⊎-elim ne (r .1) m)
+
+-- zeros stay zeros when zeros are written into them
+zeroed-again : (t : List ℕ) (e b : ℕ) → e + 128 ≤ length t → 512 * b + 512 ≤ length t → block t b ≡ zeros 512 → block (splice t e (zeros 128)) b ≡ zeros 512
+zeroed-again t e b fit inside blank =
+    let l = length-zeros 128 in
+    part-same t (splice t e (zeros 128)) (512 * b) (512 * b) 512 (λ i h. go i h (lt-or-ge (512 * b + i) e) (lt-or-ge (512 * b + i) (e + 128))) inside
+    (omega (arith, length-splice t e (zeros 128) (omega arith))) ∙ blank
+  where
+    was : (i : ℕ) → i < 512 → getD t (512 * b + i) 0 ≡ 0
+    was i h = sym (getD-part t (512 * b) 512 i h) ∙ ap (λ (p : List ℕ). getD p i 0) blank ∙ getD-zeros 512 i
+
+    go : (i : ℕ) → i < 512 → (512 * b + i < e) ⊎ (e ≤ 512 * b + i) → (512 * b + i < e + 128) ⊎ (e + 128 ≤ 512 * b + i) → getD (splice t e (zeros 128)) (512 * b + i) 0 ≡ getD t (512 * b + i) 0
+    go i h (inl p) q = getD-splice-before t e (zeros 128) (omega (arith, length-zeros 128)) (512 * b + i) p
+    go i h (inr p) (inr q) = getD-splice-after t e (zeros 128) (omega (arith, length-zeros 128)) (512 * b + i) (omega (arith, length-zeros 128))
+    go i h (inr p) (inl q) =
+        let k : ℕ = 512 * b + i - e in
+        let there : 512 * b + i ≡ e + k = omega arith in
+        rw there (getD-splice-inside t e (zeros 128) (omega (arith, length-zeros 128)) k (omega (arith, length-zeros 128)) ∙ getD-zeros 128 k) ∙ sym (was i h)
+
+-- a change of the entry at e
+module _ (s : List ℕ) (S : Sound s) where
+  abbrev n : ℕ
+  n = blockCount s
+
+  low-used : (b : ℕ) → b ≤ tableBlocks n → next s b ≢ 0
+  low-used b h z = omega (arith, S .table .low b h)
+
+  free-above : (b : ℕ) → next s b ≡ 0 → tableBlocks n < b
+  free-above b z = ⊎-elim (λ h. h) (λ h. absurd (low-used b h z)) (lt-or-ge (tableBlocks n) b)
+
+  tree-used : (x : ℕ) → In x (dirBlocks s) → next s x ≢ 0
+  tree-used x m z =
+      let r = of-join (blocksIn s) (dirs s) x m in
+      let y = in-directory s (r .0 .0) x (r .2) in
+      chain-used (next s) n (r .0 .0) (sizeAt s (r .0 .0)) (right-dir s S (r .0) (r .1) .1 .chained) (S .least) (y .0) (y .1) (ap (next s) (sym (y .2)) ∙ z)
+
+  module _ (e : ℕ) (E : Entry s e) where
+    -- a block that is free after it was either in use and is zero, or free and not named
+    pub blanked : (s′ ns : List ℕ) → Agree s s′ (e / 512 ∷ ns)
+        → ((b : ℕ) → b < n → next s′ b ≡ 0 → ((next s b ≢ 0) × (block s′ b ≡ zeros 512)) ⊎ ((next s b ≡ 0) × (In b ns → ⊥))) → Blanked s s′
+    blanked s′ ns A f =
+        record {
+          freed = λ b bn u z. ⊎-elim (λ x. x .1) (λ x. absurd (u (x .0))) (f b bn z);
+          spared = λ b bn v z. ⊎-elim (λ x. absurd (x .0 v)) (λ x. agree-block b A (λ m. ⊎-elim (λ q. tree-used (e / 512) (E .within-tree) (ap (next s) (sym q) ∙ v)) (x .1) m)) (f b bn z);
+        }
+
+    -- blocks bs were taken, behind the block a; besides what they name, blocks in use are
+    pub grown-blanked : (s′ ns bs : List ℕ) (a : ℕ) → Agree s s′ (e / 512 ∷ ns) → a < n → (0 < a → next s a ≢ 0) → Fresh n (next s) bs
+        → ((y : ℕ) → y < 128 * tableBlocks n → next s′ y ≡ next (grown s n a bs) y) → ((b : ℕ) → next s b ≡ 0 → (In b bs → ⊥) → In b ns → ⊥) → Blanked s s′
+    grown-blanked s′ ns bs a A an used F table out =
+        blanked s′ ns A λ b bn z.
+        let g = grown-free n (S .least) (S .most) bs s a b (S .whole) an used F bn (sym (table b (omega (arith, S .least))) ∙ z) in
+        inr (g .0, out b (g .0) (g .1))
+
+    -- the entry and the chain bs went
+    pub deleted-blanked : (bs : List ℕ) → deleteAt s e ≡ splice (released s n bs) e (zeros 128) → Agree s (deleteAt s e) (e / 512 ∷ blocksNamed bs)
+        → ((q : ℕ) → In q bs → q < n) → ((q : ℕ) → In q bs → tableBlocks n < q) → ((q : ℕ) → In q bs → next s q ≢ 0) → distinct eqb bs ≡ true → Blanked s (deleteAt s e)
+    deleted-blanked bs is A below above used once = blanked (deleteAt s e) (blocksNamed bs) A λ b bn z. go b bn z (true-or-false (has eqb b bs))
+      where
+        size : length (released s n bs) ≡ 512 * n
+        size = released-agree n (S .least) bs s (S .whole) below .size ∙ S .whole
+
+        fits : e + length (zeros 128) ≤ length (released s n bs)
+        fits = omega (arith, length-zeros 128, size, S .whole, entry-high s S e E)
+
+        kept : (b : ℕ) → b < n → (In b bs → ⊥) → next (deleteAt s e) b ≡ next s b
+        kept b bn out =
+            rw is (before-next (released s n bs) (splice (released s n bs) e (zeros 128)) n
+            (same-below (released s n bs) e (zeros 128) fits 0 (512 * rootBlock n) (omega (arith, entry-low s S e E))) b (omega (arith, S .least)))
+            ∙ released-next n (S .least) bs s b (S .whole) below above (omega (arith, S .least)) out
+
+        go : (b : ℕ) → b < n → next (deleteAt s e) b ≡ 0 → (has eqb b bs ≡ true) ⊎ (has eqb b bs ≡ false)
+            → ((next s b ≢ 0) × (block (deleteAt s e) b ≡ zeros 512)) ⊎ ((next s b ≡ 0) × (In b (blocksNamed bs) → ⊥))
+        go b bn z (inl h) =
+            let i = has-eqb-in b bs h in
+            inl (used b i, rw is (zeroed-again (released s n bs) e b (omega (arith, size, S .whole, entry-high s S e E)) (omega (arith, size)) (released-zero n (S .least) bs s (S .whole) below above once b i)))
+        go b bn z (inr h) =
+            let out : In b bs → ⊥ = λ i. true-not-false (in-has-eqb b bs i) h in
+            let v : next s b ≡ 0 = sym (kept b bn out) ∙ z in
+            inr (v, blocks-not n bs below b (free-above b v) out)
+
+-- each kind of change
+module _ (s : List ℕ) (ok : check s ≡ 0) where
+  abbrev T : Sound s
+  T = sound s ok
+
+  create-blanked : (path : List ℕ) (type user group permissions flags time : ℕ) → createRefusal s path type ≡ 0 → Blanked s (createImage s path type user group permissions flags time)
+  unfolding refusal after named createNamed createRefusal
+  create-blanked path type user group permissions flags time r =
+      let a = require-zero (pathOk path && isFile type) 8 _ r in
+      let h = require-zero (shallow (leading (parts path))) 16 _ (a .1) in
+      let E = place-entry s T path (h .1) (h .0) in
+      let A = frame s (create path type user group permissions flags time) ok r .agree in
+      blanked s T (place s path) E (createImage s path type user group permissions flags time) [] A λ b bn z.
+      inr (sym (agree-next b A (λ m. ⊎-elim (λ q. omega (arith, T .least, entry-low s T (place s path) E)) (λ i. i) m)) ∙ z, λ i. i)
+
+  -- the data may go into old blocks too, and the block before the new ones is in use
+  write-blanked : (path : List ℕ) (offset : ℕ) (bytes : List ℕ) (time : ℕ) → writeRefusal s path offset (length bytes) ≡ 0
+      → Blanked s (writeAt s (entryOf isFile s path) offset bytes time)
+  unfolding refusal after named writeNamed entryOf
+  write-blanked path offset bytes time r =
+      let G = write-given s path offset (length bytes) r in
+      let A = G .there in
+      let N = A .named in
+      let k = pathSlot isFile s path in
+      let d : ℕ × ℕ = (home s path, A .level) in
+      let e : ℕ = slotAt (directory s (home s path)) k in
+      let E = at-entry s T isFile path A in
+      let old = fileBlocks s e in
+      let new = newBlocks s e offset (length bytes) in
+      let F = new-fresh s e offset (length bytes) T in
+      let last-small = last-below s T e E (N .typed) offset (length bytes) in
+      let last-used : 0 < lastOr 0 old → next s (lastOr 0 old) ≢ 0 = λ pos. ⊎-elim (λ q. absurd (omega arith)) (file-used s T e E (N .typed) (lastOr 0 old)) (last-in old 0) in
+      grown-blanked s T e E (writeAt s e offset bytes time) (written (old ++ new) offset (length bytes) ++ entriesNamed (changedEntries (lastOr 0 old) new)) new (lastOr 0 old)
+      (frame s (write path offset bytes time) ok r .agree) last-small last-used F
+      (written-table s T d (A .home-in) k (N .low) (N .high) (N .typed) offset bytes time (G .room))
+      (λ b z out m. ⊎-elim
+      (λ i. ⊎-elim (λ j. file-used s T e E (N .typed) b j z) out (in-append b old new (written-in (old ++ new) offset (length bytes) b i)))
+      (λ i. low-used s T b (entries-low (blockCount s) (changedEntries (lastOr 0 old) new) (changed-below (blockCount s) (lastOr 0 old) new last-small (F .below)) b i) z)
+      (in-append b (written (old ++ new) offset (length bytes)) (entriesNamed (changedEntries (lastOr 0 old) new)) m))
+
+  create-directory-blanked : (path : List ℕ) (type user group permissions flags time d : ℕ) → createDirectoryRefusal s path type d ≡ 0
+      → Blanked s (createDirectoryImage s path type user group permissions flags time d)
+  unfolding createDirectoryRefusal createDirectoryImage newDirectoryBlocks directoryMade createDirectoryNamed refusal after named
+  create-directory-blanked path type user group permissions flags time d r =
+      let a = require-zero (pathOk path && (isDirectory type && within 1 maxDirectory d)) 8 _ r in
+      let b = and-split (pathOk path) _ (a .0) in
+      let f = and-split (isDirectory type) _ (b .1) in
+      let g = within-split 1 maxDirectory d (f .1) in
+      let h = require-zero (shallow (parts path)) 16 _ (a .1) in
+      let i = firstOf-zero (placeRefusal s path) _ (h .1) in
+      let m = require-zero (leb d (length (freeBlocks (next s) (blockCount s)))) 13 _ (i .1) in
+      let l = path-levels path (b .0) (h .0) in
+      let w = place-free s path (i .0) in
+      let home-in : In (home s path, suc (maxLevels - suc (length (leading (parts path))))) (dirs s) = rw (l .1) (place-home s path (i .0) (l .0)) in
+      let new = take d (freeBlocks (next s) (blockCount s)) in
+      let F = free-fresh s T d in
+      grown-blanked s T (place s path) (place-entry s T path (i .0) (l .0)) (createDirectoryImage s path type user group permissions flags time d) (blocksNamed new) new 0
+      (frame s (createDirectory path type user group permissions flags time d) ok r .agree) (omega (arith, T .least)) (λ pos. absurd (omega arith)) F
+      (rw (place-is s path (i .0)) (made-table s T (home s path) (maxLevels - suc (length (leading (parts path)))) home-in (freeSlot s (directory s (home s path))) (w .0) (w .1) (w .2)
+      (lastPart (parts path)) (path-name path (b .0)) (place-new s path (i .0)) type user group permissions flags time (f .0) d (g .0) (g .1) (leb-true _ _ (m .0))))
+      (λ b z out. blocks-not (blockCount s) new (F .below) b (free-above s T b z) out)
+
+  -- a chain and its entry go
+  chain-blanked : (e : ℕ) → Entry s e → Chain (next s) (blockCount s) (firstBlock s e) (blocksOf s e) → Agree s (deleteAt s e) (e / 512 ∷ blocksNamed (fileBlocks s e)) → Blanked s (deleteAt s e)
+  unfolding fileBlocks deleteAt
+  chain-blanked e E C A =
+      let at = in-chain (next s) (firstBlock s e) (blocksOf s e) in
+      deleted-blanked s T e E (fileBlocks s e) refl A (λ q i. let r = at q i in rw (r .2) (C .below (r .0) (r .1))) (λ q i. let r = at q i in rw (r .2) (C .above (r .0) (r .1)))
+      (λ q i. let r = at q i in rw (r .2) (chain-used (next s) (blockCount s) (firstBlock s e) (blocksOf s e) C (T .least) (r .0) (r .1)))
+      (chain-distinct (next s) (blockCount s) (firstBlock s e) (blocksOf s e) C (T .least))
+
+  delete-blanked : (path : List ℕ) → fileRefusal s path ≡ 0 → Blanked s (deleteAt s (entryOf isFile s path))
+  unfolding refusal after named deleteNamed
+  delete-blanked path r =
+      let A = file-at-path s path r in
+      let E = at-entry s T isFile path A in
+      chain-blanked (entryOf isFile s path) E (chainOk-split _ _ _ _ (file-chained s T (entryOf isFile s path) E (typed A))) (frame s (delete path) ok r .agree)
+    where
+      typed : At isFile s path → isFile (typeOf s (entryOf isFile s path)) ≡ true
+      typed A = unfold entryOf in A .named .typed
+
+  delete-directory-blanked : (path : List ℕ) → deleteDirectoryRefusal s path ≡ 0 → Blanked s (deleteAt s (entryOf isDirectory s path))
+  unfolding refusal after named deleteNamed deleteDirectoryRefusal
+  delete-directory-blanked path r =
+      let A = directory-at-path s path (firstOf-zero (directoryRefusal s path) _ r .0) in
+      chain-blanked (entryOf isDirectory s path) (at-entry s T isDirectory path A) (child-chain s T path A) (frame s (deleteDirectory path) ok r .agree)
+
+pub blank : (s : List ℕ) (c : Change) → check s ≡ 0 → refusal s c ≡ 0 → Blanked s (after s c)
+unfolding refusal after
+blank s (create path type user group permissions flags time) ok r = create-blanked s ok path type user group permissions flags time r
+blank s (write path offset bytes time) ok r = write-blanked s ok path offset bytes time r
+blank s (delete path) ok r = delete-blanked s ok path r
+blank s (createDirectory path type user group permissions flags time d) ok r = create-directory-blanked s ok path type user group permissions flags time d r
+blank s (deleteDirectory path) ok r = delete-directory-blanked s ok path r
