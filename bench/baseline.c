@@ -126,6 +126,22 @@ bulgefs_filled ENTRY(read)(const uint8_t *image, size_t image_len,
     return (bulgefs_filled){BULGEFS_OK, count};
 }
 
+bulgefs_filled ENTRY(read_attributes)(const uint8_t *image, size_t image_len,
+                                      const uint8_t *path, size_t path_len,
+                                      uint8_t *buffer, size_t buffer_len)
+{
+    target to;
+    const uint8_t *entry;
+    uint32_t number = look(image, image_len, path, path_len, &to, &entry);
+    if (number != BULGEFS_OK)
+        return (bulgefs_filled){number, 0};
+    uint32_t count = get32(entry + ATTRIBUTE_SIZE);
+    if (count > buffer_len / BLOCK)
+        count = (uint32_t)(buffer_len / BLOCK);
+    gather(image, get32(entry + ATTRIBUTE_BLOCK), 0, buffer, count * BLOCK);
+    return (bulgefs_filled){BULGEFS_OK, count * BLOCK};
+}
+
 bulgefs_part ENTRY(look_in_place)(const uint8_t *image, size_t image_len,
                                   const uint8_t *path, size_t path_len, uint64_t index)
 {
@@ -409,14 +425,15 @@ static bulgefs_changed release(uint8_t *image, const volume *v, uint8_t *journal
                                size_t journal_len, const target *to)
 {
     uint8_t *entry = image + slot_at(&to->home, to->slot);
-    uint32_t first = get32(entry + FIRST), blocks = get32(entry + BLOCKS);
     block_set named = {{0}};
     add(&named, block_of(to));
-    name_freed(image, first, blocks, &named);
+    name_freed(image, get32(entry + FIRST), get32(entry + BLOCKS), &named);
+    name_freed(image, get32(entry + ATTRIBUTE_BLOCK), get32(entry + ATTRIBUTE_SIZE), &named);
     uint32_t record = save(image, v->n, &named, journal, journal_len);
     if (record == 0)
         return (bulgefs_changed){BULGEFS_JOURNAL_FULL, 0};
-    free_chain(image, first, blocks);
+    free_chain(image, get32(entry + FIRST), get32(entry + BLOCKS));
+    free_chain(image, get32(entry + ATTRIBUTE_BLOCK), get32(entry + ATTRIBUTE_SIZE));
     memset(entry, 0, SLOT);
     return (bulgefs_changed){BULGEFS_OK, record};
 }
@@ -433,6 +450,106 @@ bulgefs_changed ENTRY(delete)(uint8_t *image, size_t image_len,
     if (number != BULGEFS_OK)
         return (bulgefs_changed){number, 0};
     return release(image, &v, journal, journal_len, &to);
+}
+
+/* ---- entry points for attributes ---- */
+
+/* Weighs 9, 20, 17 and 10 for attributes that are to be set. */
+static uint32_t find_for_set(const uint8_t *image, const volume *v, const uint8_t *path,
+                             size_t path_len, size_t data_len, target *to)
+{
+    bool good = data_len != 0 && data_len % BLOCK == 0;
+    uint32_t number = path_refusal(path, path_len, good, 1);
+    if (number == BULGEFS_BAD_ARGUMENT)
+        return number;
+    if (data_len / BLOCK > BULGEFS_MAX_ATTRIBUTE_BLOCKS)
+        return BULGEFS_TOO_MANY_BLOCKS;
+    return find_file(image, v, path, path_len, true, to);
+}
+
+/*
+ * The count lowest blocks that are free or of the chain from first on, which
+ * has old blocks.  False if there are not so many.
+ */
+static bool lowest_with(const uint8_t *image, const volume *v, uint32_t first, uint32_t old,
+                        uint32_t count, uint32_t *taken)
+{
+    block_set own = {{0}};
+    uint32_t found = 0;
+    if (get32(image + FREE) + old < count)
+        return false;
+    for (uint32_t i = 0, b = first; i < old; i++, b = next_of(image, b))
+        add(&own, b);
+    for (uint32_t b = 0; b < v->n && found < count; b++)
+        if (next_of(image, b) == 0 || has(&own, b))
+            taken[found++] = b;
+    return true;
+}
+
+/* Makes the taken blocks a file's attributes. */
+static void put_attributes(uint8_t *image, uint8_t *entry, const uint32_t *taken, uint32_t count,
+                           const uint8_t *data)
+{
+    for (uint32_t i = 0; i < count; i++) {
+        set_next(image, taken[i], i + 1 < count ? taken[i + 1] : 1);
+        memcpy(image + (size_t)taken[i] * BLOCK, data + (size_t)i * BLOCK, BLOCK);
+    }
+    put32(entry + ATTRIBUTE_BLOCK, count > 0 ? taken[0] : 0);
+    put32(entry + ATTRIBUTE_SIZE, count);
+    count_blocks(image, count);
+}
+
+bulgefs_changed ENTRY(set_attributes)(uint8_t *image, size_t image_len,
+                                      uint8_t *journal, size_t journal_len,
+                                      const uint8_t *path, size_t path_len,
+                                      const uint8_t *data, size_t data_len)
+{
+    volume v;
+    target to;
+    uint32_t number = check_both(image, image_len, journal, journal_len, &v);
+    if (number == BULGEFS_OK)
+        number = find_for_set(image, &v, path, path_len, data_len, &to);
+    if (number != BULGEFS_OK)
+        return (bulgefs_changed){number, 0};
+    uint8_t *entry = image + slot_at(&to.home, to.slot);
+    uint32_t first = get32(entry + ATTRIBUTE_BLOCK), old = get32(entry + ATTRIBUTE_SIZE);
+    plan p = {0, 0, 0, 0, (uint32_t)(data_len / BLOCK), {0}};
+    if (!lowest_with(image, &v, first, old, p.count, p.taken))
+        return (bulgefs_changed){BULGEFS_VOLUME_FULL, 0};
+    block_set named = {{0}};
+    add(&named, block_of(&to));
+    name_freed(image, first, old, &named);
+    name_taken(&p, &named);
+    uint32_t record = save(image, v.n, &named, journal, journal_len);
+    if (record == 0)
+        return (bulgefs_changed){BULGEFS_JOURNAL_FULL, 0};
+    free_chain(image, first, old);
+    put_attributes(image, entry, p.taken, p.count, data);
+    return (bulgefs_changed){BULGEFS_OK, record};
+}
+
+bulgefs_changed ENTRY(clear_attributes)(uint8_t *image, size_t image_len,
+                                        uint8_t *journal, size_t journal_len,
+                                        const uint8_t *path, size_t path_len)
+{
+    volume v;
+    target to;
+    uint32_t number = check_both(image, image_len, journal, journal_len, &v);
+    if (number == BULGEFS_OK)
+        number = find_file(image, &v, path, path_len, true, &to);
+    if (number != BULGEFS_OK)
+        return (bulgefs_changed){number, 0};
+    uint8_t *entry = image + slot_at(&to.home, to.slot);
+    uint32_t first = get32(entry + ATTRIBUTE_BLOCK), old = get32(entry + ATTRIBUTE_SIZE);
+    block_set named = {{0}};
+    add(&named, block_of(&to));
+    name_freed(image, first, old, &named);
+    uint32_t record = save(image, v.n, &named, journal, journal_len);
+    if (record == 0)
+        return (bulgefs_changed){BULGEFS_JOURNAL_FULL, 0};
+    free_chain(image, first, old);
+    put_attributes(image, entry, NULL, 0, NULL);
+    return (bulgefs_changed){BULGEFS_OK, record};
 }
 
 /* ---- entry points for directories ---- */

@@ -246,11 +246,12 @@ static bool good_self(const uint8_t *image, const volume *v, const expected *e, 
 static bool good_entry(const uint8_t *slot)
 {
     uint32_t size = get32(slot + SIZE);
-    if (!good_name_field(slot + NAME) || get32(slot + ATTRIBUTE_BLOCK) != 0
-        || get32(slot + ATTRIBUTE_SIZE) != 0)
+    uint32_t attributes = get32(slot + ATTRIBUTE_SIZE);
+    if (!good_name_field(slot + NAME) || (get32(slot + ATTRIBUTE_BLOCK) == 0) != (attributes == 0)
+        || attributes > BULGEFS_MAX_ATTRIBUTE_BLOCKS)
         return false;
     if (is_directory(slot[TYPE]))
-        return size == 0;
+        return size == 0 && attributes == 0;
     return is_file(slot[TYPE]) && get32(slot + BLOCKS) == blocks_for(size)
         && (get32(slot + FIRST) == 0) == (size == 0);
 }
@@ -292,6 +293,13 @@ static uint32_t check_directory(const uint8_t *image, const volume *v, const exp
     return BULGEFS_OK;
 }
 
+/* Both chains of a file. */
+static bool good_file(const uint8_t *image, const volume *v, const uint8_t *slot, block_set *seen)
+{
+    return walk(image, v, get32(slot + FIRST), get32(slot + BLOCKS), seen)
+        && walk(image, v, get32(slot + ATTRIBUTE_BLOCK), get32(slot + ATTRIBUTE_SIZE), seen);
+}
+
 /* The chains of all files in a directory and below it. */
 static bool good_files(const uint8_t *image, const volume *v, uint32_t first, block_set *seen)
 {
@@ -299,10 +307,9 @@ static bool good_files(const uint8_t *image, const volume *v, uint32_t first, bl
     open_directory(image, first, &dir);
     for (uint32_t s = 1; s < end_slot(&dir); s++) {
         const uint8_t *slot = image + slot_at(&dir, s);
-        uint32_t start = get32(slot + FIRST);
-        if (is_directory(slot[TYPE]) && !good_files(image, v, start, seen))
+        if (is_directory(slot[TYPE]) && !good_files(image, v, get32(slot + FIRST), seen))
             return false;
-        if (is_file(slot[TYPE]) && !walk(image, v, start, get32(slot + BLOCKS), seen))
+        if (is_file(slot[TYPE]) && !good_file(image, v, slot, seen))
             return false;
     }
     return true;

@@ -35,6 +35,12 @@ bulgefs_created baseline_create_directory(uint8_t *, size_t, uint8_t *, size_t, 
                                           uint32_t, uint64_t);
 bulgefs_changed baseline_delete_directory(uint8_t *, size_t, uint8_t *, size_t, const uint8_t *,
                                           size_t);
+bulgefs_changed baseline_set_attributes(uint8_t *, size_t, uint8_t *, size_t, const uint8_t *,
+                                        size_t, const uint8_t *, size_t);
+bulgefs_filled baseline_read_attributes(const uint8_t *, size_t, const uint8_t *, size_t,
+                                        uint8_t *, size_t);
+bulgefs_changed baseline_clear_attributes(uint8_t *, size_t, uint8_t *, size_t, const uint8_t *,
+                                          size_t);
 bulgefs_changed baseline_undo(uint8_t *, size_t, uint8_t *, size_t);
 
 /* The calls of one side. */
@@ -51,6 +57,12 @@ typedef struct {
                                         uint32_t, uint64_t);
     bulgefs_changed (*delete_directory)(uint8_t *, size_t, uint8_t *, size_t, const uint8_t *,
                                         size_t);
+    bulgefs_changed (*set_attributes)(uint8_t *, size_t, uint8_t *, size_t, const uint8_t *,
+                                      size_t, const uint8_t *, size_t);
+    bulgefs_filled (*read_attributes)(const uint8_t *, size_t, const uint8_t *, size_t,
+                                      uint8_t *, size_t);
+    bulgefs_changed (*clear_attributes)(uint8_t *, size_t, uint8_t *, size_t, const uint8_t *,
+                                        size_t);
     bulgefs_changed (*undo)(uint8_t *, size_t, uint8_t *, size_t);
 } side;
 
@@ -59,14 +71,17 @@ enum { OURS, BASELINE, SIDES, LIMIT = SIDES, SQLITE, COLUMNS };
 
 static const side sides[SIDES] = {
     {bulgefs_check, bulgefs_lookup, bulgefs_read, bulgefs_write, bulgefs_delete,
-     bulgefs_create_directory, bulgefs_delete_directory, bulgefs_undo},
+     bulgefs_create_directory, bulgefs_delete_directory, bulgefs_set_attributes,
+     bulgefs_read_attributes, bulgefs_clear_attributes, bulgefs_undo},
     {baseline_check, baseline_lookup, baseline_read, baseline_write, baseline_delete,
-     baseline_create_directory, baseline_delete_directory, baseline_undo},
+     baseline_create_directory, baseline_delete_directory, baseline_set_attributes,
+     baseline_read_attributes, baseline_clear_attributes, baseline_undo},
 };
 
 static const char *const call_names[CALLS] = {"check", "lookup", "read", "write", "delete",
                                               "delete 64 blocks", "create directory",
-                                              "delete directory", "undo"};
+                                              "delete directory", "set attributes",
+                                              "read attributes", "clear attributes", "undo"};
 
 static const uint32_t block_counts[] = {16, 64, 256, 1024, 4096, 16384, 65536};
 /* The last lie in folders, a hundred in each; all others in the root. */
@@ -77,6 +92,8 @@ enum { NS = 7, FILES = 4, MAX_SAMPLES = 9, JOURNAL = 65536, DATA = 1000, PATH_SI
 enum { LAST_SIZE = DATA + 500, LAST_WRITTEN = 2 * DATA };
 /* A file of many blocks, whose delete saves and zeroes them all; only where there is room. */
 enum { LARGE_BLOCKS = 64 };
+/* Attributes of two blocks are set, over none. */
+enum { ATTRIBUTES = 1024 };
 
 static int samples = MAX_SAMPLES;
 static double sample_seconds = 3e-3;
@@ -212,6 +229,26 @@ static void delete_large(const side *s, double *sum)
     require(number | s->undo(image, image_len, journal, JOURNAL).number, "a timed call");
 }
 
+/* Sets, reads and clears attributes, and takes that back. */
+static void attribute_calls(const side *s, const uint8_t *path, size_t len, double *sum)
+{
+    double t[4];
+    t[0] = now();
+    uint32_t number = s->set_attributes(image, image_len, journal, JOURNAL, path, len, data,
+                                        ATTRIBUTES).number;
+    t[1] = now();
+    number |= s->read_attributes(image, image_len, path, len, buffer, sizeof buffer).number;
+    t[2] = now();
+    number |= s->clear_attributes(image, image_len, journal, JOURNAL, path, len).number;
+    t[3] = now();
+    number |= s->undo(image, image_len, journal, JOURNAL).number;
+    number |= s->undo(image, image_len, journal, JOURNAL).number;
+    require(number, "a timed call");
+    sum[SET_ATTRIBUTES] += t[1] - t[0];
+    sum[READ_ATTRIBUTES] += t[2] - t[1];
+    sum[CLEAR_ATTRIBUTES] += t[3] - t[2];
+}
+
 /* Makes every call once and adds the time of each. */
 static void make_calls(const side *s, const uint8_t *path, size_t len, double *sum)
 {
@@ -248,6 +285,7 @@ static void make_calls(const side *s, const uint8_t *path, size_t len, double *s
     sum[DELETE] += t[6] - t[5];
     sum[CREATE_DIRECTORY] += t[8] - t[7];
     sum[DELETE_DIRECTORY] += t[9] - t[8];
+    attribute_calls(s, path, len, sum);
     if (has_large)
         delete_large(s, sum);
 }
@@ -255,26 +293,30 @@ static void make_calls(const side *s, const uint8_t *path, size_t len, double *s
 /* Ends the program if the two sides differ in an answer, the image or the journal. */
 static void compare_sides(const uint8_t *path, size_t len)
 {
-    static uint8_t images[SIDES][sizeof image], journals[SIDES][JOURNAL], buffers[SIDES][4096];
+    static uint8_t images[SIDES][sizeof image], journals[SIDES][JOURNAL], buffers[SIDES][8192];
     bulgefs_found found[SIDES];
     bulgefs_created created[SIDES];
-    bulgefs_changed changed[SIDES][6];
+    bulgefs_changed changed[SIDES][9];
     for (int s = 0; s < SIDES; s++) {
         uint8_t *i = images[s], *j = journals[s];
+        bulgefs_changed *c = changed[s];
         memcpy(i, image, image_len);
         memcpy(j, journal, JOURNAL);
         require(sides[s].check(i, image_len), "check");
         found[s] = sides[s].lookup(i, image_len, path, len);
-        sides[s].read(i, image_len, path, len, 0, buffers[s], sizeof buffers[s]);
-        changed[s][0] = sides[s].write(i, image_len, j, JOURNAL, path, len, 1000, data, DATA, 3);
-        changed[s][1] = sides[s].write(i, image_len, j, JOURNAL, path, len, 2000, data, 1, 4);
-        changed[s][2] = sides[s].undo(i, image_len, j, JOURNAL);
-        changed[s][3] = sides[s].delete(i, image_len, j, JOURNAL, path, len);
+        sides[s].read(i, image_len, path, len, 0, buffers[s], 4096);
+        *c++ = sides[s].write(i, image_len, j, JOURNAL, path, len, 1000, data, DATA, 3);
+        *c++ = sides[s].write(i, image_len, j, JOURNAL, path, len, 2000, data, 1, 4);
+        *c++ = sides[s].undo(i, image_len, j, JOURNAL);
+        *c++ = sides[s].set_attributes(i, image_len, j, JOURNAL, path, len, data, 512);
+        *c++ = sides[s].clear_attributes(i, image_len, j, JOURNAL, path, len);
+        *c++ = sides[s].set_attributes(i, image_len, j, JOURNAL, path, len, data, ATTRIBUTES);
+        sides[s].read_attributes(i, image_len, path, len, buffers[s] + 4096, 4096);
+        *c++ = sides[s].delete(i, image_len, j, JOURNAL, path, len);
         created[s] = sides[s].create_directory(i, image_len, j, JOURNAL, new_folder, NEW_FOLDER,
                                                0x20, 1, 2, 3, 4, NEW_BLOCKS, 5);
-        changed[s][4] = sides[s].delete_directory(i, image_len, j, JOURNAL, new_folder,
-                                                  NEW_FOLDER);
-        changed[s][5] = sides[s].delete(i, image_len, j, JOURNAL, large, LARGE);
+        *c++ = sides[s].delete_directory(i, image_len, j, JOURNAL, new_folder, NEW_FOLDER);
+        *c++ = sides[s].delete(i, image_len, j, JOURNAL, large, LARGE);
     }
     if (memcmp(&found[OURS], &found[BASELINE], sizeof found[OURS]) != 0
         || memcmp(&created[OURS], &created[BASELINE], sizeof created[OURS]) != 0

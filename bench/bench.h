@@ -5,8 +5,8 @@
 #include <stddef.h>
 #include <stdint.h>
 
-enum { CHECK, LOOKUP, READ, WRITE, DELETE, DELETE_LARGE, CREATE_DIRECTORY, DELETE_DIRECTORY, UNDO,
-       CALLS };
+enum { CHECK, LOOKUP, READ, WRITE, DELETE, DELETE_LARGE, CREATE_DIRECTORY, DELETE_DIRECTORY,
+       SET_ATTRIBUTES, READ_ATTRIBUTES, CLEAR_ATTRIBUTES, UNDO, CALLS };
 
 /* Seconds since some time. */
 double now(void);
@@ -15,7 +15,7 @@ double now(void);
  * The same work in SQLite, in memory, with statements prepared beforehand: a
  * table of paths and contents.  check is its integrity check, lookup and read
  * select by path, write and delete stand in a savepoint, undo rolls that back;
- * deleted content is zeroed (secure_delete).  It has no folders.  Without
+ * deleted content is zeroed (secure_delete).  It has no folders and no attributes.  Without
  * SQLite's development package sqlite_version says NULL, and the others do
  * nothing.
  */

@@ -1,7 +1,7 @@
 /*
  * A small installer: keeps one settings file per serial number on a volume, in
- * a folder for each venue, changes some of them, and takes the changes back one
- * by one.
+ * a folder for each venue, with the box's purchase beside it as attributes,
+ * changes some of them, and takes the changes back one by one.
  *
  * Usage: installer [FOLDER]
  * With a folder, image and journal are left there: changed.img and
@@ -60,7 +60,7 @@ static const uint8_t *bytes(const char *text)
 /* ---- changes ---- */
 
 /* The changes that stand, the last one last, as the journal has them. */
-static struct { const char *what, *path; } made[32];
+static struct { const char *what, *path; } made[40];
 static size_t made_count;
 
 static void note_change(const char *what, const char *path, uint32_t record)
@@ -69,7 +69,7 @@ static void note_change(const char *what, const char *path, uint32_t record)
     made[made_count].what = what;
     made[made_count].path = path;
     made_count++;
-    printf("  %-13s %-14s record of %4u bytes\n", what, path, (unsigned)record);
+    printf("  %-16s %-14s record of %4u bytes\n", what, path, (unsigned)record);
 }
 
 static void open_venue(const char *path, uint64_t time)
@@ -112,6 +112,29 @@ static void drop(const char *path)
                                        strlen(path));
     require(c.number, "delete", path);
     note_change("delete", path, c.record);
+}
+
+/*
+ * What the bookkeeper keeps beside a box: a text, filled up with zeros to whole
+ * blocks.  The box's own bytes and times stay as they are.
+ */
+static void set_purchase(const char *path, const char *text)
+{
+    uint8_t block[BULGEFS_BLOCK_SIZE] = {0};
+    assert(strlen(text) < sizeof block);
+    memcpy(block, text, strlen(text));
+    bulgefs_changed c = bulgefs_set_attributes(image, sizeof image, journal, sizeof journal,
+                                               bytes(path), strlen(path), block, sizeof block);
+    require(c.number, "set attributes", path);
+    note_change("set attributes", path, c.record);
+}
+
+static void clear_purchase(const char *path)
+{
+    bulgefs_changed c = bulgefs_clear_attributes(image, sizeof image, journal, sizeof journal,
+                                                 bytes(path), strlen(path));
+    require(c.number, "clear attributes", path);
+    note_change("clear attributes", path, c.record);
 }
 
 /* Puts a value, filled up with spaces, over the old one: always so many bytes at that place. */
@@ -200,6 +223,21 @@ static void show_text(const char *path)
            f.size > SHOWN ? "..." : "");
 }
 
+/* The purchases of all boxes that have one. */
+static void show_purchases(void)
+{
+    for (int i = 0; i < BOXES; i++) {
+        uint8_t block[BULGEFS_BLOCK_SIZE];
+        bulgefs_filled r = bulgefs_read_attributes(image, sizeof image, bytes(boxes[i].path),
+                                                   strlen(boxes[i].path), block, sizeof block);
+        if (r.number == BULGEFS_NOT_FOUND)
+            continue;
+        require(r.number, "read attributes", boxes[i].path);
+        if (r.count > 0)
+            printf("  %s has beside it: %s\n", boxes[i].path, (const char *)block);
+    }
+}
+
 /* Whether a text stands anywhere in the image, as an editor would find it. */
 static void look_for(const char *text)
 {
@@ -212,7 +250,7 @@ static void look_for(const char *text)
 /* ---- install, change, undo ---- */
 
 /* What is deleted by the changes. */
-static const char *const deleted[] = {"baud=115200", "98 99 100"};
+static const char *const deleted[] = {"baud=115200", "98 99 100", "invoice 4471"};
 
 static void look_for_deleted(void)
 {
@@ -248,7 +286,10 @@ static void install(void)
             add_box(i, 1002);
     }
     replace(scenes, scene_list(), 1003);
+    set_purchase(boxes[0].path, "bought 2024-05-13, invoice 4471");
+    set_purchase(boxes[2].path, "bought 2025-01-30, invoice 5120");
     show_text(scenes);
+    show_purchases();
     look_for_deleted();
 }
 
@@ -257,6 +298,9 @@ static void change(void)
     printf("\nChange\n");
     set(boxes[0].path, &baud, "300", 2001);
     set(boxes[1].path, &parity, "odd", 2002);
+    clear_purchase(boxes[0].path);
+    set_purchase(boxes[1].path, "bought 2024-06-02, invoice 4502");
+    set_purchase(boxes[2].path, "bought 2025-02-01, invoice 5121");
     replace(scenes, "scenes: 1 2", 2003);
     drop(boxes[2].path);
     drop(boxes[3].path);
@@ -265,6 +309,7 @@ static void change(void)
     add_box(4, 2005);
     put(inventory, 6, "3", 1, 2006);
     show_text(scenes);
+    show_purchases();
     look_for_deleted();
 }
 
@@ -276,32 +321,41 @@ static void take_back(size_t standing)
         bulgefs_changed u = bulgefs_undo(image, sizeof image, journal, sizeof journal);
         require(u.number, "undo", "the last change");
         made_count--;
-        printf("  undo %-13s %-14s record of %4u bytes\n", made[made_count].what,
+        printf("  undo %-16s %-14s record of %4u bytes\n", made[made_count].what,
                made[made_count].path, (unsigned)u.record);
     }
     show_text(scenes);
+    show_purchases();
     look_for_deleted();
+}
+
+static void show_refusal(const char *what, const char *path, uint32_t number)
+{
+    printf("  %-14s %-20s %s (%u)\n", what, path, bulgefs_text(number), (unsigned)number);
 }
 
 /*
  * A name is not found by its first bytes, nor by more than its bytes, nor as a
  * file if it is a folder's; a path begins with a slash; a folder that is not
- * empty stays.
+ * empty stays; attributes have no more than 8 blocks.
  */
 static void try_refusals(void)
 {
+    static const uint8_t nine[9 * BULGEFS_BLOCK_SIZE];
     static const char *const paths[] = {"/stage/SN100", "/stage/SN10011", "/stage", "SN1001",
                                         "/a/b/c/d/e/f/g/h/i/j"};
     printf("\nRefused\n");
     for (int i = 0; i < 5; i++) {
         bulgefs_found f = bulgefs_lookup(image, sizeof image, bytes(paths[i]), strlen(paths[i]));
-        printf("  look up       %-20s %s (%u)\n", paths[i], bulgefs_text(f.number),
-               (unsigned)f.number);
+        show_refusal("look up", paths[i], f.number);
     }
     bulgefs_changed d = bulgefs_delete_directory(image, sizeof image, journal, sizeof journal,
                                                  bytes(venues[0]), strlen(venues[0]));
-    printf("  delete folder %-20s %s (%u)\n", venues[0], bulgefs_text(d.number),
-           (unsigned)d.number);
+    show_refusal("delete folder", venues[0], d.number);
+    bulgefs_changed s = bulgefs_set_attributes(image, sizeof image, journal, sizeof journal,
+                                               bytes(inventory), strlen(inventory), nine,
+                                               sizeof nine);
+    show_refusal("set attributes", inventory, s.number);
 }
 
 /*

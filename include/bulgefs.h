@@ -24,8 +24,8 @@
  *   Every call but bulgefs_look_in_place answers a number: 0 (BULGEFS_OK) if
  *   the call was accepted, otherwise one of the refusals below; bulgefs_text
  *   has words for it.  If several refusals apply, the first in this order is
- *   given: 1 to 9, 17, 21, 10 to 12, 18, 13 to 16.  A refused call changes no
- *   byte of any buffer, and all other fields of its answer are 0.
+ *   given: 1 to 9, 20, 17, 21, 10 to 12, 18, 13 to 16.  A refused call changes
+ *   no byte of any buffer, and all other fields of its answer are 0.
  *
  * What it is not
  *   - The journal is an undo journal, not a journal against loss of power.
@@ -46,8 +46,9 @@
  *     BULGEFS_JOURNAL_FULL.  Then undo, or give up undoing what stands: save
  *     the image and call bulgefs_journal_start.  See the sizes below.
  *   - A journal holds what was deleted.  A delete zeroes the blocks that it
- *     frees, and the image has nothing of them any more; the journal's record
- *     has their bytes, for undo, until bulgefs_journal_start zeroes it.
+ *     frees, and so do a set over old attributes and a clear; the image has
+ *     nothing of them any more.  The journal's record has their bytes, for
+ *     undo, until bulgefs_journal_start zeroes it.
  *
  * Cost
  *   Every call but format and journal start checks the image first: it reads
@@ -76,8 +77,8 @@ extern "C" {
  * The version of this header, 10000 * major + 100 * minor + patch.  The minor
  * number rises with every call, number or limit that comes or changes.
  */
-#define BULGEFS_VERSION            500u
-#define BULGEFS_VERSION_TEXT       "0.5.0"
+#define BULGEFS_VERSION            600u
+#define BULGEFS_VERSION_TEXT       "0.6.0"
 
 /*
  * The compiler says if an answer is not used.  Define BULGEFS_CHECKED as
@@ -102,6 +103,7 @@ extern "C" {
 #define BULGEFS_MAX_NAME           80u       /* bytes in the longest name              */
 #define BULGEFS_VOLUME_NAME_SIZE   128u      /* bytes of a volume name, always         */
 #define BULGEFS_MAX_DATA           4096u     /* bytes that one write accepts           */
+#define BULGEFS_MAX_ATTRIBUTE_BLOCKS 8u      /* blocks of a file's attributes          */
 #define BULGEFS_MIN_JOURNAL        5u        /* bytes in the smallest journal          */
 #define BULGEFS_MAX_JOURNAL        67108864u /* bytes in the largest journal           */
 #define BULGEFS_STACK              262144u   /* bytes of stack that suffice for a call */
@@ -122,9 +124,9 @@ extern "C" {
 
 /*
  * Size of an image.  A file of so many bytes takes BULGEFS_FILE_BLOCKS of them,
- * a directory the blocks that it is given.  BULGEFS_IMAGE_BLOCKS of their sum,
- * the root included, is the least n that has room for them, and
- * BULGEFS_IMAGE_SIZE(n) its bytes.
+ * and as many as it has blocks of attributes; a directory the blocks that it is
+ * given.  BULGEFS_IMAGE_BLOCKS of their sum, the root included, is the least n
+ * that has room for them, and BULGEFS_IMAGE_SIZE(n) its bytes.
  */
 #define BULGEFS_FILE_BLOCKS(size)      (((size) + 511u) / 512u)
 #define BULGEFS_TABLE_BLOCKS(n)        (((n) + 127u) / 128u)
@@ -133,10 +135,17 @@ extern "C" {
 
 /*
  * Size of a journal.  A change that saves k blocks adds BULGEFS_RECORD_SIZE(k)
- * bytes.  A create saves 1 block; the others at most these: a write of so many
- * bytes (20 for the longest), a delete of a file or directory of so many blocks
- * in an image of n, all of which are saved, a directory of d blocks made.  So
- * for a thousand settings that are created and written once, 200 bytes each,
+ * bytes.  A create saves 1 block, the others at most
+ *
+ *   BULGEFS_WRITE_BLOCKS          a write of so many bytes; 20 for the longest
+ *   BULGEFS_DELETE_BLOCKS         a delete in an image of n blocks of a file or
+ *                                 directory of so many, attributes included:
+ *                                 all of them are saved
+ *   BULGEFS_NEW_DIRECTORY_BLOCKS  a directory of d blocks made
+ *   BULGEFS_ATTRIBUTES_BLOCKS     attributes of new blocks set over old ones;
+ *                                 34 for the longest, and a clear has new 0
+ *
+ * So for a thousand settings that are created and written once, 200 bytes each,
  * with undo for all of them:
  *
  *   BULGEFS_JOURNAL_SIZE(1000, 1) + BULGEFS_JOURNAL_SIZE(1000, BULGEFS_WRITE_BLOCKS(200))
@@ -148,6 +157,7 @@ extern "C" {
 #define BULGEFS_DELETE_BLOCKS(blocks, n) (2u + (blocks) \
     + ((blocks) < BULGEFS_TABLE_BLOCKS(n) ? (blocks) : BULGEFS_TABLE_BLOCKS(n)))
 #define BULGEFS_NEW_DIRECTORY_BLOCKS(d) (2u + 2u * (d))
+#define BULGEFS_ATTRIBUTES_BLOCKS(old_blocks, new_blocks) (2u + 2u * ((old_blocks) + (new_blocks)))
 #define BULGEFS_JOURNAL_SIZE(changes, k) (BULGEFS_MIN_JOURNAL + (changes) * BULGEFS_RECORD_SIZE(k))
 
 /* The number that a call answers. */
@@ -160,7 +170,7 @@ enum bulgefs_number {
     BULGEFS_BAD_GEOMETRY    = 3,  /* total blocks, table blocks or root block          */
     BULGEFS_BAD_SELF        = 4,  /* self entry, chain or level of a directory         */
     BULGEFS_BAD_SLOT        = 5,  /* another slot of a directory                       */
-    BULGEFS_BAD_CHAINS      = 6,  /* a file's chain, or another entry of the table     */
+    BULGEFS_BAD_CHAINS      = 6,  /* a chain of a file, or another entry of the table  */
     BULGEFS_BAD_COUNTS      = 7,  /* the header's counts of occupied and free blocks   */
 
     /* The image is sound, but the call cannot be done. */
@@ -175,6 +185,7 @@ enum bulgefs_number {
     BULGEFS_NOTHING_TO_UNDO = 16, /* undo: the journal holds no record                 */
     BULGEFS_TOO_DEEP        = 17, /* more than 8 directories in a path; just after 9   */
     BULGEFS_NOT_EMPTY       = 18, /* the directory to delete is not empty; after 12    */
+    BULGEFS_TOO_MANY_BLOCKS = 20, /* more than 8 blocks of attributes; just after 9    */
     BULGEFS_BAD_TABLE_SIZE  = 21  /* entry_count is not the number of blocks; after 9  */
 };
 
@@ -210,6 +221,7 @@ BULGEFS_INLINE const char *bulgefs_text(uint32_t number)
     case BULGEFS_NOTHING_TO_UNDO: return "nothing to undo";
     case BULGEFS_TOO_DEEP:        return "too many directories in the path";
     case BULGEFS_NOT_EMPTY:       return "directory is not empty";
+    case BULGEFS_TOO_MANY_BLOCKS: return "too many blocks of attributes";
     case BULGEFS_BAD_TABLE_SIZE:  return "not one number for each block";
     default:                      return "no such number";
     }
@@ -345,9 +357,9 @@ bulgefs_changed bulgefs_write(uint8_t *image, size_t image_len,
                               uint64_t time);
 
 /*
- * Deletes a file and frees its blocks.  All bytes of a freed block become 0;
- * blocks that were free before keep theirs.  The record holds the freed blocks,
- * so it is larger than the file.
+ * Deletes a file and frees its blocks, those of its attributes too.  All bytes
+ * of a freed block become 0; blocks that were free before keep theirs.  The
+ * record holds the freed blocks, so it is larger than the file.
  * Refusals: 1 to 7, BULGEFS_BAD_JOURNAL, BULGEFS_BAD_ARGUMENT,
  * BULGEFS_TOO_DEEP, BULGEFS_NOT_FOUND, BULGEFS_JOURNAL_FULL.
  */
@@ -384,6 +396,51 @@ bulgefs_created bulgefs_create_directory(uint8_t *image, size_t image_len,
  */
 BULGEFS_CHECKED
 bulgefs_changed bulgefs_delete_directory(uint8_t *image, size_t image_len,
+                                         uint8_t *journal, size_t journal_len,
+                                         const uint8_t *path, size_t path_len);
+
+/*
+ * Attributes
+ *   A file may have attributes beside its bytes: 1 to 8 whole blocks of 512
+ *   bytes, of any content.  They are no part of the file: its bytes, size and
+ *   times stay whatever is done with them.  Fill up with zeros, or store a
+ *   length in front.
+ */
+
+/*
+ * Sets a file's attributes to data, data_len / 512 blocks.  Old ones are freed
+ * first, and their blocks count as free; blocks that are not taken again become
+ * 0 as by bulgefs_delete.
+ * Refusals: 1 to 7, BULGEFS_BAD_JOURNAL, BULGEFS_BAD_ARGUMENT (also for
+ * data_len 0, or not a multiple of 512), BULGEFS_TOO_MANY_BLOCKS (data_len
+ * above 4,096), BULGEFS_TOO_DEEP, BULGEFS_NOT_FOUND, BULGEFS_VOLUME_FULL,
+ * BULGEFS_JOURNAL_FULL.
+ */
+BULGEFS_CHECKED
+bulgefs_changed bulgefs_set_attributes(uint8_t *image, size_t image_len,
+                                       uint8_t *journal, size_t journal_len,
+                                       const uint8_t *path, size_t path_len,
+                                       const uint8_t *data, size_t data_len);
+
+/*
+ * Copies a file's attributes into the buffer: as many whole blocks as there are
+ * and fit, and answers the count of their bytes.  The rest of the buffer stays
+ * as it is.  A file without attributes, or a buffer below 512 bytes, gives 0.
+ * Refusals: 1 to 7, BULGEFS_BAD_ARGUMENT, BULGEFS_TOO_DEEP, BULGEFS_NOT_FOUND.
+ */
+BULGEFS_CHECKED
+bulgefs_filled bulgefs_read_attributes(const uint8_t *image, size_t image_len,
+                                       const uint8_t *path, size_t path_len,
+                                       uint8_t *buffer, size_t buffer_len);
+
+/*
+ * Takes a file's attributes away and frees their blocks, which become 0 as by
+ * bulgefs_delete.  With none it is accepted too, and adds a record.
+ * Refusals: 1 to 7, BULGEFS_BAD_JOURNAL, BULGEFS_BAD_ARGUMENT,
+ * BULGEFS_TOO_DEEP, BULGEFS_NOT_FOUND, BULGEFS_JOURNAL_FULL.
+ */
+BULGEFS_CHECKED
+bulgefs_changed bulgefs_clear_attributes(uint8_t *image, size_t image_len,
                                          uint8_t *journal, size_t journal_len,
                                          const uint8_t *path, size_t path_len);
 

@@ -138,7 +138,7 @@ typedef struct {
 #define STAGES     0xFEu
 #define BIT(n)     (1u << (n))
 #define PATH       (BIT(9) | BIT(10) | BIT(17))
-#define MAY(set, n) ((n) <= 18 && ((set) | 1u) >> (n) & 1u)
+#define MAY(set, n) ((n) <= 20 && ((set) | 1u) >> (n) & 1u)
 
 static void call_looks(const material *m)
 {
@@ -164,6 +164,17 @@ static void call_looks(const material *m)
            "read: number");
     expect(r.count <= into.len && (r.number == 0 || r.count == 0), "read: count");
     expect(r.number == 0 || unchanged(&into), "read: refused without a change");
+    give_back(&into);
+
+    into = lend(m->data, m->data_len);
+    bulgefs_filled a = bulgefs_read_attributes(image.at, image.len, path.at, path.len, into.at,
+                                               into.len);
+    expect(a.number == f.number, "read_attributes: number");
+    expect(a.count <= into.len && a.count % 512 == 0 && a.count <= 4096, "read_attributes: count");
+    expect(a.number == 0 || a.count == 0, "read_attributes: zeros");
+    expect(into.len == a.count
+               || memcmp(into.at + a.count, into.before + a.count, into.len - a.count) == 0,
+           "read_attributes: the rest stays");
 
     expect(unchanged(&image) && unchanged(&path), "looks: nothing changed");
     give_back(&image);
@@ -209,6 +220,31 @@ static void call_file_changes(const material *m, const buffer *path)
     give_back(&data);
 }
 
+/* Sets of the data as it is and of its whole blocks, and a clear. */
+static void call_attribute_changes(const material *m, const buffer *path)
+{
+    const uint32_t common = STAGES | BIT(8) | BIT(15) | PATH;
+    size_t lengths[] = {m->data_len, m->data_len / 512 * 512};
+    for (size_t i = 0; i < 2; i++) {
+        buffer data = lend_const(m->data, lengths[i]);
+        buffer image = lend(m->image, m->image_len);
+        buffer journal = lend(m->journal, m->journal_len);
+        bulgefs_changed s = bulgefs_set_attributes(image.at, image.len, journal.at, journal.len,
+                                                   path->at, path->len, data.at, data.len);
+        expect(s.number != 0 || bulgefs_check(image.at, image.len) == 0, "set_attributes: sound");
+        settle(&image, &journal, s.number, s.record, common | BIT(14) | BIT(20),
+               "set_attributes");
+        expect(unchanged(&data), "set_attributes: data stays");
+        give_back(&data);
+    }
+    buffer image = lend(m->image, m->image_len);
+    buffer journal = lend(m->journal, m->journal_len);
+    bulgefs_changed c = bulgefs_clear_attributes(image.at, image.len, journal.at, journal.len,
+                                                 path->at, path->len);
+    expect(c.number != 0 || bulgefs_check(image.at, image.len) == 0, "clear_attributes: sound");
+    settle(&image, &journal, c.number, c.record, common, "clear_attributes");
+}
+
 static void call_directory_changes(const material *m, const buffer *path)
 {
     const uint32_t common = STAGES | BIT(8) | BIT(15) | PATH;
@@ -235,6 +271,7 @@ static void call_changes(const material *m)
 {
     buffer path = lend_const(m->path, m->path_len);
     call_file_changes(m, &path);
+    call_attribute_changes(m, &path);
     call_directory_changes(m, &path);
 
     buffer image = lend(m->image, m->image_len);
@@ -367,7 +404,7 @@ static size_t file_path(uint32_t folders, uint32_t file, uint8_t *path)
 
 /*
  * A volume of n blocks with folders below one another, some files of many
- * sizes in the root and in the folders, and its journal.
+ * sizes in the root and in the folders, some with attributes, and its journal.
  */
 static void fill_volume(uint8_t *image, size_t n, uint8_t *journal, size_t journal_len)
 {
@@ -386,6 +423,12 @@ static void fill_volume(uint8_t *image, size_t n, uint8_t *journal, size_t journ
                                      0, 0, 0, 0, 1 + i % 2, i);
         bulgefs_create(image, n * 512, journal, journal_len, path, len, 0x60, 0, 0, 0, 0, i);
         bulgefs_write(image, n * 512, journal, journal_len, path, len, 0, data, i * 230, i);
+    }
+    for (uint32_t i = 0; i < 6; i += 2) {
+        uint8_t path[32];
+        size_t len = file_path(i < 4 ? 0 : folders, i, path);
+        bulgefs_set_attributes(image, n * 512, journal, journal_len, path, len, data,
+                               512 * (1 + i));
     }
     uint8_t deepest[32];
     size_t len = file_path(folders, (5 + folders) % 6, deepest);
@@ -451,14 +494,15 @@ static void damage_last_record(uint8_t *journal, size_t n)
         put_number(journal + used - 516, (uint32_t)n + more[random_below(5)]);
 }
 
-/* Leads a chain out of the image: by a table entry, or by an entry's first block. */
+/* Leads a chain out of the image: by a table entry, or by a first block of a file. */
 static void damage_chain(uint8_t *image, size_t n)
 {
     static const uint32_t more[] = {0, 1, 112, 2000, 4000, 65000, 0x7FFFFFFF};
     size_t root = (n + 127) / 128 + 1;
     size_t file = root * 512 + 128 * (1 + random_below(6));
     size_t entry = 512 + 4 * (root + random_below((uint32_t)(n - root)));
-    put_number(image + (random_below(2) && file + 8 <= n * 512 ? file + 4 : entry),
+    size_t field = file + (random_below(2) ? 4 : 32);
+    put_number(image + (random_below(2) && field + 4 <= n * 512 ? field : entry),
                (uint32_t)n + more[random_below(7)]);
 }
 
@@ -587,6 +631,49 @@ static void freed_blocks(void)
     expect(memcmp(image, before, sizeof image) == 0, "freed: as it was");
 }
 
+/*
+ * Attributes of one block and of two beside a file, read into buffers that hold
+ * them in whole and in part, cleared and taken back.
+ */
+static void attributes(void)
+{
+    static uint8_t image[16 * 512], before[16 * 512], journal[16384], data[1024], got[2000];
+    static const uint8_t path[] = "/A";
+    bulgefs_uuid uuid = {{0}};
+    fill_random(data, sizeof data);
+    expect(bulgefs_format(image, sizeof image, 2, 1, uuid, volume_name, 128) == 0, "attr: format");
+    expect(bulgefs_journal_start(journal, sizeof journal) == 0, "attr: start");
+    expect(bulgefs_create(image, sizeof image, journal, sizeof journal, path, 2, 0x60, 0, 0, 0, 0,
+                          2).number == 0, "attr: create");
+    expect(bulgefs_write(image, sizeof image, journal, sizeof journal, path, 2, 0, data, 513,
+                         3).number == 0, "attr: write");
+    memcpy(before, image, sizeof image);
+    bulgefs_changed c = bulgefs_set_attributes(image, sizeof image, journal, sizeof journal, path,
+                                               2, data, 512);
+    expect(c.number == 0 && c.record == 2068 && used_length(journal) == 5177, "attr: one block");
+    c = bulgefs_set_attributes(image, sizeof image, journal, sizeof journal, path, 2, data, 1024);
+    expect(c.number == 0 && c.record == 2584, "attr: two blocks");
+    expect(bulgefs_set_attributes(image, sizeof image, journal, sizeof journal, path, 2, data,
+                                  0).number == BULGEFS_BAD_ARGUMENT, "attr: no bytes");
+    expect(bulgefs_set_attributes(image, sizeof image, journal, sizeof journal, path, 2, before,
+                                  9 * 512).number == BULGEFS_TOO_MANY_BLOCKS, "attr: nine blocks");
+    bulgefs_filled r = bulgefs_read_attributes(image, sizeof image, path, 2, got, sizeof got);
+    expect(r.number == 0 && r.count == 1024 && memcmp(got, data, 1024) == 0, "attr: read");
+    r = bulgefs_read_attributes(image, sizeof image, path, 2, got, 1023);
+    expect(r.number == 0 && r.count == 512, "attr: a part");
+    r = bulgefs_read_attributes(image, sizeof image, path, 2, got, 511);
+    expect(r.number == 0 && r.count == 0, "attr: no whole block");
+    c = bulgefs_clear_attributes(image, sizeof image, journal, sizeof journal, path, 2);
+    expect(c.number == 0 && c.record == 2584, "attr: clear");
+    expect(memcmp(image, before, sizeof image) == 0, "attr: as before the sets");
+    c = bulgefs_clear_attributes(image, sizeof image, journal, sizeof journal, path, 2);
+    expect(c.number == 0 && c.record == 520, "attr: clear of none");
+    for (int i = 0; i < 4; i++)
+        expect(bulgefs_undo(image, sizeof image, journal, sizeof journal).number == 0,
+               "attr: undo");
+    expect(memcmp(image, before, sizeof image) == 0, "attr: as it was");
+}
+
 /* The largest image and the longest journal. */
 static void largest(void)
 {
@@ -614,6 +701,7 @@ int main(void)
     damaged_volumes();
     full_name();
     freed_blocks();
+    attributes();
     largest();
     printf("%lu passed, %lu failed\n", passed, failed);
     return failed == 0 ? 0 : 1;

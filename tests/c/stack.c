@@ -64,6 +64,24 @@ static void look(void)
     number = bulgefs_look_in_place(image, image_len, path, 2, 0).length == 512 ? 0 : 99;
 }
 
+static void set_attributes(void)
+{
+    number = bulgefs_set_attributes(image, image_len, journal, journal_len, path, 2, data, 4096)
+                 .number;
+}
+
+static void read_attributes(void)
+{
+    static uint8_t buffer[4096];
+    number = bulgefs_read_attributes(image, image_len, path, 2, buffer, 4096).count == 4096 ? 0
+                                                                                            : 99;
+}
+
+static void clear_attributes(void)
+{
+    number = bulgefs_clear_attributes(image, image_len, journal, journal_len, path, 2).number;
+}
+
 static void delete(void)
 {
     number = bulgefs_delete(image, image_len, journal, journal_len, path, 2).number;
@@ -75,7 +93,10 @@ static const struct {
 } calls[] = {
     {"format", format}, {"journal_start", start}, {"create", create}, {"write", write_data},
     {"check", check},   {"lookup", lookup},       {"read", read_data}, {"look_in_place", look},
-    {"load_table", load}, {"store_table", store}, {"delete", delete}, {"undo", undo},
+    {"load_table", load}, {"store_table", store},
+    {"set_attributes", set_attributes}, {"set_attributes again", set_attributes},
+    {"read_attributes", read_attributes}, {"clear_attributes", clear_attributes}, {"undo", undo},
+    {"delete", delete}, {"undo", undo},
 };
 
 /* The bytes of stack that a call takes. */

@@ -52,6 +52,9 @@ static void journals(void)
     expect(BULGEFS_DELETE_BLOCKS(65022u, 65536u) >= 65022u + 508u + 2u, "the largest delete");
     expect(BULGEFS_JOURNAL_SIZE(1u, 65536u) < BULGEFS_MAX_JOURNAL, "a journal for any change");
     expect(BULGEFS_NEW_DIRECTORY_BLOCKS(64u) == 130u, "BULGEFS_NEW_DIRECTORY_BLOCKS");
+    expect(BULGEFS_ATTRIBUTES_BLOCKS(BULGEFS_MAX_ATTRIBUTE_BLOCKS, 8u) == 34u
+               && BULGEFS_ATTRIBUTES_BLOCKS(0u, 1u) == 4u,
+           "BULGEFS_ATTRIBUTES_BLOCKS");
     expect(BULGEFS_JOURNAL_SIZE(2u, 1u) == 1045u, "BULGEFS_JOURNAL_SIZE");
 }
 
@@ -59,7 +62,7 @@ static void texts(void)
 {
     uint32_t number;
     for (number = 0; number <= 30u; number++) {
-        int named = number <= 18u || number == 21u;
+        int named = number <= 18u || number == 20u || number == 21u;
         int known = strcmp(bulgefs_text(number), bulgefs_text(4294967295u)) != 0;
         expect(named == known, "bulgefs_text does not know just the numbers that are given");
     }
@@ -71,7 +74,7 @@ static void answers(void)
     expect(sizeof(bulgefs_uuid) == 16 && sizeof(bulgefs_found) == 16, "uuid, found");
     expect(sizeof(bulgefs_filled) == 8 && sizeof(bulgefs_part) == 8, "filled, part");
     expect(sizeof(bulgefs_created) == 12 && sizeof(bulgefs_changed) == 8, "created, changed");
-    expect(BULGEFS_VERSION >= 500u && strlen(BULGEFS_VERSION_TEXT) >= 5, "version");
+    expect(BULGEFS_VERSION >= 600u && strlen(BULGEFS_VERSION_TEXT) >= 5, "version");
     expect(BULGEFS_PLAIN_FILE >= BULGEFS_MIN_FILE_TYPE
                && BULGEFS_PLAIN_DIRECTORY >= BULGEFS_MIN_DIRECTORY_TYPE,
            "plain types");

@@ -2,8 +2,8 @@
 // for C. Nothing is asked of the caller but buffers that do not overlap.
 ghost use mathlib.Core.Path.{_≡_};
 ghost use Rattle.layout.specs.Check.{check};
-ghost use Rattle.layout.specs.Looks.{LookupAnswer, ReadAnswer, Extent, lookup, read, extentOf};
-ghost use Rattle.volume.specs.Change.{Change as ChangeAsked, create, write, delete, createDirectory, deleteDirectory, slotGiven};
+ghost use Rattle.layout.specs.Looks.{LookupAnswer, ReadAnswer, Extent, lookup, read, extentOf, readAttributes};
+ghost use Rattle.volume.specs.Change.{Change as ChangeAsked, create, write, delete, createDirectory, deleteDirectory, setAttributes, clearAttributes, slotGiven};
 ghost use Rattle.volume.specs.Format.{formatRefusal, formatted};
 ghost use Rattle.chain_table.specs.Transfer.{loadTable, storeTable};
 ghost use Rattle.journal.specs.Journal.{startRefusal, afterStart};
@@ -84,6 +84,22 @@ pub extern "C" fn bulgefs_read(image: &[u8], path: &[u8], offset: u64, buffer: &
     ensures { λ r. ⌜ _≡_ {A = ReadAnswer} (record { number = r .number; count = r .count; buffer = now (buffer .exit) }) (read (now (image .entry)) (now (path .entry)) offset (now (buffer .entry))) ⌝ }
 {
     match layout::reading::read(image, path, offset as usize, buffer) {
+        layout::reading::Filled::Bytes(count) => Filled {
+            number: 0,
+            count: count as u32,
+        },
+        layout::reading::Filled::Refused(number) => Filled {
+            number: number,
+            count: 0,
+        },
+    }
+}
+
+#[no_mangle]
+pub extern "C" fn bulgefs_read_attributes(image: &[u8], path: &[u8], buffer: &mut [u8]) -> Filled
+    ensures { λ r. ⌜ _≡_ {A = ReadAnswer} (record { number = r .number; count = r .count; buffer = now (buffer .exit) }) (readAttributes (now (image .entry)) (now (path .entry)) (now (buffer .entry))) ⌝ }
+{
+    match layout::reading::read_attributes(image, path, buffer) {
         layout::reading::Filled::Bytes(count) => Filled {
             number: 0,
             count: count as u32,
@@ -254,6 +270,31 @@ pub extern "C" fn bulgefs_delete_directory(
     ensures state { λ _. ⌜ state (now (image .exit)) (now (journal .exit)) ≡ afterChange (state (now (image .entry)) (now (journal .entry))) (deleteDirectory (now (path .entry))) ⌝ }
 {
     slotless(journal::calls::delete_directory(image, journal, path))
+}
+
+#[no_mangle]
+pub extern "C" fn bulgefs_set_attributes(
+    image: &mut [u8],
+    journal: &mut [u8],
+    path: &[u8],
+    bytes: &[u8],
+) -> Changed
+    ensures answer { λ r. ⌜ changed (r .number) 0 (r .size) ≡ changeAnswer (state (now (image .entry)) (now (journal .entry))) (setAttributes (now (path .entry)) (now (bytes .entry))) ⌝ }
+    ensures state { λ _. ⌜ state (now (image .exit)) (now (journal .exit)) ≡ afterChange (state (now (image .entry)) (now (journal .entry))) (setAttributes (now (path .entry)) (now (bytes .entry))) ⌝ }
+{
+    slotless(journal::calls::set_attributes(image, journal, path, bytes))
+}
+
+#[no_mangle]
+pub extern "C" fn bulgefs_clear_attributes(
+    image: &mut [u8],
+    journal: &mut [u8],
+    path: &[u8],
+) -> Changed
+    ensures answer { λ r. ⌜ changed (r .number) 0 (r .size) ≡ changeAnswer (state (now (image .entry)) (now (journal .entry))) (clearAttributes (now (path .entry))) ⌝ }
+    ensures state { λ _. ⌜ state (now (image .exit)) (now (journal .exit)) ≡ afterChange (state (now (image .entry)) (now (journal .entry))) (clearAttributes (now (path .entry))) ⌝ }
+{
+    slotless(journal::calls::clear_attributes(image, journal, path))
 }
 
 #[no_mangle]

@@ -10,9 +10,9 @@ use lib.Dec.{eqb, leb}
 use Rattle.layout.specs.Lists.{within, every, joined}
 use Rattle.layout.specs.Bytes.{be32, bytes4, zeros, part, splice}
 use Rattle.layout.specs.Check.{check}
-use Rattle.volume.specs.Change.{Change, create, write, delete, createDirectory, deleteDirectory}
+use Rattle.volume.specs.Change.{Change, create, write, delete, createDirectory, deleteDirectory, setAttributes, clearAttributes}
 use Rattle.journal.specs.Journal.{recordsFrom, started, startRefusal}
-use Rattle.journal.specs.Run.{checkImage, findFile, readFile, lookAt, Call, change, undo, look, Answer, changed, undone, checked, found, filled, shown, State, run, answers, state}
+use Rattle.journal.specs.Run.{checkImage, findFile, readFile, lookAt, readAttributesOf, Call, change, undo, look, Answer, changed, undone, checked, found, filled, shown, State, run, answers, state}
 use Rattle.journal.specs.Replay.{replayed, standing, replayAnswers}
 
 -- the number of the eight bytes at an offset
@@ -43,9 +43,10 @@ abbrev pub Fits : List ℕ → ℕ → Type 0
 Fits s at = at + itemSize s at ≤ length s
 
 -- Ops: 1 check, 2 look up, 3 read (the data is its buffer as it is before the call), 4 look in place (the offset is its index), 5 create, 6 write,
--- 7 delete, 8 undo, 9 create directory (its number of blocks is in the last four bytes of the offset), 10 delete directory.
+-- 7 delete, 8 undo, 9 create directory (its number of blocks is in the last four bytes of the offset), 10 delete directory, 11 set attributes,
+-- 12 clear attributes, 13 read attributes (the data is its buffer, as for read).
 abbrev pub lastOp : ℕ
-lastOp = 10
+lastOp = 13
 
 unfoldable pub changeAt : List ℕ → ℕ → Change
 changeAt s at =
@@ -59,7 +60,9 @@ changeAt s at =
     cond (eqb (opAt s at) 5) (create name type user group permissions flags time)
     (cond (eqb (opAt s at) 6) (write name (be64 s (at + 9)) (dataAt s at) time)
     (cond (eqb (opAt s at) 9) (createDirectory name type user group permissions flags time (be32 s (at + 13)))
-    (cond (eqb (opAt s at) 10) (deleteDirectory name) (delete name))))
+    (cond (eqb (opAt s at) 10) (deleteDirectory name)
+    (cond (eqb (opAt s at) 11) (setAttributes name (dataAt s at))
+    (cond (eqb (opAt s at) 12) (clearAttributes name) (delete name))))))
 
 unfoldable pub callAt : List ℕ → ℕ → Call
 callAt s at =
@@ -69,7 +72,8 @@ callAt s at =
     (cond (eqb (opAt s at) 2) (look (findFile name))
     (cond (eqb (opAt s at) 3) (look (readFile name offset (dataAt s at)))
     (cond (eqb (opAt s at) 4) (look (lookAt name offset))
-    (cond (eqb (opAt s at) 8) undo (change (changeAt s at))))))
+    (cond (eqb (opAt s at) 13) (look (readAttributesOf name (dataAt s at)))
+    (cond (eqb (opAt s at) 8) undo (change (changeAt s at)))))))
 
 -- an item that is not cut off, with a known op
 unfoldable pub itemOk : List ℕ → ℕ → Bool
@@ -85,7 +89,7 @@ callsFrom s at = map (callAt s) (itemsFrom s at)
 abbrev pub callsOf : List ℕ → List Call
 callsOf s = callsFrom s 0
 
--- An answer as bytes: four numbers of 32 bits; then, for read, the buffer after the call, and for look in place 512 bytes, the part and zeros after it.
+-- An answer as bytes: four numbers of 32 bits; then, for read and read attributes, the buffer after the call, and for look in place 512 bytes, the part and zeros after it.
 unfoldable pub numbers : ℕ → ℕ → ℕ → ℕ → List ℕ
 numbers a b c d = bytes4 a ++ (bytes4 b ++ (bytes4 c ++ bytes4 d))
 
@@ -105,6 +109,7 @@ answerSize (look checkImage) = 16
 answerSize (look (findFile name)) = 16
 answerSize (look (readFile name offset buffer)) = 16 + length buffer
 answerSize (look (lookAt name i)) = 16 + 512
+answerSize (look (readAttributesOf name buffer)) = 16 + length buffer
 
 unfoldable pub answersSize : List Call → ℕ
 answersSize [] = 0

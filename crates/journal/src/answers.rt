@@ -4,10 +4,10 @@ ghost use Prim.Native.Nat.{_+_, _≤_, _<_};
 ghost use lib.ListN.{length};
 ghost use Rattle.layout.specs.Bytes.{splice};
 ghost use Rattle.layout.specs.Answers.{lookupAnswer, readAnswer};
-ghost use Rattle.layout.specs.Looks.{read};
 ghost use mathlib.Core.List.{[]};
-ghost use Rattle.journal.specs.Script.{Fits, numbers, nameAt, dataAt, dataLength, encoded, be64};
-ghost use Rattle.journal.specs.Run.{checkImage, findFile, readFile, lookAt, lookAnswer, found, shown};
+ghost use Rattle.journal.specs.Script.{Fits, numbers, nameAt, dataLength, encoded, be64};
+ghost use Rattle.journal.specs.Run.{checkImage, findFile, lookAt, lookAnswer, found, filled, shown};
+ghost use Rattle.journal.specs.Walks.Scripts.{filledAt};
 use super::script::get64;
 use layout::number::get32;
 
@@ -102,22 +102,25 @@ fn filled_numbers(f: layout::reading::Filled) -> Numbers
     }
 }
 
-// Copies the data of the item at `at` into the buffer, and reads over it.
+// Copies the data of the item at `at` into the buffer, and reads over it: the file's attributes, or the file.
 fn read_into(script: &[u8], at: usize, image: &[u8], buffer: &mut [u8]) -> layout::reading::Filled
     requires { ⌜ (Fits (now script) at) × (length (now buffer) ≡ dataLength (now script) at) ⌝ }
-    ensures { λ r. ⌜ readAnswer r (now (buffer .exit)) ≡ read (now (image .entry)) (nameAt (now (script .entry)) at) (be64 (now (script .entry)) (at + 9)) (dataAt (now (script .entry)) at) ⌝ }
+    ensures { λ r. ⌜ readAnswer r (now (buffer .exit)) ≡ filledAt (now (image .entry)) (now (script .entry)) at ⌝ }
 {
     let before = super::script::data_of(script, at);
     layout::bytes::copy(before, buffer);
-    let offset = get64(script, at + 9) as usize;
     let name = super::script::name_of(script, at);
+    if script[at] == 13 {
+        return layout::reading::read_attributes(image, name, buffer);
+    }
+    let offset = get64(script, at + 9) as usize;
     layout::reading::read(image, name, offset, buffer)
 }
 
 // Read what the item at `at` asks for, with its answer.
 pub fn read(script: &[u8], at: usize, image: &[u8], part: &mut [u8])
     requires { ⌜ (Fits (now script) at) × (length (now part) ≡ 16 + dataLength (now script) at) ⌝ }
-    ensures { λ _. ⌜ now (part .exit) ≡ encoded (lookAnswer (now (image .entry)) (readFile (nameAt (now (script .entry)) at) (be64 (now (script .entry)) (at + 9)) (dataAt (now (script .entry)) at))) ⌝ }
+    ensures { λ _. ⌜ now (part .exit) ≡ encoded (filled (filledAt (now (image .entry)) (now (script .entry)) at)) ⌝ }
 {
     let a = 16;
     let e = 16 + get32(script, at + 29) as usize;

@@ -1,6 +1,6 @@
 // The calls that are lent a journal. Each checks the image and scans the journal once.
 ghost use mathlib.Core.Path.{_≡_};
-ghost use Rattle.volume.specs.Change.{create, write, delete, createDirectory, deleteDirectory};
+ghost use Rattle.volume.specs.Change.{create, write, delete, createDirectory, deleteDirectory, setAttributes, clearAttributes};
 ghost use Rattle.volume.specs.Asked.{asked};
 ghost use Rattle.journal.specs.Run.{afterUndo, undoAnswer, afterChange, changeAnswer, state};
 ghost use Rattle.journal.specs.Walks.Changes.{Inspects};
@@ -191,4 +191,22 @@ pub fn delete_directory(image: &mut [u8], journal: &mut [u8], path: &[u8]) -> Ch
     ensures numbered { λ r. ⌜ ChangeNumbered r ⌝ }
 {
     change(image, journal, Change::DeleteDirectory, path, b"")
+}
+
+// Set attributes: puts whole blocks of data beside a file, in place of those that it has.
+pub fn set_attributes(image: &mut [u8], journal: &mut [u8], path: &[u8], bytes: &[u8]) -> Changed
+    ensures answer { λ r. ⌜ changedAnswer r ≡ changeAnswer (state (now (image .entry)) (now (journal .entry))) (setAttributes (now (path .entry)) (now (bytes .entry))) ⌝ }
+    ensures state { λ _. ⌜ state (now (image .exit)) (now (journal .exit)) ≡ afterChange (state (now (image .entry)) (now (journal .entry))) (setAttributes (now (path .entry)) (now (bytes .entry))) ⌝ }
+    ensures numbered { λ r. ⌜ ChangeNumbered r ⌝ }
+{
+    change(image, journal, Change::SetAttributes, path, bytes)
+}
+
+// Clear attributes: frees the blocks of a file's attributes.
+pub fn clear_attributes(image: &mut [u8], journal: &mut [u8], path: &[u8]) -> Changed
+    ensures answer { λ r. ⌜ changedAnswer r ≡ changeAnswer (state (now (image .entry)) (now (journal .entry))) (clearAttributes (now (path .entry))) ⌝ }
+    ensures state { λ _. ⌜ state (now (image .exit)) (now (journal .exit)) ≡ afterChange (state (now (image .entry)) (now (journal .entry))) (clearAttributes (now (path .entry))) ⌝ }
+    ensures numbered { λ r. ⌜ ChangeNumbered r ⌝ }
+{
+    change(image, journal, Change::ClearAttributes, path, b"")
 }

@@ -3,7 +3,7 @@ ghost use mathlib.Core.Path.{_≡_};
 ghost use mathlib.Core.List.{List};
 ghost use Prim.Native.Nat.{ℕ, _+_, _≤_, _<_};
 ghost use lib.ListN.{length, getD};
-ghost use mathlib.Core.Bool.{true};
+ghost use mathlib.Core.Bool.{true, false};
 ghost use Rattle.layout.specs.Lists.{every, joined};
 ghost use Rattle.layout.specs.Bytes.{be32, splice};
 ghost use Rattle.journal.specs.Run.{undo, answer, run, answers, state};
@@ -11,7 +11,7 @@ ghost use Rattle.journal.specs.Answers.{changedAnswer, undoneAnswer, ran
 ghost use Rattle.volume.specs.Asked.{asked};
 ghost use Rattle.volume.specs.Change.{createDirectory};
 ghost use Rattle.journal.specs.Script.{numbers, lastOp, Fits, nameAt, dataAt, opAt, changeAt, callAt, encoded, itemOk, itemsFrom, callsOf, answersSize, leaves, outcome, replayOutcome, JustStarted};
-ghost use Rattle.journal.specs.Walks.Scripts.{Item, CallDone};
+ghost use Rattle.journal.specs.Walks.Scripts.{looks, Item, CallDone};
 use super::answers::Numbers;
 use super::script::data_of;
 use super::script::get64;
@@ -104,6 +104,12 @@ fn change_of(script: &[u8], at: usize) -> Change
     if op == 10 {
         return Change::DeleteDirectory;
     }
+    if op == 11 {
+        return Change::SetAttributes;
+    }
+    if op == 12 {
+        return Change::ClearAttributes;
+    }
     Change::Delete
 }
 
@@ -118,9 +124,13 @@ fn undo(image: &mut [u8], journal: &mut [u8], part: &mut [u8])
 
 // Make the call that only looks of the item at `at`; the journal does not matter.
 fn look(script: &[u8], at: usize, image: &[u8], part: &mut [u8])
-    requires { ⌜ (Item (now script) at (now part)) × (1 ≤ opAt (now script) at) × (opAt (now script) at ≤ 4) ⌝ }
+    requires { ⌜ (Item (now script) at (now part)) × (1 ≤ opAt (now script) at) × (looks (opAt (now script) at) ≡ true) ⌝ }
     ensures { λ _. ⌜ ((journal : List ℕ) → now (part .exit) ≡ encoded (answer (state (now (image .entry)) journal) (callAt (now (script .entry)) at))) ⌝ }
 {
+    if super::script::fills(script[at]) {
+        super::answers::read(script, at, image, part);
+        return;
+    }
     if script[at] == 1 {
         super::answers::check(image, part);
         return;
@@ -129,16 +139,12 @@ fn look(script: &[u8], at: usize, image: &[u8], part: &mut [u8])
         super::answers::lookup(script, at, image, part);
         return;
     }
-    if script[at] == 3 {
-        super::answers::read(script, at, image, part);
-        return;
-    }
     super::answers::look_in_place(script, at, image, part);
 }
 
 // Make the change or undo of the item at `at`.
 fn change(script: &[u8], at: usize, image: &mut [u8], journal: &mut [u8], part: &mut [u8])
-    requires { ⌜ (Item (now script) at (now part)) × (5 ≤ opAt (now script) at) ⌝ }
+    requires { ⌜ (Item (now script) at (now part)) × (looks (opAt (now script) at) ≡ false) ⌝ }
     ensures { λ _. ⌜ CallDone (state (now (image .entry)) (now (journal .entry))) (callAt (now (script .entry)) at) (now (image .exit)) (now (journal .exit)) (now (part .exit)) ⌝ }
 {
     if script[at] == 8 {
@@ -152,12 +158,22 @@ fn change(script: &[u8], at: usize, image: &mut [u8], journal: &mut [u8], part: 
     super::answers::put_numbers(part, changed_numbers(c));
 }
 
+// Whether an op is a call that only looks.
+fn is_look(op: u8) -> bool
+    ensures { λ r. ⌜ r ≡ looks op ⌝ }
+{
+    if op == 13 {
+        return true;
+    }
+    op <= 4
+}
+
 // Make the call of the item at `at`.
 fn make(script: &[u8], at: usize, image: &mut [u8], journal: &mut [u8], part: &mut [u8])
     requires { ⌜ (Item (now script) at (now part)) × (1 ≤ opAt (now script) at) × (opAt (now script) at ≤ lastOp) ⌝ }
     ensures { λ _. ⌜ CallDone (state (now (image .entry)) (now (journal .entry))) (callAt (now (script .entry)) at) (now (image .exit)) (now (journal .exit)) (now (part .exit)) ⌝ }
 {
-    if script[at] <= 4 {
+    if is_look(script[at]) {
         look(script, at, image, part);
         return;
     }

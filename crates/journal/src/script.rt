@@ -6,6 +6,7 @@ ghost use lib.ListN.{length};
 ghost use lib.Dec.{leb};
 ghost use Rattle.layout.specs.Lists.{every};
 ghost use Rattle.journal.specs.Script.{Fits, be64, nameAt, dataAt, itemSize, callAt, itemOk, itemsFrom, callsOf, answerSize, answersSize};
+ghost use Rattle.journal.specs.Walks.Scripts.{fills};
 use layout::number::get32;
 
 // The number of the eight bytes at `at`.
@@ -63,7 +64,17 @@ fn item_ok(script: &[u8], at: usize) -> bool
     if script[at] < 1 {
         return false;
     }
-    script[at] <= 10
+    script[at] <= 13
+}
+
+// Whether an op fills a buffer: read, and read attributes.
+pub fn fills(op: u8) -> bool
+    ensures { λ r. ⌜ r ≡ fills op ⌝ }
+{
+    if op == 13 {
+        return true;
+    }
+    op == 3
 }
 
 // The length of the answer to the item at `at`.
@@ -71,7 +82,7 @@ pub fn answer_size(script: &[u8], at: usize) -> usize
     requires { ⌜ Fits (now script) at ⌝ }
     ensures { λ r. ⌜ r ≡ answerSize (callAt (now (script .entry)) at) ⌝ }
 {
-    if script[at] == 3 {
+    if fills(script[at]) {
         return 16 + get32(script, at + 29) as usize;
     }
     if script[at] == 4 {

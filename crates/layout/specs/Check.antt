@@ -8,10 +8,10 @@ use lib.Dec.{eqb}
 use Rattle.layout.specs.Lists.{within, iff, interval, every, has, distinct, same, joined}
 use Rattle.layout.specs.Refusals.{require, firstOf}
 use Rattle.layout.specs.Bytes.{be32, part}
-use Rattle.layout.specs.Limits.{minBlocks, maxBlocks, maxDirectory, maxLevels}
+use Rattle.layout.specs.Limits.{minBlocks, maxBlocks, maxDirectory, maxLevels, maxAttributes}
 use Rattle.layout.specs.Geometry.{signature, blockCount, tableBlocks, rootBlock, blocksFor}
 use Rattle.layout.specs.Table.{next, chain, chainOk, occupied}
-use Rattle.layout.specs.Directory.{slotAt, slots, typeOf, firstBlock, sizeOf, blocksOf, selfOf, parentOf, isFree, isFile, isDirectory, nameOf, nameOk, files, directory, dirs}
+use Rattle.layout.specs.Directory.{slotAt, slots, typeOf, firstBlock, sizeOf, blocksOf, attributeBlock, attributeSize, selfOf, parentOf, isFree, isFile, isDirectory, nameOf, nameOk, files, directory, dirs}
 
 -- 1. "Length is 512·n with n in range."
 unfoldable pub stage1 : List ℕ → Bool
@@ -44,16 +44,19 @@ childOk s n parent e =
 
 -- 5. "Slot 4d−1 has type 0xFF. Each slot from 1 to 4d−2 is free or a file. For a file: a good name, none equal to another; both attribute fields 0;
 -- size in blocks = ceil(size/512); first block 0 exactly if the size is 0." "Of a directory entry stage 5 asks a good name, none equal, and
--- attribute fields and size in bytes 0."
+-- attribute fields and size in bytes 0." L6: "Stage 5 looks at the two fields (for files both 0, or block not 0 and size 1 to 8)".
+unfoldable pub noAttributes : List ℕ → ℕ → Bool
+noAttributes s e = eqb (attributeBlock s e) 0 && eqb (attributeSize s e) 0
+
 unfoldable pub attributesOk : List ℕ → ℕ → Bool
-attributesOk s e = eqb (be32 s (e + 32)) 0 && eqb (be32 s (e + 36)) 0
+attributesOk s e = noAttributes s e || not (eqb (attributeBlock s e) 0) && within 1 maxAttributes (attributeSize s e)
 
 unfoldable pub fileOk : List ℕ → ℕ → Bool
 fileOk s e =
     nameOk s e && (attributesOk s e && (eqb (blocksOf s e) (blocksFor (sizeOf s e)) && iff (eqb (firstBlock s e) 0) (eqb (sizeOf s e) 0)))
 
 unfoldable pub directoryEntryOk : List ℕ → ℕ → Bool
-directoryEntryOk s e = nameOk s e && (attributesOk s e && eqb (sizeOf s e) 0)
+directoryEntryOk s e = nameOk s e && (noAttributes s e && eqb (sizeOf s e) 0)
 
 unfoldable pub slotOk : List ℕ → ℕ → Bool
 slotOk s e = isFree (typeOf s e) || (isFile (typeOf s e) && fileOk s e || isDirectory (typeOf s e) && directoryEntryOk s e)
@@ -115,10 +118,10 @@ faultOf fault4 = 4
 faultOf fault5 = 5
 faultOf (met bs) = 0
 
--- The chains that own blocks, each a first block and a length: of a file; of the directory at block b and its files, in slot order; of the whole
--- tree. And all their blocks.
+-- The chains that own blocks, each a first block and a length: of a file, its own and that of its attributes (L6: "stage 6 at these chains among all
+-- others"), of no blocks if it has none; of the directory at block b and its files, in slot order; of the whole tree. And all their blocks.
 unfoldable pub fileChains : List ℕ → ℕ → List (ℕ × ℕ)
-fileChains s e = (firstBlock s e, blocksOf s e) ∷ []
+fileChains s e = (firstBlock s e, blocksOf s e) ∷ (attributeBlock s e, attributeSize s e) ∷ []
 
 unfoldable pub chains : List ℕ → ℕ → List (ℕ × ℕ)
 chains s b = let ds = directory s b in (b, length ds) ∷ joined (λ k. fileChains s (slotAt ds k)) (files s ds)

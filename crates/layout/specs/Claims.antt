@@ -10,7 +10,7 @@ use Rattle.layout.specs.Lists.{has}
 use Rattle.layout.specs.Bytes.{part}
 use Rattle.layout.specs.Geometry.{blockCount}
 use Rattle.layout.specs.Table.{next}
-use Rattle.layout.specs.Directory.{isFile, fileBlocks, content}
+use Rattle.layout.specs.Directory.{attributeSize, isFile, fileBlocks, content, attributeBlocks, attributes}
 use Rattle.layout.specs.Paths.{parts, leading, shallow, pathSlot, entryOf}
 
 -- "Blocks needed are taken lowest number first": bs are free blocks of s, in ascending order, and no free block below one of them is left out
@@ -23,13 +23,20 @@ pub record LowestFree (s bs : List ℕ) : Type 0 where
 abbrev pub Reached : List ℕ → List ℕ → Type 0
 Reached s other = (shallow (leading (parts other)) ≡ true) × (pathSlot isFile s other ≢ 0)
 
--- the file of a path in s and in s′: found in the same slot, with the same bytes of its entry, blocks and content
+-- L6: the attributes of the file whose entry is at e, in s and in s′: the same size, blocks and bytes
+pub record SameAttributes (s s′ : List ℕ) (e : ℕ) : Type 0 where
+  pub size : attributeSize s′ e ≡ attributeSize s e
+  pub blocks : attributeBlocks s′ e ≡ attributeBlocks s e
+  pub bytes : attributes s′ e ≡ attributes s e
+
+-- the file of a path in s and in s′: found in the same slot, with the same bytes of its entry, blocks, content and attributes
 pub record Untouched (s s′ other : List ℕ) : Type 0 where
   pub slot : shallow (leading (parts other)) ≡ true → pathSlot isFile s′ other ≡ pathSlot isFile s other
   pub entry : Reached s other → entryOf isFile s′ other ≡ entryOf isFile s other
   pub bytes : Reached s other → part s′ (entryOf isFile s other) 128 ≡ part s (entryOf isFile s other) 128
   pub blocks : Reached s other → fileBlocks s′ (entryOf isFile s other) ≡ fileBlocks s (entryOf isFile s other)
   pub contents : Reached s other → content s′ (entryOf isFile s other) ≡ content s (entryOf isFile s other)
+  pub second : Reached s other → SameAttributes s s′ (entryOf isFile s other)
 
 -- `more` is `less` with one element put in somewhere
 pub record Inserted {A : Type 0} (one : A) (less more : List A) : Type 0 where

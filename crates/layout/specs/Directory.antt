@@ -32,6 +32,13 @@ sizeOf s e = be32 s (e + 8)
 abbrev pub blocksOf : List ℕ → ℕ → ℕ
 blocksOf s e = be32 s (e + 12)
 
+-- L6: "Attribute block and attribute size (in blocks) may now name a second chain for a file"
+abbrev pub attributeBlock : List ℕ → ℕ → ℕ
+attributeBlock s e = be32 s (e + 32)
+
+abbrev pub attributeSize : List ℕ → ℕ → ℕ
+attributeSize s e = be32 s (e + 36)
+
 -- "The self entry has block_self at 4, block_parent at 8, size_blocks at 12."
 abbrev pub selfOf : List ℕ → ℕ → ℕ
 selfOf s e = be32 s (e + 4)
@@ -122,3 +129,10 @@ fileBlocks s e = chain (next s) (firstBlock s e) (blocksOf s e)
 
 unfoldable pub content : List ℕ → ℕ → List ℕ
 content s e = take (sizeOf s e) (joined (block s) (fileBlocks s e))
+
+-- L6: the blocks of its second chain, and the bytes that they hold
+unfoldable pub attributeBlocks : List ℕ → ℕ → List ℕ
+attributeBlocks s e = chain (next s) (attributeBlock s e) (attributeSize s e)
+
+unfoldable pub attributes : List ℕ → ℕ → List ℕ
+attributes s e = joined (block s) (attributeBlocks s e)

@@ -32,6 +32,10 @@ maxName = 80
 abbrev pub maxData : ℕ
 maxData = 4096
 
+-- L6: "size 1 to 8", in blocks
+abbrev pub maxAttributes : ℕ
+maxAttributes = 8
+
 -- the journal: "It is 5 to", and "67,108,864 bytes"
 abbrev pub minJournal : ℕ
 minJournal = 5

@@ -2,34 +2,50 @@
 ghost use Prim.Native.Nat.{_+_, _-_, _*_, _≤_, _<_};
 ghost use mathlib.Core.Path.{_≡_};
 ghost use lib.ListN.{length};
-ghost use Rattle.layout.specs.Walks.Chains.{walked};
+ghost use Rattle.layout.specs.Table.{next};
+ghost use Rattle.layout.specs.Directory.{firstBlock, blocksOf};
+ghost use Rattle.layout.specs.Walks.Chains.{walked, follow};
 ghost use Rattle.layout.specs.Walks.Shapes.{Room};
 ghost use Rattle.layout.specs.Walks.Slots.{entryAt};
-ghost use Rattle.layout.specs.Walks.Stages.{ownsBlocks, followSlot, followSlots, followBlocks, followTable};
+ghost use Rattle.layout.specs.Walks.Stages.{followFile, followSlot, followSlots, followBlocks, followTable};
 use super::directory::number_at;
 use super::directory::type_at;
 
-// Whether an entry of this type owns a chain: a self entry or a file.
-fn owns(ty: u8) -> bool
-    ensures { λ r. ⌜ r ≡ ownsBlocks ty ⌝ }
+// Follows the own chain of slot k, in block b, and marks its blocks.
+fn follow_own(image: &[u8], t: usize, n: usize, b: usize, k: usize, marks: &mut [u8]) -> bool
+    requires { ⌜ (Room (now image) t n (now marks)) × (b < n) ⌝ }
+    ensures { λ r. ⌜ walked r (now (marks .exit)) ≡ follow (next (now (image .entry))) n (blocksOf (now (image .entry)) (entryAt b k)) (firstBlock (now (image .entry)) (entryAt b k)) (now (marks .entry)) ⌝ }
 {
-    if ty == 1 {
-        return true;
-    }
-    super::directory::is_file(ty)
+    let first = number_at(image, b, k, 4);
+    let blocks = number_at(image, b, k, 12);
+    super::table::follow(image, t, n, first, blocks, marks)
 }
 
-// Follows the chain of slot k, in block b, if it owns one, and marks its blocks.
+// The same of a file, and then the chain of its attributes.
+fn follow_file(image: &[u8], t: usize, n: usize, b: usize, k: usize, marks: &mut [u8]) -> bool
+    requires { ⌜ (Room (now image) t n (now marks)) × (b < n) ⌝ }
+    ensures { λ r. ⌜ walked r (now (marks .exit)) ≡ followFile (now (image .entry)) n (entryAt b k) (now (marks .entry)) ⌝ }
+{
+    if !follow_own(image, t, n, b, k, marks) {
+        return false;
+    }
+    let c = super::file::attribute_chain(image, b, k);
+    super::table::follow(image, t, n, c.first, c.blocks, marks)
+}
+
+// Follows the chains that slot k, in block b, owns, and marks their blocks.
 fn follow_slot(image: &[u8], t: usize, n: usize, b: usize, k: usize, marks: &mut [u8]) -> bool
     requires { ⌜ (Room (now image) t n (now marks)) × (b < n) ⌝ }
     ensures { λ r. ⌜ walked r (now (marks .exit)) ≡ followSlot (now (image .entry)) n (entryAt b k) (now (marks .entry)) ⌝ }
 {
-    if !owns(type_at(image, b, k)) {
+    let ty = type_at(image, b, k);
+    if super::directory::is_file(ty) {
+        return follow_file(image, t, n, b, k, marks);
+    }
+    if ty != 1 {
         return true;
     }
-    let first = number_at(image, b, k, 4);
-    let blocks = number_at(image, b, k, 12);
-    super::table::follow(image, t, n, first, blocks, marks)
+    follow_own(image, t, n, b, k, marks)
 }
 
 // Follows the chains of the four slots of block b.

@@ -7,12 +7,13 @@ ghost use Rattle.layout.specs.Lists.{within, same};
 ghost use Rattle.layout.specs.Bytes.{be32, part};
 ghost use Rattle.layout.specs.Table.{next, chain, tableBlockOf};
 ghost use Rattle.layout.specs.Directory.{typeOf, isFile, isDirectory, nameOf, nameOk, goodName, slotOf, freeSlot, blocksOf, directory, isEmpty};
-ghost use Rattle.layout.specs.Check.{fileOk, directoryEntryOk, slotOk};
+ghost use Rattle.layout.specs.Check.{attributesOk, fileOk, directoryEntryOk, slotOk};
 ghost use Rattle.layout.specs.Walks.Chains.{walked};
 ghost use Rattle.layout.specs.Walks.Entries.{numbersOk, selfOk};
 ghost use Rattle.layout.specs.Walks.Shapes.{Room, DirectoryAt};
 ghost use Rattle.layout.specs.Walks.Slots.{Stands, entryAt, slotBlock, allFree};
 ghost use Rattle.layout.specs.Walks.Stages.{followDirectory};
+use super::limits::MAX_ATTRIBUTES;
 use super::limits::MAX_DIRECTORY;
 use super::limits::NAME_FIELD;
 use super::number::get32;
@@ -58,15 +59,27 @@ pub fn is_within(ty: u8, lo: u8, hi: u8) -> bool
     ty <= hi
 }
 
+// Whether the two attribute fields of the file at o are right.
+fn attributes_ok(block: &[u8], o: usize) -> bool
+    requires { ⌜ o + 128 ≤ length (now block) ⌝ }
+    ensures { λ r. ⌜ r ≡ attributesOk (now (block .entry)) o ⌝ }
+{
+    let size = get32(block, o + 36);
+    if get32(block, o + 32) == 0 {
+        return size == 0;
+    }
+    if size < 1 {
+        return false;
+    }
+    size <= MAX_ATTRIBUTES
+}
+
 // Whether the numbers of the file at o are right.
 fn numbers_ok(block: &[u8], o: usize) -> bool
     requires { ⌜ o + 128 ≤ length (now block) ⌝ }
     ensures { λ r. ⌜ r ≡ numbersOk (now (block .entry)) o ⌝ }
 {
-    if get32(block, o + 32) != 0 {
-        return false;
-    }
-    if get32(block, o + 36) != 0 {
+    if !attributes_ok(block, o) {
         return false;
     }
     let size = get32(block, o + 8) as usize;

@@ -1,11 +1,14 @@
 // The file, and the child directory, of a path in a sound image.
+ghost use Prim.Native.Nat.{_+_, _*_, _≤_};
 ghost use mathlib.Core.Path.{_≡_};
+ghost use lib.ListN.{length};
 ghost use Rattle.layout.specs.Lists.{within};
-ghost use Rattle.layout.specs.Directory.{isFile, isDirectory};
+ghost use Rattle.layout.specs.Directory.{attributeBlock, attributeSize, isFile, isDirectory};
 ghost use Rattle.layout.specs.Check.{check};
 ghost use Rattle.layout.specs.Paths.{fileRefusal, directoryRefusal};
 ghost use Rattle.layout.specs.Walks.Looks.{formRefusal, wholeRefusal, foundRefusal, NoFile, Opens};
 ghost use Rattle.layout.specs.Walks.Paths.{PathGiven};
+ghost use Rattle.layout.specs.Walks.Slots.{entryAt};
 use super::directory::number_at;
 use super::limits::MAX_LEVELS;
 
@@ -107,4 +110,23 @@ pub fn open_directory(image: &[u8], path: &[u8]) -> File
         return refused(form);
     }
     open_entry(image, path, 0x20, 0x5F)
+}
+
+// A chain by its first block and how many it has.
+pub struct Chain {
+    pub first: usize,
+    pub blocks: usize,
+}
+
+// The attributes' chain of the file in slot k, which is in block b: of no blocks if it has none.
+pub fn attribute_chain(image: &[u8], b: usize, k: usize) -> Chain
+    requires { ⌜ 512 * b + 512 ≤ length (now image) ⌝ }
+    ensures { λ r. ⌜ (r .first ≡ attributeBlock (now (image .entry)) (entryAt b k)) × (r .blocks ≡ attributeSize (now (image .entry)) (entryAt b k)) ⌝ }
+{
+    let first = number_at(image, b, k, 32);
+    let blocks = number_at(image, b, k, 36);
+    Chain {
+        first: first,
+        blocks: blocks,
+    }
 }

@@ -25,6 +25,9 @@ pub const NAME_FIELD: usize = 80;
 // One write takes at most 4,096 bytes of data.
 pub const MAX_DATA: usize = 4096;
 
+// The attributes of a file have 1 to 8 blocks, if there are any.
+pub const MAX_ATTRIBUTES: u32 = 8;
+
 // A journal has 5 to 67,108,864 bytes.
 pub const MIN_JOURNAL: usize = 5;
 

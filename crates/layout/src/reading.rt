@@ -3,7 +3,7 @@ ghost use Prim.Native.Nat.{_+_, _*_, _/_, _≤_, _<_};
 ghost use mathlib.Core.Path.{_≡_};
 ghost use lib.ListN.{length};
 ghost use Rattle.layout.specs.Directory.{isFile};
-ghost use Rattle.layout.specs.Looks.{lookupRefusal, lookup, extentOf, lookInPlace, read};
+ghost use Rattle.layout.specs.Looks.{lookupRefusal, lookup, extentOf, lookInPlace, read, readAttributes};
 ghost use Rattle.layout.specs.Answers.{lookupAnswer, readAnswer, LookupNumbered, ReadNumbered};
 ghost use Rattle.layout.specs.Walks.Looks.{Opens};
 
@@ -113,5 +113,28 @@ pub fn read(image: &[u8], path: &[u8], offset: usize, buffer: &mut [u8]) -> Fill
     let n = image.len() / 512;
     let a = 0;
     super::content::read_chain(image, n, blocks, first, offset, &mut buffer[a..count]);
+    Filled::Bytes(count)
+}
+
+// Read attributes: fills the first bytes of the buffer with the file's attributes, as many whole blocks as there are and it holds.
+pub fn read_attributes(image: &[u8], path: &[u8], buffer: &mut [u8]) -> Filled
+    ensures answer { λ r. ⌜ readAnswer r (now (buffer .exit)) ≡ readAttributes (now (image .entry)) (now (path .entry)) (now (buffer .entry)) ⌝ }
+    ensures numbered { λ r. ⌜ ReadNumbered r ⌝ }
+{
+    let o = open_file(image, path);
+    let number = o.number;
+    let slot = o.slot;
+    let block = o.block;
+    if number != 0 {
+        return Filled::Refused(number);
+    }
+    let c = super::file::attribute_chain(image, block, slot);
+    let first = c.first;
+    let blocks = c.blocks;
+    let whole = super::content::least(blocks, buffer.len() / 512);
+    let count = 512 * whole;
+    let n = image.len() / 512;
+    let a = 0;
+    super::content::read_chain(image, n, blocks, first, 0, &mut buffer[a..count]);
     Filled::Bytes(count)
 }

@@ -4,3 +4,4 @@ pub mod Worked
 pub mod Further
 pub mod Script
 pub mod Tree
+pub mod Attributes

@@ -2,27 +2,28 @@
 use Rattle.layout.specs.Bytes.{be32, bytes4, bytes8, zeros, splice}
 use Rattle.layout.specs.Geometry.{inVolume}
 use Rattle.layout.specs.Table.{next, setNext, chain, endsAfter, chainOk, freeBlocks, occupied}
-use Rattle.layout.specs.Directory.{slotAt, goodName, nameOf, nameOk, files, slotOf, freeSlot, directory, isEmpty, children, below, dirs, fileBlocks, content}
-use Rattle.layout.specs.Check.{stage1, stage2, stage3, directoryOk, childOk, attributesOk, fileOk, directoryEntryOk, slotOk, newName, visitSlots, visitEntries, visitChild, visitRoot, fileChains, chains, allChains, owned, tableOk, stage6, stage7, check}
+use Rattle.layout.specs.Directory.{slotAt, goodName, nameOf, nameOk, files, slotOf, freeSlot, directory, isEmpty, children, below, dirs, fileBlocks, content, attributeBlocks, attributes}
+use Rattle.layout.specs.Check.{stage1, stage2, stage3, directoryOk, childOk, noAttributes, attributesOk, fileOk, directoryEntryOk, slotOk, newName, visitSlots, visitEntries, visitChild, visitRoot, fileChains, chains, allChains, owned, tableOk, stage6, stage7, check}
 use Rattle.volume.specs.Entries.{entryBytes, directoryMade, setOccupied, linked, taken, grown, freed, released, entriesNamed, blocksNamed}
 use Rattle.volume.specs.Format.{formatRefusal, firstEntries, headerBytes, formatImage, formatted}
 use Rattle.layout.specs.Paths.{cut, parts, pathOk, shallow, childOf, resolve, home, pathSlot, entryOf, fileRefusal, directoryRefusal}
 use Rattle.volume.specs.Create.{createRefusal, createSlot, place, placeRefusal, createImage, createNamed}
 use Rattle.volume.specs.Write.{newSize, needed, newBlocks, put, written, setFile, writeAt, changedEntries, writeNamed, writeAtRefusal, writeRefusal}
-use Rattle.volume.specs.Delete.{deleteAt, deleteNamed}
+use Rattle.volume.specs.Delete.{allBlocks, deleteAt, deleteNamed}
+use Rattle.volume.specs.Attributes.{emptied, newAttributes, setAttributeFields, setAttributesAt, clearAttributesAt, setAttributesNamed, clearAttributesNamed, setAttributesRefusal}
 use Rattle.volume.specs.Directories.{createDirectoryRefusal, newDirectoryBlocks, createDirectoryImage, createDirectoryNamed, deleteDirectoryRefusal}
 use Rattle.volume.specs.Change.{refusal, after, named, slotGiven}
 use Rattle.journal.specs.Journal.{used, started, startRefusal, copies, recordOk, recordsFrom, records, wellFormed, ascending, recordBytes, added, lastRecord, restored, undoneImage, undoneJournal}
 use Rattle.journal.specs.Run.{recordOf, changeRefusal, afterChange, changeAnswer, undoRefusal, afterUndo, undoAnswer, lookAnswer, step, answer, run, answers}
-use Rattle.layout.specs.Looks.{lookupRefusal, lookup, readRefusal, read, extentOf, lookInPlace}
+use Rattle.layout.specs.Looks.{lookupRefusal, lookup, readRefusal, read, extentOf, lookInPlace, readAttributes}
 use Rattle.layout.specs.Listing.{decimal, printed, entryLine, fileLine, countLine, refusedLine, listing}
 
 unfoldable pub rules : Unit {0}
-unfolding be32 bytes4 bytes8 zeros splice inVolume next setNext chain endsAfter chainOk freeBlocks occupied slotAt goodName nameOf nameOk files slotOf freeSlot directory isEmpty children below dirs fileBlocks content
-    stage1 stage2 stage3 directoryOk childOk attributesOk fileOk directoryEntryOk slotOk newName visitSlots visitEntries visitChild visitRoot fileChains chains allChains owned tableOk stage6 stage7 check
-    cut parts pathOk shallow childOf resolve home pathSlot entryOf fileRefusal directoryRefusal lookupRefusal lookup readRefusal read extentOf lookInPlace decimal printed entryLine fileLine countLine refusedLine listing
+unfolding be32 bytes4 bytes8 zeros splice inVolume next setNext chain endsAfter chainOk freeBlocks occupied slotAt goodName nameOf nameOk files slotOf freeSlot directory isEmpty children below dirs fileBlocks content attributeBlocks attributes
+    stage1 stage2 stage3 directoryOk childOk noAttributes attributesOk fileOk directoryEntryOk slotOk newName visitSlots visitEntries visitChild visitRoot fileChains chains allChains owned tableOk stage6 stage7 check
+    cut parts pathOk shallow childOf resolve home pathSlot entryOf fileRefusal directoryRefusal lookupRefusal lookup readRefusal read extentOf lookInPlace readAttributes decimal printed entryLine fileLine countLine refusedLine listing
     entryBytes directoryMade setOccupied linked taken grown freed released entriesNamed blocksNamed formatRefusal firstEntries headerBytes formatImage formatted
     createRefusal createSlot place placeRefusal createImage createNamed newSize needed newBlocks put written setFile writeAt changedEntries writeNamed writeAtRefusal writeRefusal
-    deleteAt deleteNamed createDirectoryRefusal newDirectoryBlocks createDirectoryImage createDirectoryNamed deleteDirectoryRefusal refusal after named slotGiven used started startRefusal copies recordOk recordsFrom records wellFormed ascending recordBytes added
+    allBlocks deleteAt deleteNamed emptied newAttributes setAttributeFields setAttributesAt clearAttributesAt setAttributesNamed clearAttributesNamed setAttributesRefusal createDirectoryRefusal newDirectoryBlocks createDirectoryImage createDirectoryNamed deleteDirectoryRefusal refusal after named slotGiven used started startRefusal copies recordOk recordsFrom records wellFormed ascending recordBytes added
     lastRecord restored undoneImage undoneJournal recordOf changeRefusal afterChange changeAnswer undoRefusal afterUndo undoAnswer lookAnswer step answer run answers
 rules = tt

@@ -6,6 +6,10 @@ pub mod Data
 pub mod Growth
 pub mod Release
 pub mod Places
+pub mod Unchanged
+pub mod Fields
+pub mod Attributes
+pub mod SetClear
 pub mod Delete
 pub mod DeleteDirectory
 pub mod Create
@@ -16,6 +20,7 @@ pub mod Write
 pub mod Sound
 pub mod Format
 pub mod Framed
+pub mod Room
 pub mod Blank
 pub mod Content
 pub mod Views

@@ -1,13 +1,13 @@
 -- The theorems of the volume, over its definitions. `check s ≡ 0` says that the image s is sound, and `refusal s c ≡ 0` that the change c is
 -- accepted on it; `after s c` is then the image after it, and `named s c` its named blocks. `fileAt s path` and `folderAt s path` are what a path
--- shows: a file with its bytes and fields, a directory with its fields, or nothing (specs/Views). The proofs are in Laws.
+-- shows: a file with its bytes, fields and attributes, a directory with its fields, or nothing (specs/Views). The proofs are in Laws.
 use Prim.Native.Nat.{ℕ, _+_, _-_, _*_, _/_, _≤_, _<_, min}
 use mathlib.Core.Path.{_≡_, refl, sym, ap, _∙_}
-use mathlib.Core.Bool.{true, false}
+use mathlib.Core.Bool.{true, false, _||_}
 use mathlib.Core.List.{List, [], _++_}
 use mathlib.Core.Logic.{_≢_, _⊎_}
 use native.Mathlib.Omega.{arith}
-use lib.ListN.{length, getD}
+use lib.ListN.{length, getD, take}
 use lib.Dec.{eqb}
 use Rattle.layout.specs.Claims.{Inserted, LowestFree}
 use Rattle.layout.specs.Limits.{maxLevels}
@@ -15,29 +15,32 @@ use Rattle.layout.specs.Lists.{has}
 use Rattle.layout.specs.Bytes.{be32, part, splice}
 use Rattle.layout.specs.Geometry.{blockCount}
 use Rattle.layout.specs.Table.{next, freeBlocks}
-use Rattle.layout.specs.Directory.{firstBlock, blocksOf, isFile, isDirectory, isEmpty, directory, dirs, fileBlocks}
+use Rattle.layout.specs.Directory.{firstBlock, blocksOf, isFile, isDirectory, isEmpty, directory, dirs, fileBlocks, attributeBlocks}
 use Rattle.layout.specs.Check.{check}
 use Rattle.layout.specs.Paths.{parts, pathSlot, entryOf, fileRefusal}
-use Rattle.layout.specs.Looks.{lookup, lookupRefusal, read, lookInPlace}
+use Rattle.layout.specs.Looks.{lookup, lookupRefusal, read, lookInPlace, readAttributes}
 use Rattle.volume.specs.Format.{formatRefusal, formatted}
 use Rattle.volume.specs.Write.{needed, newBlocks}
-use Rattle.volume.specs.Change.{Change, create, write, createDirectory, deleteDirectory, refusal, after, named, slotGiven}
-use Rattle.volume.specs.Claims.{NoRoom, Blanked}
+use Rattle.volume.specs.Delete.{allBlocks}
+use Rattle.volume.specs.Attributes.{emptied}
+use Rattle.volume.specs.Change.{Change, create, write, createDirectory, deleteDirectory, setAttributes, clearAttributes, refusal, after, named, slotGiven}
+use Rattle.volume.specs.Claims.{NoRoom, NoRoomForSet, Blanked}
 use Rattle.volume.specs.Views.{File, nothing, just, fileOf, fileAt, folderAt, subject, made, madeFolder, takes, gives, givesFolder}
 use Rattle.volume.proofs.Laws.Framed.{frame}
 use Rattle.volume.proofs.Laws.Blank.{blank}
 use Rattle.volume.proofs.Laws.Format.{sound-format}
 use Rattle.volume.proofs.Laws.Sound.{kept}
-use Rattle.volume.proofs.Laws.Places.{file-at-path, write-given}
+use Rattle.volume.proofs.Laws.Places.{file-at-path, write-given, set-path}
 use Rattle.volume.proofs.Laws.Space.{refused-14, lacking-14, new-lowest, new-length}
+use Rattle.volume.proofs.Laws.Room.{set-refused-14, set-lacking-14, set-taken, set-many, set-lowest-free, free-once-emptied}
 use Rattle.volume.proofs.Laws.Views.{file-shown}
-use Rattle.volume.proofs.Laws.Effects.{create-slot-found, written-blocks}
+use Rattle.volume.proofs.Laws.Effects.{create-slot-found, written-blocks, set-kept, clear-kept}
 use Rattle.volume.proofs.Laws.Acts.{acts, others-untouched, create-directory-found, create-directory-empty, create-directory-tree, delete-directory-tree}
-use Rattle.volume.proofs.Laws.Shown.{read-shown, look-shown, not-shown, splice-long, lookup-kept, read-kept, look-kept, file-owner, directory-apart, directory-owner, write-path}
+use Rattle.volume.proofs.Laws.Shown.{read-shown, attributes-read, look-shown, not-shown, splice-long, lookup-kept, read-kept, look-kept, attributes-kept, own-lookup, own-read, own-look, file-owner, chains-apart, directory-apart, directory-owner, write-path}
 use Rattle.layout.proofs.Laws.Looks.{look-empty as empty-refused, look-empty-only as refused-empty}
 use Rattle.layout.proofs.Laws.Sound.{sound}
 use Rattle.layout.proofs.Laws.Lists.{In, has-eqb-in, false-has}
-use Rattle.layout.proofs.Laws.Bytes.{part-splice, splice-whole}
+use Rattle.layout.proofs.Laws.Bytes.{part-splice, splice-nil, splice-whole}
 use Rattle.layout.proofs.Laws.Owners.{free-count as count-free}
 
 -- Format's image is sound. (That a UUID has sixteen bytes is its type's.)
@@ -64,12 +67,22 @@ module _ (s : List ℕ) (ok : check s ≡ 0) where
   pub free-count : length (freeBlocks (next s) (blockCount s)) ≡ be32 s 24
   free-count = count-free s (sound s ok)
 
-  -- Read and look in place give the bytes of the file that the path shows; where it shows none they refuse.
+  -- 14 of a set of attributes, exactly when no lower number applies and fewer blocks are free than needed, those of the old chain counted as free (NoRoomForSet).
+  pub no-room-set : (path bytes : List ℕ) → (refusal s (setAttributes path bytes) ≡ 14 → NoRoomForSet s path (length bytes)) × (NoRoomForSet s path (length bytes) → refusal s (setAttributes path bytes) ≡ 14)
+  unfolding refusal
+  no-room-set path bytes = (set-refused-14 s path (length bytes) ok, set-lacking-14 s path (length bytes) ok)
+
+  -- Read, read attributes and look in place give the bytes of the file that the path shows; where it shows none they refuse.
   module _ (path : List ℕ) (f : File) (shows : fileAt s path ≡ just f) where
     pub read-content : (offset : ℕ) (buffer : List ℕ) → offset ≤ length (f .bytes)
         → read s path offset buffer
         ≡ record { number = 0; count = min (length buffer) (length (f .bytes) - offset); buffer = splice buffer 0 (part (f .bytes) offset (min (length buffer) (length (f .bytes) - offset))) }
     read-content = read-shown s path ok f shows
+
+    pub attributes-content : (buffer : List ℕ)
+        → readAttributes s path buffer
+        ≡ record { number = 0; count = 512 * min (length (f .attributes) / 512) (length buffer / 512); buffer = splice buffer 0 (take (512 * min (length (f .attributes) / 512) (length buffer / 512)) (f .attributes)) }
+    attributes-content = attributes-read s path ok f shows
 
     pub look-content : (i : ℕ) → 512 * i < length (f .bytes) → lookInPlace s path i ≡ part (f .bytes) (512 * i) (min 512 (length (f .bytes) - 512 * i))
     look-content = look-shown s path ok f shows
@@ -78,14 +91,17 @@ module _ (s : List ℕ) (ok : check s ≡ 0) where
   unfolding lookupRefusal
   none-refused path q z = not-shown s path q (rw ok at z)
 
-  -- No two files, no file and directory, and no two directories own one block.
-  module _ (path : List ℕ) (found : fileRefusal s path ≡ 0) (b : ℕ) (mine : has eqb b (fileBlocks s (entryOf isFile s path)) ≡ true) where
-    pub one-owner : (other : List ℕ) → fileRefusal s other ≡ 0 → has eqb b (fileBlocks s (entryOf isFile s other)) ≡ true → path ≡ other
+  -- No two files, no file and directory, and no two directories own one block; nor do a file's own chain and its attributes.
+  module _ (path : List ℕ) (found : fileRefusal s path ≡ 0) (b : ℕ) (mine : has eqb b (allBlocks s (entryOf isFile s path)) ≡ true) where
+    pub one-owner : (other : List ℕ) → fileRefusal s other ≡ 0 → has eqb b (allBlocks s (entryOf isFile s other)) ≡ true → path ≡ other
     one-owner other too i =
-        file-owner s (sound s ok) path other (file-at-path s path found) (file-at-path s other too) b (has-eqb-in b (fileBlocks s (entryOf isFile s path)) mine) (has-eqb-in b (fileBlocks s (entryOf isFile s other)) i)
+        file-owner s (sound s ok) path other (file-at-path s path found) (file-at-path s other too) b (has-eqb-in b (allBlocks s (entryOf isFile s path)) mine) (has-eqb-in b (allBlocks s (entryOf isFile s other)) i)
 
     pub no-directory : (d : ℕ × ℕ) → In d (dirs s) → has eqb b (directory s (d .0)) ≡ false
-    no-directory d i = false-has b (directory s (d .0)) (directory-apart s (sound s ok) path (file-at-path s path found) d i b (has-eqb-in b (fileBlocks s (entryOf isFile s path)) mine))
+    no-directory d i = false-has b (directory s (d .0)) (directory-apart s (sound s ok) path (file-at-path s path found) d i b (has-eqb-in b (allBlocks s (entryOf isFile s path)) mine))
+
+  pub one-chain : (path : List ℕ) → fileRefusal s path ≡ 0 → (b : ℕ) → has eqb b (fileBlocks s (entryOf isFile s path)) ≡ true → has eqb b (attributeBlocks s (entryOf isFile s path)) ≡ false
+  one-chain path found b i = false-has b (attributeBlocks s (entryOf isFile s path)) (chains-apart s (sound s ok) path (file-at-path s path found) b (has-eqb-in b (fileBlocks s (entryOf isFile s path)) i))
 
   pub one-directory : (d d′ : ℕ × ℕ) → In d (dirs s) → In d′ (dirs s) → (b : ℕ) → has eqb b (directory s (d .0)) ≡ true → has eqb b (directory s (d′ .0)) ≡ true → d .0 ≡ d′ .0
   one-directory d d′ i i′ b m k = directory-owner s (sound s ok) d d′ i i′ b (has-eqb-in b (directory s (d .0)) m) (has-eqb-in b (directory s (d′ .0)) k)
@@ -121,7 +137,7 @@ module _ (s : List ℕ) (ok : check s ≡ 0) where
     pub blocks-in-use : be32 (after s c) 20 + (gives c (fileAt s (subject c)) + givesFolder c (folderAt s (subject c))) ≡ be32 s 20 + takes c (fileAt s (subject c))
     blocks-in-use = acts s c ok r .used
 
-    -- Every other path shows what it showed, and lookup, read and look in place answer what they answered.
+    -- Every other path shows what it showed, and lookup, read, look in place and read attributes answer what they answered.
     module _ (other : List ℕ) (ne : other ≢ subject c) where
       pub other-files : fileAt (after s c) other ≡ fileAt s other
       other-files = acts s c ok r .others other ne
@@ -137,6 +153,9 @@ module _ (s : List ℕ) (ok : check s ≡ 0) where
 
       pub others-look : (i : ℕ) → lookInPlace (after s c) other i ≡ lookInPlace s other i
       others-look = look-kept s (after s c) other ok change-sound (others-untouched s c other ok r ne)
+
+      pub others-attributes : (buffer : List ℕ) → readAttributes (after s c) other buffer ≡ readAttributes s other buffer
+      others-attributes = attributes-kept s (after s c) other ok change-sound (others-untouched s c other ok r ne)
 
   -- An accepted write.
   module _ (path : List ℕ) (offset : ℕ) (bytes : List ℕ) (time : ℕ) (r : refusal s (write path offset bytes time) ≡ 0) where
@@ -157,6 +176,14 @@ module _ (s : List ℕ) (ok : check s ≡ 0) where
         let c : min (length buffer) (length (splice (f .bytes) offset bytes) - offset) ≡ length bytes = omega arith in
         read-shown written path (change-sound (write path offset bytes time) r) _ shows offset buffer (omega arith)
         ∙ rw (c, part-splice (f .bytes) offset bytes (length bytes) refl (g .1), splice-whole buffer bytes (sym l))
+
+    -- The file's attributes stay.
+    pub write-attributes : (buffer : List ℕ) → readAttributes written path buffer ≡ readAttributes s path buffer
+    unfolding subject made refusal
+    write-attributes buffer =
+        let shown = file-shown s path (write-path s path ok offset (length bytes) r .0) in
+        let shows = own-file (write path offset bytes time) r ∙ ap (made (write path offset bytes time)) shown in
+        attributes-read written path (change-sound (write path offset bytes time) r) _ shows buffer ∙ sym (attributes-read s path ok (fileOf s (entryOf isFile s path)) shown buffer)
 
     -- The blocks taken are as many as needed, the lowest free ones in ascending order (LowestFree), and stand at the end of the file's chain.
     pub blocks-taken : fileBlocks written e ≡ fileBlocks s e ++ newBlocks s e offset (length bytes)
@@ -198,3 +225,79 @@ module _ (s : List ℕ) (ok : check s ≡ 0) where
       → Inserted (firstBlock s (entryOf isDirectory s path), maxLevels - length (parts path)) (dirs (after s (deleteDirectory path))) (dirs s)
   unfolding refusal after
   tree-loses path r = delete-directory-tree s path ok r
+
+  -- Once the old chain is freed, a block is free that was free or is one of the chain.
+  pub emptied-free : (path : List ℕ) → fileRefusal s path ≡ 0 → (b : ℕ) → b < blockCount s
+      → eqb (next (emptied s (entryOf isFile s path)) b) 0 ≡ eqb (next s b) 0 || has eqb b (attributeBlocks s (entryOf isFile s path))
+  emptied-free path found = free-once-emptied s path ok found
+
+  -- An accepted set of attributes.
+  module _ (path bytes : List ℕ) (r : refusal s (setAttributes path bytes) ≡ 0) where
+    abbrev attributed : List ℕ
+    attributed = after s (setAttributes path bytes)
+
+    abbrev holder : ℕ
+    holder = entryOf isFile s path
+
+    found-set : fileRefusal s path ≡ 0
+    unfolding refusal
+    found-set = set-path s path (length bytes) r
+
+    -- A read of the attributes gives the bytes set.
+    pub attributes-back : (buffer : List ℕ) → readAttributes attributed path buffer
+        ≡ record { number = 0; count = 512 * min (length bytes / 512) (length buffer / 512); buffer = splice buffer 0 (take (512 * min (length bytes / 512) (length buffer / 512)) bytes) }
+    unfolding subject made
+    attributes-back buffer =
+        attributes-read attributed path (change-sound (setAttributes path bytes) r) _ (own-file (setAttributes path bytes) r ∙ ap (made (setAttributes path bytes)) (file-shown s path found-set)) buffer
+
+    -- All other answers about the file stay.
+    pub set-lookup : lookup attributed path ≡ lookup s path
+    unfolding refusal after
+    set-lookup = own-lookup s attributed path ok (change-sound (setAttributes path bytes) r) found-set (set-kept s path ok found-set bytes r)
+
+    pub set-read : (offset : ℕ) (buffer : List ℕ) → read attributed path offset buffer ≡ read s path offset buffer
+    unfolding refusal after
+    set-read = own-read s attributed path ok (change-sound (setAttributes path bytes) r) found-set (set-kept s path ok found-set bytes r)
+
+    pub set-look : (i : ℕ) → lookInPlace attributed path i ≡ lookInPlace s path i
+    unfolding refusal after
+    set-look = own-look s attributed path ok (change-sound (setAttributes path bytes) r) found-set (set-kept s path ok found-set bytes r)
+
+    -- Its chain is then as many blocks as the bytes are, the lowest that are free once the old chain is freed, in ascending order (LowestFree).
+    pub attributes-count : length (attributeBlocks attributed holder) ≡ length bytes / 512
+    unfolding refusal after
+    attributes-count = ap length (set-taken s path ok bytes r) ∙ set-many s path ok bytes r
+
+    pub attributes-lowest : LowestFree (emptied s holder) (attributeBlocks attributed holder)
+    unfolding refusal after
+    attributes-lowest = rw (set-taken s path ok bytes r) (set-lowest-free s path ok bytes r)
+
+  -- An accepted clear of attributes.
+  module _ (path : List ℕ) (r : refusal s (clearAttributes path) ≡ 0) where
+    abbrev cleared : List ℕ
+    cleared = after s (clearAttributes path)
+
+    found-clear : fileRefusal s path ≡ 0
+    unfolding refusal
+    found-clear = r
+
+    -- A read of the attributes gives none.
+    pub attributes-none : (buffer : List ℕ) → readAttributes cleared path buffer ≡ record { number = 0; count = 0; buffer = buffer }
+    unfolding subject made
+    attributes-none buffer =
+        let z : 512 * min (0 / 512) (length buffer / 512) ≡ 0 = omega arith in
+        attributes-read cleared path (change-sound (clearAttributes path) r) _ (own-file (clearAttributes path) r ∙ ap (made (clearAttributes path)) (file-shown s path found-clear)) buffer
+        ∙ rw (z, splice-nil buffer 0)
+
+    -- All other answers about the file stay.
+    pub clear-lookup : lookup cleared path ≡ lookup s path
+    unfolding after
+    clear-lookup = own-lookup s cleared path ok (change-sound (clearAttributes path) r) found-clear (clear-kept s path ok found-clear)
+
+    pub clear-read : (offset : ℕ) (buffer : List ℕ) → read cleared path offset buffer ≡ read s path offset buffer
+    unfolding after
+    clear-read = own-read s cleared path ok (change-sound (clearAttributes path) r) found-clear (clear-kept s path ok found-clear)
+
+    pub clear-look : (i : ℕ) → lookInPlace cleared path i ≡ lookInPlace s path i
+    unfolding after
+    clear-look = own-look s cleared path ok (change-sound (clearAttributes path) r) found-clear (clear-kept s path ok found-clear)

@@ -6,6 +6,8 @@ pub mod Format
 pub mod Release
 pub mod Delete
 pub mod Grow
+pub mod Vacant
+pub mod Attributes
 pub mod Put
 pub mod Write
 pub mod Plan

@@ -11,3 +11,5 @@ asked (kinds.Write offset time) path bytes = rules.write path offset bytes time
 asked kinds.Delete path bytes = rules.delete path
 asked (kinds.CreateDirectory type user group permissions flags blocks time) path bytes = rules.createDirectory path type user group permissions flags time blocks
 asked kinds.DeleteDirectory path bytes = rules.deleteDirectory path
+asked kinds.SetAttributes path bytes = rules.setAttributes path bytes
+asked kinds.ClearAttributes path bytes = rules.clearAttributes path

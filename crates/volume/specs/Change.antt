@@ -5,6 +5,7 @@ use lib.ListN.{length}
 use Rattle.volume.specs.Create.{createRefusal, createSlot, createImage, createNamed}
 use Rattle.volume.specs.Write.{writeRefusal, writeAt, writeNamed}
 use Rattle.volume.specs.Delete.{deleteAt, deleteNamed}
+use Rattle.volume.specs.Attributes.{setAttributesRefusal, setAttributesAt, setAttributesNamed, clearAttributesAt, clearAttributesNamed}
 use Rattle.volume.specs.Directories.{createDirectoryRefusal, createDirectoryImage, createDirectoryNamed, deleteDirectoryRefusal}
 use Rattle.layout.specs.Directory.{isFile, isDirectory}
 use Rattle.layout.specs.Paths.{fileRefusal, entryOf}
@@ -15,14 +16,18 @@ pub data Change : Type 0 where
   delete : (path : List ℕ) → Change
   createDirectory : (path : List ℕ) (type user group permissions flags time d : ℕ) → Change
   deleteDirectory : (path : List ℕ) → Change
+  setAttributes : (path bytes : List ℕ) → Change
+  clearAttributes : (path : List ℕ) → Change
 
--- the refusal by the numbers 9 to 18, or 0
+-- the refusal by the numbers 9 to 20, or 0
 unfoldable pub refusal : List ℕ → Change → ℕ
 refusal s (create path type user group permissions flags time) = createRefusal s path type
 refusal s (write path offset bytes time) = writeRefusal s path offset (length bytes)
 refusal s (delete path) = fileRefusal s path
 refusal s (createDirectory path type user group permissions flags time d) = createDirectoryRefusal s path type d
 refusal s (deleteDirectory path) = deleteDirectoryRefusal s path
+refusal s (setAttributes path bytes) = setAttributesRefusal s path (length bytes)
+refusal s (clearAttributes path) = fileRefusal s path
 
 -- of an accepted change: the image after it, its named blocks (in any order), and the slot that it answers (create, of a directory too)
 unfoldable pub after : List ℕ → Change → List ℕ
@@ -31,6 +36,8 @@ after s (write path offset bytes time) = writeAt s (entryOf isFile s path) offse
 after s (delete path) = deleteAt s (entryOf isFile s path)
 after s (createDirectory path type user group permissions flags time d) = createDirectoryImage s path type user group permissions flags time d
 after s (deleteDirectory path) = deleteAt s (entryOf isDirectory s path)
+after s (setAttributes path bytes) = setAttributesAt s (entryOf isFile s path) bytes
+after s (clearAttributes path) = clearAttributesAt s (entryOf isFile s path)
 
 unfoldable pub named : List ℕ → Change → List ℕ
 named s (create path type user group permissions flags time) = createNamed s path
@@ -38,6 +45,8 @@ named s (write path offset bytes time) = writeNamed s (entryOf isFile s path) of
 named s (delete path) = deleteNamed s (entryOf isFile s path)
 named s (createDirectory path type user group permissions flags time d) = createDirectoryNamed s path d
 named s (deleteDirectory path) = deleteNamed s (entryOf isDirectory s path)
+named s (setAttributes path bytes) = setAttributesNamed s (entryOf isFile s path) (length bytes)
+named s (clearAttributes path) = clearAttributesNamed s (entryOf isFile s path)
 
 unfoldable pub slotGiven : List ℕ → Change → ℕ
 slotGiven s (create path type user group permissions flags time) = createSlot s path
@@ -45,3 +54,5 @@ slotGiven s (write path offset bytes time) = 0
 slotGiven s (delete path) = 0
 slotGiven s (createDirectory path type user group permissions flags time d) = createSlot s path
 slotGiven s (deleteDirectory path) = 0
+slotGiven s (setAttributes path bytes) = 0
+slotGiven s (clearAttributes path) = 0

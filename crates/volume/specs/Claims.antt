@@ -1,16 +1,24 @@
 -- The words of the theorems about changes that are no views: what a reader must believe to read them.
-use Prim.Native.Nat.{ℕ, _≤_, _<_}
+use Prim.Native.Nat.{ℕ, _+_, _*_, _/_, _%_, _≤_, _<_}
 use mathlib.Core.Path.{_≡_}
 use mathlib.Core.List.{List}
 use mathlib.Core.Logic.{_≢_}
 use lib.ListN.{length}
-use Rattle.layout.specs.Limits.{maxData}
+use Rattle.layout.specs.Limits.{maxData, maxAttributes}
 use Rattle.layout.specs.Bytes.{block, zeros}
 use Rattle.layout.specs.Geometry.{blockCount}
 use Rattle.layout.specs.Table.{next, freeBlocks}
-use Rattle.layout.specs.Directory.{sizeOf, isFile}
+use Rattle.layout.specs.Directory.{sizeOf, isFile, attributeBlocks}
 use Rattle.layout.specs.Paths.{entryOf, fileRefusal}
 use Rattle.volume.specs.Write.{needed}
+
+-- 14 of a set of attributes: "A set first frees the old chain, whose blocks count as free"
+pub record NoRoomForSet (s path : List ℕ) (count : ℕ) : Type 0 where
+  pub some : 1 ≤ count
+  pub whole : count % 512 ≡ 0
+  pub few : count ≤ 512 * maxAttributes
+  pub there : fileRefusal s path ≡ 0
+  pub lacking : length (freeBlocks (next s) (blockCount s)) + length (attributeBlocks s (entryOf isFile s path)) < count / 512
 
 -- L7, "Freeing a block now also zeroes its 512 bytes", "Blocks that were free before aren't touched": what a change from s to s′ leaves in the blocks
 -- that are free after it. Those that were in use hold only zeros, those that were free hold what they held.

@@ -1,22 +1,23 @@
 -- Views: what a path shows of an image, apart from where it lies in it, and what a change makes of what its own path shows.
-use Prim.Native.Nat.{ℕ, _+_, _-_, max}
+use Prim.Native.Nat.{ℕ, _+_, _-_, _/_, max}
 use mathlib.Core.List.{List, [], _∷_}
 use mathlib.Core.Bool.{Bool, true, false}
 use lib.ListN.{length}
 use Rattle.layout.specs.Refusals.{accept}
 use Rattle.layout.specs.Bytes.{bytes4, bytes8, part, splice}
 use Rattle.layout.specs.Geometry.{blocksFor}
-use Rattle.layout.specs.Directory.{blocksOf, isFile, isDirectory, content}
+use Rattle.layout.specs.Directory.{blocksOf, isFile, isDirectory, content, attributes}
 use Rattle.layout.specs.Paths.{entryOf, fileRefusal, directoryRefusal}
-use Rattle.volume.specs.Change.{Change, create, write, delete, createDirectory, deleteDirectory}
+use Rattle.volume.specs.Change.{Change, create, write, delete, createDirectory, deleteDirectory, setAttributes, clearAttributes}
 
--- a file: its bytes; type, user, group and permissions; both times; system flags
+-- a file: its bytes; type, user, group and permissions; both times; system flags; the bytes of its attributes
 pub record File : Type 0 where
   pub bytes : List ℕ
   pub kind : List ℕ
   pub created : List ℕ
   pub modified : List ℕ
   pub flags : List ℕ
+  pub attributes : List ℕ
 
 -- a directory: the same of its entry, and its size in blocks
 pub record Folder : Type 0 where
@@ -32,7 +33,7 @@ pub data Maybe (A : Type 0) : Type 0 where
 
 unfoldable pub fileOf : List ℕ → ℕ → File
 fileOf s e =
-    record { bytes = content s e; kind = part s e 4; created = part s (e + 16) 8; modified = part s (e + 24) 8; flags = part s (e + 40) 4 }
+    record { bytes = content s e; kind = part s e 4; created = part s (e + 16) 8; modified = part s (e + 24) 8; flags = part s (e + 40) 4; attributes = attributes s e }
 
 unfoldable pub folderOf : List ℕ → ℕ → Folder
 folderOf s e = record { kind = part s e 4; created = part s (e + 16) 8; modified = part s (e + 24) 8; flags = part s (e + 40) 4; size = blocksOf s e }
@@ -51,6 +52,8 @@ subject (write path offset bytes time) = path
 subject (delete path) = path
 subject (createDirectory path type user group permissions flags time d) = path
 subject (deleteDirectory path) = path
+subject (setAttributes path bytes) = path
+subject (clearAttributes path) = path
 
 -- the changes of files
 unfoldable pub ofFile : Change → Bool
@@ -59,6 +62,8 @@ ofFile (write path offset bytes time) = true
 ofFile (delete path) = true
 ofFile (createDirectory path type user group permissions flags time d) = false
 ofFile (deleteDirectory path) = false
+ofFile (setAttributes path bytes) = true
+ofFile (clearAttributes path) = true
 
 -- what an accepted change makes of the file that its path shows
 abbrev pub over : Maybe File → (File → File) → Maybe File
@@ -67,12 +72,14 @@ over (just x) f = just (f x)
 
 unfoldable pub made : Change → Maybe File → Maybe File
 made (create path type user group permissions flags time) m =
-    just (record { bytes = []; kind = type ∷ user ∷ group ∷ permissions ∷ []; created = bytes8 time; modified = bytes8 time; flags = bytes4 flags })
+    just (record { bytes = []; kind = type ∷ user ∷ group ∷ permissions ∷ []; created = bytes8 time; modified = bytes8 time; flags = bytes4 flags; attributes = [] })
 made (write path offset bytes time) m =
-    over m (λ f. record { bytes = splice (f .bytes) offset bytes; kind = f .kind; created = f .created; modified = bytes8 time; flags = f .flags })
+    over m (λ f. record { bytes = splice (f .bytes) offset bytes; kind = f .kind; created = f .created; modified = bytes8 time; flags = f .flags; attributes = f .attributes })
 made (delete path) m = nothing
 made (createDirectory path type user group permissions flags time d) m = m
 made (deleteDirectory path) m = m
+made (setAttributes path bytes) m = over m (λ f. record { bytes = f .bytes; kind = f .kind; created = f .created; modified = f .modified; flags = f .flags; attributes = bytes })
+made (clearAttributes path) m = over m (λ f. record { bytes = f .bytes; kind = f .kind; created = f .created; modified = f .modified; flags = f .flags; attributes = [] })
 
 -- the blocks that it takes and those that it gives back
 abbrev pub count : Maybe File → (File → ℕ) → ℕ
@@ -85,13 +92,17 @@ takes (write path offset bytes time) m = count m (λ f. blocksFor (max (length (
 takes (delete path) m = 0
 takes (createDirectory path type user group permissions flags time d) m = d
 takes (deleteDirectory path) m = 0
+takes (setAttributes path bytes) m = length bytes / 512
+takes (clearAttributes path) m = 0
 
 unfoldable pub gives : Change → Maybe File → ℕ
 gives (create path type user group permissions flags time) m = 0
 gives (write path offset bytes time) m = 0
-gives (delete path) m = count m (λ f. blocksFor (length (f .bytes)))
+gives (delete path) m = count m (λ f. blocksFor (length (f .bytes)) + length (f .attributes) / 512)
 gives (createDirectory path type user group permissions flags time d) m = 0
 gives (deleteDirectory path) m = 0
+gives (setAttributes path bytes) m = count m (λ f. length (f .attributes) / 512)
+gives (clearAttributes path) m = count m (λ f. length (f .attributes) / 512)
 
 -- of the directory that its path shows: what it makes of it, and the blocks that it gives back
 unfoldable pub madeFolder : Change → Maybe Folder → Maybe Folder
@@ -101,6 +112,8 @@ madeFolder (delete path) m = m
 madeFolder (createDirectory path type user group permissions flags time d) m =
     just (record { kind = type ∷ user ∷ group ∷ permissions ∷ []; created = bytes8 time; modified = bytes8 time; flags = bytes4 flags; size = d })
 madeFolder (deleteDirectory path) m = nothing
+madeFolder (setAttributes path bytes) m = m
+madeFolder (clearAttributes path) m = m
 
 abbrev pub sizeIn : Maybe Folder → ℕ
 sizeIn nothing = 0
@@ -112,3 +125,5 @@ givesFolder (write path offset bytes time) m = 0
 givesFolder (delete path) m = 0
 givesFolder (createDirectory path type user group permissions flags time d) m = 0
 givesFolder (deleteDirectory path) m = sizeIn m
+givesFolder (setAttributes path bytes) m = 0
+givesFolder (clearAttributes path) m = 0

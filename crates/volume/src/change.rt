@@ -34,9 +34,11 @@ pub enum Change {
         time: u64,
     },
     DeleteDirectory,
+    SetAttributes,
+    ClearAttributes,
 }
 
-// The refusal, 9 to 18, or 0.
+// The refusal, 9 to 20, or 0.
 pub fn refusal(image: &[u8], what: Change, path: &[u8], bytes: &[u8]) -> u32
     requires { ⌜ check (now image) ≡ 0 ⌝ }
     ensures { λ r. ⌜ r ≡ refusal (now (image .entry)) (asked what (now (path .entry)) (now (bytes .entry))) ⌝ }
@@ -54,6 +56,12 @@ pub fn refusal(image: &[u8], what: Change, path: &[u8], bytes: &[u8]) -> u32
             super::create_directory::create_directory_refusal(image, path, kind, blocks)
         }
         Change::DeleteDirectory => super::delete_directory::delete_directory_refusal(image, path),
+        Change::SetAttributes => super::attributes::set_attributes_refusal(
+            image,
+            path,
+            bytes.len(),
+        ),
+        Change::ClearAttributes => super::delete::delete_refusal(image, path),
     }
 }
 
@@ -80,6 +88,13 @@ pub fn mark_named(image: &[u8], what: Change, path: &[u8], bytes: &[u8], marks: 
             path,
             marks,
         ),
+        Change::SetAttributes => super::attributes::set_attributes_named(
+            image,
+            path,
+            bytes.len(),
+            marks,
+        ),
+        Change::ClearAttributes => super::attributes::clear_attributes_named(image, path, marks),
     }
 }
 
@@ -129,6 +144,14 @@ pub fn make(image: &mut [u8], what: Change, path: &[u8], bytes: &[u8]) -> u32
         }
         Change::DeleteDirectory => {
             super::delete_directory::delete_directory(image, path);
+            0
+        }
+        Change::SetAttributes => {
+            super::attributes::set_attributes(image, path, bytes);
+            0
+        }
+        Change::ClearAttributes => {
+            super::attributes::clear_attributes(image, path);
             0
         }
     }

@@ -44,7 +44,7 @@ pub fn delete_directory_named(image: &[u8], path: &[u8], marks: &mut [u8])
     ensures { λ _. ⌜ now (marks .exit) ≡ marked (now (marks .entry)) (deleteNamed (now (image .entry)) (entryOf isDirectory (now (image .entry)) (now (path .entry)))) ⌝ }
 {
     let f = locate_directory(image, path);
-    super::delete::drop_named(image, f.block, f.first, f.blocks, marks);
+    super::delete::drop_named(image, f.block, f.slot, f.first, f.blocks, marks);
 }
 
 // Deletes an empty directory: frees the directory's blocks and zeroes its slot.

@@ -7,6 +7,7 @@ ghost use Rattle.layout.specs.Check.{check};
 ghost use Rattle.layout.specs.Directory.{isFile};
 ghost use Rattle.layout.specs.Paths.{fileRefusal};
 ghost use Rattle.volume.specs.Write.{setFile};
+ghost use Rattle.volume.specs.Attributes.{setAttributeFields};
 use super::number::put32;
 use super::number::put64;
 ghost use Rattle.layout.specs.Walks.Looks.{Located};
@@ -76,4 +77,24 @@ pub fn set_file(
         blocks as u32,
         time,
     );
+}
+
+// Writes the two attribute fields of the file at o of a directory's block.
+fn put_attribute_fields(block: &mut [u8], o: usize, first: u32, size: u32)
+    requires { ⌜ o + 128 ≤ length (now block) ⌝ }
+    ensures { λ _. ⌜ now (block .exit) ≡ setAttributeFields (now (block .entry)) o first size ⌝ }
+{
+    put32(block, o + 32, first);
+    put32(block, o + 36, size);
+}
+
+// The same for the file in slot k, which is in block b.
+pub fn set_attribute_fields(image: &mut [u8], b: usize, k: usize, first: usize, size: usize)
+    requires { ⌜ (512 * b + 512 ≤ length (now image)) × (first < 4294967296) × (size < 4294967296) ⌝ }
+    ensures { λ _. ⌜ now (image .exit) ≡ setAttributeFields (now (image .entry)) (entryAt b k) first size ⌝ }
+{
+    let o = 128 * (k % 4);
+    let a = 512 * b;
+    let e = a + 512;
+    put_attribute_fields(&mut image[a..e], o, first as u32, size as u32);
 }

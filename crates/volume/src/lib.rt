@@ -1,5 +1,6 @@
 // The volume: what changes an image. The call is `format::format`, on any bytes. The changes are for the journal above, as one value (`change`): its
 // refusal, its named blocks as marks and the change itself, on an image that the caller has checked. `number` writes numbers.
+mod attributes;
 pub mod change;
 mod create;
 mod create_directory;

@@ -5,7 +5,9 @@ use crate::rng::Rng;
 use crate::tree::{files, folders, items, slots, Item};
 use reference::layout::*;
 use reference::path::Want;
-use reference::{Change, Create, CreateDirectory, Delete, DeleteDirectory, Write};
+use reference::{
+    Change, ClearAttributes, Create, CreateDirectory, Delete, DeleteDirectory, SetAttributes, Write,
+};
 
 fn any(rng: &mut Rng, items: Vec<Item>) -> Option<Item> {
     (!items.is_empty()).then(|| rng.pick(&items))
@@ -390,14 +392,83 @@ pub fn any_delete_directory(rng: &mut Rng, image: &[u8]) -> Change {
     Change::DeleteDirectory(DeleteDirectory { path })
 }
 
+/// The blocks of attributes that the file of a path has, or 0.
+pub fn attribute_blocks(image: &[u8], path: &[u8]) -> usize {
+    files(image).iter().find(|f| f.path == path).map_or(0, |f| f.attribute_size as usize)
+}
+
+/// Data that no attributes can be: of no bytes, or with a part of a block.
+pub fn bad_attributes(rng: &mut Rng) -> Vec<u8> {
+    let odd = BLOCK * rng.below(12) + rng.between(1, BLOCK - 1);
+    let length = rng.pick(&[0, 0, 1, 511, 513, 4095, 4097, 4607, 4609, odd]);
+    rng.bytes(length)
+}
+
+/// So many whole blocks.
+pub fn whole_blocks(rng: &mut Rng, count: usize) -> Vec<u8> {
+    if rng.once_in(6) {
+        vec![0; BLOCK * count]
+    } else {
+        rng.bytes(BLOCK * count)
+    }
+}
+
+/// The path of a file with attributes more often than not.
+fn path_with_attributes(rng: &mut Rng, image: &[u8]) -> Vec<u8> {
+    let with = files(image).into_iter().filter(|file| file.attribute_size > 0).collect();
+    match any(rng, with) {
+        Some(file) if rng.once_in(2) => file.path,
+        _ => any_path(rng, image, Want::File),
+    }
+}
+
+pub fn any_set_attributes(rng: &mut Rng, image: &[u8]) -> Change {
+    let path = path_with_attributes(rng, image);
+    let old = attribute_blocks(image, &path);
+    let most = free_blocks(image).len() + old;
+    let count = match rng.below(10) {
+        0 => rng.pick(&[9, 10, 16, 65]),
+        1 => MAX_ATTRIBUTE_BLOCKS,
+        2 => old.max(1),
+        3 => old + 1,
+        4 => most.clamp(1, 9),
+        5 => (most + 1).min(9),
+        6 => rng.between(1, MAX_ATTRIBUTE_BLOCKS),
+        _ => rng.between(1, most.clamp(1, MAX_ATTRIBUTE_BLOCKS)),
+    };
+    let data = if rng.once_in(8) { bad_attributes(rng) } else { whole_blocks(rng, count) };
+    Change::SetAttributes(SetAttributes { path, data })
+}
+
+pub fn any_clear_attributes(rng: &mut Rng, image: &[u8]) -> Change {
+    Change::ClearAttributes(ClearAttributes { path: path_with_attributes(rng, image) })
+}
+
+/// A buffer for attributes of so many blocks.
+pub fn any_attributes_buffer(rng: &mut Rng, blocks: usize) -> Vec<u8> {
+    let size = BLOCK * blocks;
+    let length = match rng.below(8) {
+        0 => rng.pick(&[0, 1, 511, 512, 513]),
+        1 => size,
+        2 => size + 1,
+        3 => size.saturating_sub(1),
+        4 => size + 1000,
+        5 => BLOCK * rng.below(10),
+        _ => rng.below(5000),
+    };
+    rng.bytes(length)
+}
+
 /// One of each change.
-pub fn changes(rng: &mut Rng, image: &[u8]) -> [Change; 5] {
+pub fn changes(rng: &mut Rng, image: &[u8]) -> [Change; 7] {
     [
         any_create(rng, image),
         any_write(rng, image),
         any_delete(rng, image),
         any_create_directory(rng, image),
         any_delete_directory(rng, image),
+        any_set_attributes(rng, image),
+        any_clear_attributes(rng, image),
     ]
 }
 

@@ -50,6 +50,14 @@ fn long_file(rng: &mut Rng, image: &[u8]) -> Option<Item> {
     file_where(rng, image, |f| f.blocks >= 2)
 }
 
+fn file_with_attributes(rng: &mut Rng, image: &[u8]) -> Option<Item> {
+    file_where(rng, image, |f| f.attribute_size >= 1)
+}
+
+fn long_attributes(rng: &mut Rng, image: &[u8]) -> Option<Item> {
+    file_where(rng, image, |f| f.attribute_size >= 2)
+}
+
 fn any_folder(rng: &mut Rng, image: &[u8]) -> Option<Item> {
     let folders = folders(image);
     (!folders.is_empty()).then(|| rng.pick(&folders))
@@ -134,8 +142,30 @@ fn second_owner(rng: &mut Rng, image: &mut [u8], first: u32, size: u32) -> Optio
 /// already.
 pub fn join(image: &mut [u8], item: &Item, last: usize) {
     let chain = item.chain(image);
+    join_chain(image, &chain, last);
+}
+
+fn join_chain(image: &mut [u8], chain: &[usize], last: usize) {
     set_entry(image, chain[chain.len() - 1], 0);
     set_entry(image, chain[chain.len() - 2], last as u32);
+}
+
+/// Sets the two attribute fields of a file or folder.
+fn put_fields(image: &mut [u8], item: &Item, block: u32, size: u32) -> Option<()> {
+    put_number(image, item.at + slot::ATTRIBUTE_BLOCK, block);
+    put_number(image, item.at + slot::ATTRIBUTE_SIZE, size);
+    Some(())
+}
+
+fn last_attribute(image: &[u8], file: &Item) -> usize {
+    *file.attributes(image).last().unwrap()
+}
+
+/// A file other than this one that meets a test.
+fn other_where(rng: &mut Rng, image: &[u8], file: &Item, test: fn(&Item) -> bool) -> Option<Item> {
+    let others = files(image).into_iter().filter(|other| other.at != file.at && test(other));
+    let others: Vec<Item> = others.collect();
+    (!others.is_empty()).then(|| rng.pick(&others))
 }
 
 /// Sets a file's size and its size in blocks to match.
@@ -511,15 +541,44 @@ const DIRECTORY: &[Clause] = &[
         i[f.at] = r.pick(&[0x20, 0x5F]);
         Some(())
     } },
-    Clause { stage: 5, what: "attribute block", make: |r, i| {
+    Clause { stage: 5, what: "attribute block without a size", make: |r, i| {
         let f = any_item(r, i)?;
+        if f.attribute_size != 0 { return None; }
         i[f.at + slot::ATTRIBUTE_BLOCK + r.below(4)] = r.nonzero_byte();
         Some(())
     } },
-    Clause { stage: 5, what: "attribute size", make: |r, i| {
+    Clause { stage: 5, what: "attribute size without a block", make: |r, i| {
         let f = any_item(r, i)?;
+        if f.attribute_size != 0 { return None; }
         i[f.at + slot::ATTRIBUTE_SIZE + r.below(4)] = r.nonzero_byte();
         Some(())
+    } },
+    Clause { stage: 5, what: "attribute block 0", make: |r, i| {
+        let f = file_with_attributes(r, i)?;
+        put_fields(i, &f, 0, f.attribute_size)
+    } },
+    Clause { stage: 5, what: "attribute size 0", make: |r, i| {
+        let f = file_with_attributes(r, i)?;
+        put_fields(i, &f, f.attribute_block, 0)
+    } },
+    Clause { stage: 5, what: "attribute size above 8", make: |r, i| {
+        let f = any_file(r, i)?;
+        let block = if f.attribute_block == 0 { any_data_block(r, i) } else { f.attribute_block };
+        let low = f.attribute_size;
+        put_fields(i, &f, block, r.pick(&[9, 10, 16, 256 + low, 0x0100_0000 + low, 0x8000_0001, u32::MAX]))
+    } },
+    Clause { stage: 5, what: "nine linked blocks of attributes", make: |r, i| {
+        let (f, (_, t)) = (any_file(r, i)?, n_t(i));
+        let mut free: Vec<usize> = free_blocks(i).into_iter().filter(|&b| b > t).collect();
+        if free.len() < 9 { return None; }
+        r.shuffle(&mut free);
+        link(i, &free[..9]);
+        put_fields(i, &f, free[0] as u32, 9)
+    } },
+    Clause { stage: 5, what: "attributes of a folder", make: |r, i| {
+        let (f, free) = (any_folder(r, i)?, free_block(r, i)?);
+        set_entry(i, free, 1);
+        put_fields(i, &f, free as u32, 1)
     } },
     Clause { stage: 5, what: "size in blocks", make: |r, i| { let f = any_file(r, i)?; put_other(r, i, f.at + slot::BLOCKS) } },
     Clause { stage: 5, what: "size past its blocks", make: |r, i| {
@@ -733,8 +792,156 @@ const CHAINS: &[Clause] = &[
     } },
 ];
 
+#[rustfmt::skip]
+const ATTRIBUTES: &[Clause] = &[
+    Clause { stage: 6, what: "attributes' first outside", make: |r, i| {
+        let f = file_with_attributes(r, i)?;
+        let value = outside(r, i);
+        put_fields(i, &f, value, f.attribute_size)
+    } },
+    Clause { stage: 6, what: "attributes' first block n, with an entry", make: |r, i| {
+        let (n, t) = n_t(i);
+        let f = file_where(r, i, |f| f.attribute_size == 1)?;
+        if n == t * 128 { return None; }
+        set_entry(i, f.attribute_block as usize, 0);
+        set_entry(i, n, 1);
+        put_fields(i, &f, n as u32, 1)
+    } },
+    Clause { stage: 6, what: "attributes' first block t", make: |r, i| {
+        let (_, t) = n_t(i);
+        let f = file_where(r, i, |f| f.attribute_size == 1)?;
+        set_entry(i, f.attribute_block as usize, 0);
+        put_fields(i, &f, t as u32, 1)
+    } },
+    Clause { stage: 6, what: "attributes' next outside", make: |r, i| {
+        let chain = long_attributes(r, i)?.attributes(i);
+        let value = outside(r, i);
+        set_entry(i, chain[r.below(chain.len() - 1)], value);
+        Some(())
+    } },
+    Clause { stage: 6, what: "attributes' last value", make: |r, i| {
+        let f = file_with_attributes(r, i)?;
+        let (last, value) = (last_attribute(i, &f), not_one(r));
+        set_entry(i, last, value);
+        Some(())
+    } },
+    Clause { stage: 6, what: "attributes' last value a free block", make: |r, i| {
+        let f = file_with_attributes(r, i)?;
+        let (last, free) = (last_attribute(i, &f), free_block(r, i)?);
+        set_entry(i, last, free as u32);
+        set_entry(i, free, 1);
+        Some(())
+    } },
+    Clause { stage: 6, what: "attributes' loop", make: |r, i| {
+        let chain = file_with_attributes(r, i)?.attributes(i);
+        let back = chain[r.below(chain.len())];
+        set_entry(i, chain[chain.len() - 1], back as u32);
+        Some(())
+    } },
+    Clause { stage: 6, what: "attributes' loop, eight times around", make: |r, i| {
+        let f = file_with_attributes(r, i)?;
+        let last = last_attribute(i, &f);
+        set_entry(i, last, f.attribute_block);
+        put_fields(i, &f, f.attribute_block, 8)
+    } },
+    Clause { stage: 6, what: "attributes end early", make: |r, i| {
+        let chain = long_attributes(r, i)?.attributes(i);
+        set_entry(i, chain[r.below(chain.len() - 1)], 1);
+        Some(())
+    } },
+    Clause { stage: 6, what: "more blocks than the attributes", make: |r, i| {
+        let f = file_where(r, i, |f| (1..8).contains(&f.attribute_size))?;
+        put_fields(i, &f, f.attribute_block, r.between(f.attribute_size as usize + 1, 8) as u32)
+    } },
+    Clause { stage: 6, what: "fewer blocks than the attributes", make: |r, i| {
+        let f = long_attributes(r, i)?;
+        put_fields(i, &f, f.attribute_block, r.between(1, f.attribute_size as usize - 1) as u32)
+    } },
+    Clause { stage: 6, what: "attributes on a free block", make: |r, i| {
+        let (f, free) = (any_file(r, i)?, free_block(r, i)?);
+        put_fields(i, &f, free as u32, r.between(1, 8) as u32)
+    } },
+    Clause { stage: 6, what: "attributes on the file's own chain", make: |r, i| {
+        let f = file_where(r, i, |f| (1..=8).contains(&f.blocks))?;
+        put_fields(i, &f, f.first, f.blocks)
+    } },
+    Clause { stage: 6, what: "attributes on the file's own last block", make: |r, i| {
+        let f = file_with_blocks(r, i)?;
+        let last = last_of(i, &f);
+        put_fields(i, &f, last as u32, 1)
+    } },
+    Clause { stage: 6, what: "attributes with the file's own end", make: |r, i| {
+        let f = file_where(r, i, |f| f.attribute_size >= 2 && f.blocks >= 1)?;
+        let (chain, last) = (f.attributes(i), last_of(i, &f));
+        join_chain(i, &chain, last);
+        Some(())
+    } },
+    Clause { stage: 6, what: "a file that goes on into its attributes", make: |r, i| {
+        let f = file_where(r, i, |f| f.attribute_size >= 1 && f.blocks >= 1)?;
+        let last = last_of(i, &f);
+        set_entry(i, last, f.attribute_block);
+        Some(())
+    } },
+    Clause { stage: 6, what: "attributes on another file's chain", make: |r, i| {
+        let f = any_file(r, i)?;
+        let g = other_where(r, i, &f, |g| (1..=8).contains(&g.blocks))?;
+        put_fields(i, &f, g.first, g.blocks)
+    } },
+    Clause { stage: 6, what: "attributes on another file's last block", make: |r, i| {
+        let f = any_file(r, i)?;
+        let g = other_where(r, i, &f, |g| g.blocks >= 1)?;
+        let last = last_of(i, &g);
+        put_fields(i, &f, last as u32, 1)
+    } },
+    Clause { stage: 6, what: "two files with one chain of attributes", make: |r, i| {
+        let f = any_file(r, i)?;
+        let g = other_where(r, i, &f, |g| g.attribute_size >= 1)?;
+        put_fields(i, &f, g.attribute_block, g.attribute_size)
+    } },
+    Clause { stage: 6, what: "two chains of attributes with one end", make: |r, i| {
+        let f = long_attributes(r, i)?;
+        let g = other_where(r, i, &f, |g| g.attribute_size >= 1)?;
+        let (chain, last) = (f.attributes(i), last_attribute(i, &g));
+        join_chain(i, &chain, last);
+        Some(())
+    } },
+    Clause { stage: 6, what: "attributes on the root's last block", make: |r, i| {
+        let (f, last) = (any_file(r, i)?, *root_chain(i).last().unwrap());
+        put_fields(i, &f, last as u32, 1)
+    } },
+    Clause { stage: 6, what: "attributes with the root's end", make: |r, i| {
+        let (chain, last) = (long_attributes(r, i)?.attributes(i), *root_chain(i).last().unwrap());
+        join_chain(i, &chain, last);
+        Some(())
+    } },
+    Clause { stage: 6, what: "attributes on a whole folder", make: |r, i| {
+        let (f, folder) = (any_file(r, i)?, any_folder(r, i)?);
+        if folder.blocks > 8 { return None; }
+        put_fields(i, &f, folder.first, folder.blocks)
+    } },
+    Clause { stage: 6, what: "a file on another's attributes", make: |r, i| {
+        let f = file_with_attributes(r, i)?;
+        second_owner(r, i, f.attribute_block, 512 * f.attribute_size)
+    } },
+    Clause { stage: 6, what: "a file with the end of attributes", make: |r, i| {
+        let (f, g) = (long_file(r, i)?, file_with_attributes(r, i)?);
+        let last = last_attribute(i, &g);
+        join(i, &f, last);
+        Some(())
+    } },
+    Clause { stage: 6, what: "the blocks of attributes that are gone", make: |r, i| {
+        let f = file_with_attributes(r, i)?;
+        put_fields(i, &f, 0, 0)
+    } },
+    Clause { stage: 6, what: "the attributes of an empty file that is gone", make: |r, i| {
+        let f = file_where(r, i, |f| f.attribute_size >= 1 && f.size == 0)?;
+        i[f.at] = slot::TYPE_FREE;
+        Some(())
+    } },
+];
+
 /// All clauses, by what they break.
-pub const ALL: [&[Clause]; 6] = [LENGTH, HEADER, ROOT, FOLDER, DIRECTORY, CHAINS];
+pub const ALL: [&[Clause]; 7] = [LENGTH, HEADER, ROOT, FOLDER, DIRECTORY, CHAINS, ATTRIBUTES];
 
 /// Whether of two clauses the first is met before the second, by their stages.
 /// Faults of directories come in the order of the tree; but the root's own

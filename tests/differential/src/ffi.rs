@@ -93,6 +93,19 @@ extern "C" {
                                     journal: *mut u8, journal_len: usize,
                                     path: *const u8, path_len: usize) -> Changed;
 
+    pub fn bulgefs_set_attributes(image: *mut u8, image_len: usize,
+                                  journal: *mut u8, journal_len: usize,
+                                  path: *const u8, path_len: usize,
+                                  data: *const u8, data_len: usize) -> Changed;
+
+    pub fn bulgefs_read_attributes(image: *const u8, image_len: usize,
+                                   path: *const u8, path_len: usize,
+                                   buffer: *mut u8, buffer_len: usize) -> Filled;
+
+    pub fn bulgefs_clear_attributes(image: *mut u8, image_len: usize,
+                                    journal: *mut u8, journal_len: usize,
+                                    path: *const u8, path_len: usize) -> Changed;
+
     pub fn bulgefs_undo(image: *mut u8, image_len: usize,
                         journal: *mut u8, journal_len: usize) -> Changed;
 

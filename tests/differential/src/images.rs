@@ -253,6 +253,9 @@ fn put_files(
             any_size(rng, pool.len() * BLOCK)
         };
         put_file(rng, image, at, &name, size, pool);
+        if rng.once_in(if lean { 40 } else { 3 }) {
+            put_attributes(rng, image, at, pool);
+        }
     }
 }
 
@@ -280,6 +283,9 @@ pub fn with_names(
     for (name, &at) in names.iter().zip(&places[1..]) {
         let size = any_size(rng, pool.len() * BLOCK);
         put_file(rng, &mut image, at, name, size, &mut pool);
+        if rng.once_in(8) {
+            put_attributes(rng, &mut image, at, &mut pool);
+        }
     }
     let image = finish(rng, image);
     let home = tree(&image).into_iter().find(|home| home.first == first);
@@ -323,6 +329,16 @@ pub fn put_file(
     put_number(image, at + slot::ATTRIBUTE_BLOCK, 0);
     put_number(image, at + slot::ATTRIBUTE_SIZE, 0);
     image[at + slot::NAME..at + SLOT].copy_from_slice(&name_field(name));
+}
+
+/// Gives the file of a slot attributes, if there is a block for them.
+pub fn put_attributes(rng: &mut Rng, image: &mut [u8], at: usize, pool: &mut Vec<usize>) {
+    let most = rng.pick(&[1, 1, 2, 3, MAX_ATTRIBUTE_BLOCKS]);
+    let count = rng.between(1, most).min(pool.len());
+    let blocks: Vec<usize> = pool.drain(..count).collect();
+    link(image, &blocks);
+    put_number(image, at + slot::ATTRIBUTE_BLOCK, blocks.first().map_or(0, |&b| b as u32));
+    put_number(image, at + slot::ATTRIBUTE_SIZE, count as u32);
 }
 
 /// The header's bytes 0 to 31, with the counts of the table.

@@ -22,6 +22,11 @@ pub fn read(image: &Lent, path: &Lent, offset: u64, buffer: &mut Lent) -> Filled
     unsafe { ffi::bulgefs_read(at, len, path.ptr(), path.len(), offset, into, buffer.len()) }
 }
 
+pub fn read_attributes(image: &Lent, path: &Lent, buffer: &mut Lent) -> Filled {
+    let (at, len, into) = (image.ptr(), image.len(), buffer.mut_ptr());
+    unsafe { ffi::bulgefs_read_attributes(at, len, path.ptr(), path.len(), into, buffer.len()) }
+}
+
 pub fn look_in_place(image: &Lent, path: &Lent, index: u64) -> Part {
     unsafe { ffi::bulgefs_look_in_place(image.ptr(), image.len(), path.ptr(), path.len(), index) }
 }
@@ -86,6 +91,22 @@ impl Pair {
         let (image, image_len, journal, journal_len) = self.lent();
         unsafe {
             ffi::bulgefs_delete_directory(image, image_len, journal, journal_len,
+                                          path.ptr(), path.len())
+        }
+    }
+
+    pub fn set_attributes(&mut self, path: &Lent, data: &Lent) -> Changed {
+        let (image, image_len, journal, journal_len) = self.lent();
+        unsafe {
+            ffi::bulgefs_set_attributes(image, image_len, journal, journal_len,
+                                        path.ptr(), path.len(), data.ptr(), data.len())
+        }
+    }
+
+    pub fn clear_attributes(&mut self, path: &Lent) -> Changed {
+        let (image, image_len, journal, journal_len) = self.lent();
+        unsafe {
+            ffi::bulgefs_clear_attributes(image, image_len, journal, journal_len,
                                           path.ptr(), path.len())
         }
     }

@@ -13,6 +13,9 @@ pub enum Entry {
     Delete,
     CreateDirectory,
     DeleteDirectory,
+    SetAttributes,
+    ReadAttributes,
+    ClearAttributes,
     Undo,
     LoadTable,
     StoreTable,
@@ -20,7 +23,7 @@ pub enum Entry {
 
 /// Every entry point, and the numbers that it can answer. Look in place has
 /// no number; its row counts what look up would have answered.
-const ENTRIES: [(Entry, &str, &[u32]); 14] = [
+const ENTRIES: [(Entry, &str, &[u32]); 17] = [
     (Entry::Check, "check", &[0, 1, 2, 3, 4, 5, 6, 7]),
     (Entry::Format, "format", &[0, 1, 9, 14]),
     (Entry::Lookup, "lookup", &[0, 1, 2, 3, 4, 5, 6, 7, 9, 10, 17]),
@@ -32,6 +35,9 @@ const ENTRIES: [(Entry, &str, &[u32]); 14] = [
     (Entry::Delete, "delete", &[0, 1, 2, 3, 4, 5, 6, 7, 8, 9, 10, 15, 17]),
     (Entry::CreateDirectory, "create_dir", &[0, 1, 2, 3, 4, 5, 6, 7, 8, 9, 10, 11, 13, 14, 15, 17]),
     (Entry::DeleteDirectory, "delete_dir", &[0, 1, 2, 3, 4, 5, 6, 7, 8, 9, 10, 15, 17, 18]),
+    (Entry::SetAttributes, "set_attr", &[0, 1, 2, 3, 4, 5, 6, 7, 8, 9, 10, 14, 15, 17, 20]),
+    (Entry::ReadAttributes, "read_attr", &[0, 1, 2, 3, 4, 5, 6, 7, 9, 10, 17]),
+    (Entry::ClearAttributes, "clear_attr", &[0, 1, 2, 3, 4, 5, 6, 7, 8, 9, 10, 15, 17]),
     (Entry::Undo, "undo", &[0, 1, 2, 3, 4, 5, 6, 7, 8, 16]),
     (Entry::LoadTable, "load_table", &[0, 1, 2, 3, 4, 5, 6, 7, 21]),
     (Entry::StoreTable, "store_table", &[0, 1, 2, 3, 4, 5, 6, 7, 21]),

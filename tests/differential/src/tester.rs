@@ -74,10 +74,30 @@ impl Tester {
     }
 
     pub fn read(&mut self, image: &[u8], path: &[u8], offset: u64, buffer: &[u8]) {
+        let result = reference::read(image, path, offset, buffer.len());
+        self.fill(Entry::Read, image, path, buffer, result, |image, path, buffer| {
+            library::read(image, path, offset, buffer)
+        });
+    }
+
+    pub fn read_attributes(&mut self, image: &[u8], path: &[u8], buffer: &[u8]) {
+        let result = reference::read_attributes(image, path, buffer.len());
+        self.fill(Entry::ReadAttributes, image, path, buffer, result, library::read_attributes);
+    }
+
+    /// A call that fills a buffer; the reference gives the bytes for its front.
+    fn fill(
+        &mut self,
+        entry: Entry,
+        image: &[u8],
+        path: &[u8],
+        buffer: &[u8],
+        result: Result<Vec<u8>, u32>,
+        call: impl FnOnce(&Lent, &Lent, &mut Lent) -> ffi::Filled,
+    ) {
         let (lent, lent_path) = (self.lend(image), self.lend(path));
         let mut lent_buffer = self.lend(buffer);
-        let got = library::read(&lent, &lent_path, offset, &mut lent_buffer);
-        let result = reference::read(image, path, offset, buffer.len());
+        let got = call(&lent, &lent_path, &mut lent_buffer);
         let number = number_of(&result);
         let bytes = result.unwrap_or_default();
         let mut after = buffer.to_vec();
@@ -88,7 +108,7 @@ impl Tester {
             lent_path.trouble("path", path),
             lent_buffer.trouble("buffer", &after),
         ];
-        self.report.call(Entry::Read, number, troubles);
+        self.report.call(entry, number, troubles);
     }
 
     pub fn look_in_place(&mut self, image: &[u8], path: &[u8], index: u64) {
@@ -107,6 +127,7 @@ impl Tester {
         self.check(image);
         self.lookup(image, path);
         self.read(image, path, offset, buffer);
+        self.read_attributes(image, path, buffer);
         self.look_in_place(image, path, index);
     }
 
@@ -213,6 +234,15 @@ impl Tester {
             Change::DeleteDirectory(_) => {
                 (Entry::DeleteDirectory, without_slot(pair.delete_directory(&path)))
             }
+            Change::SetAttributes(s) => {
+                let data = self.lend(&s.data);
+                let got = pair.set_attributes(&path, &data);
+                troubles.push(data.trouble("data", &s.data));
+                (Entry::SetAttributes, without_slot(got))
+            }
+            Change::ClearAttributes(_) => {
+                (Entry::ClearAttributes, without_slot(pair.clear_attributes(&path)))
+            }
         };
         troubles.push(path.trouble("path", path_of(change)));
         (entry, got, troubles)
@@ -227,6 +257,8 @@ pub fn path_of(change: &Change) -> &[u8] {
         Change::Delete(d) => &d.path,
         Change::CreateDirectory(c) => &c.entry.path,
         Change::DeleteDirectory(d) => &d.path,
+        Change::SetAttributes(s) => &s.path,
+        Change::ClearAttributes(c) => &c.path,
     }
 }
 

@@ -119,14 +119,22 @@ fn right_self_entry(image: &[u8], expected: &Expected) -> bool {
 fn right_entry(image: &[u8], entry: &Entry) -> bool {
     let field = &image[entry.at + slot::NAME..entry.at + SLOT];
     let name = is_good_name(&entry.name) && field[entry.name.len()..].iter().all(|&b| b == 0);
-    let attributes = number(image, entry.at + slot::ATTRIBUTE_BLOCK) == 0
-        && number(image, entry.at + slot::ATTRIBUTE_SIZE) == 0;
     let sizes = if entry.is_directory() {
         entry.size == 0
     } else {
         entry.blocks == entry.size.div_ceil(BLOCK as u32) && (entry.first == 0) == (entry.size == 0)
     };
-    (entry.is_file() || entry.is_directory()) && name && attributes && sizes
+    (entry.is_file() || entry.is_directory()) && name && right_attributes(entry) && sizes
+}
+
+/// Both attribute fields are 0, or, of a file, the block is not and the size is
+/// 1 to 8.
+fn right_attributes(entry: &Entry) -> bool {
+    let size = entry.attribute_size as usize;
+    match entry.attribute_block {
+        0 => size == 0,
+        _ => entry.is_file() && (1..=MAX_ATTRIBUTE_BLOCKS).contains(&size),
+    }
 }
 
 /// Stage 6.
@@ -137,9 +145,13 @@ fn chains(image: &[u8]) -> bool {
     for directory in tree(image) {
         owned.extend(directory_chain(image, directory.first));
         for file in directory.entries.iter().filter(|entry| entry.is_file()) {
-            match chain(image, file.first, file.blocks as usize) {
-                Some(blocks) if ends(image, &blocks) => owned.extend(blocks),
-                _ => return false,
+            let data = (file.first, file.blocks);
+            let attributes = (file.attribute_block, file.attribute_size);
+            for (first, count) in [data, attributes] {
+                match chain(image, first, count as usize) {
+                    Some(blocks) if ends(image, &blocks) => owned.extend(blocks),
+                    _ => return false,
+                }
             }
         }
     }

@@ -11,6 +11,7 @@ pub const SLOT: usize = 128;
 pub const MAX_NAME: usize = 80;
 pub const NAME_FIELD: usize = 80;
 pub const MAX_DATA: usize = 4096;
+pub const MAX_ATTRIBUTE_BLOCKS: usize = 8;
 
 /// Offsets in the header, block 0.
 pub mod header {
@@ -180,6 +181,9 @@ pub struct Entry {
     pub first: u32,
     pub size: u32,
     pub blocks: u32,
+    pub attribute_block: u32,
+    /// In blocks.
+    pub attribute_size: u32,
 }
 
 impl Entry {
@@ -192,6 +196,8 @@ impl Entry {
             first: number(image, at + slot::FIRST),
             size: number(image, at + slot::SIZE),
             blocks: number(image, at + slot::BLOCKS),
+            attribute_block: number(image, at + slot::ATTRIBUTE_BLOCK),
+            attribute_size: number(image, at + slot::ATTRIBUTE_SIZE),
         }
     }
 
@@ -207,6 +213,12 @@ impl Entry {
     /// image.
     pub fn chain(&self, image: &[u8]) -> Vec<usize> {
         chain(image, self.first, self.blocks as usize).expect("the chain was checked")
+    }
+
+    /// The blocks of a file's attributes, likewise.
+    pub fn attributes(&self, image: &[u8]) -> Vec<usize> {
+        let count = self.attribute_size as usize;
+        chain(image, self.attribute_block, count).expect("the chain was checked")
     }
 }
 

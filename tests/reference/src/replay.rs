@@ -3,7 +3,7 @@
 //! the volume under test. (The rules call it a sheet, and its changes rows.)
 
 use crate::journal::{apply, State};
-use crate::volume::{look_in_place, lookup, read, Change, Found};
+use crate::volume::{look_in_place, lookup, read, read_attributes, Change, Found};
 use crate::{check, Refusal};
 use std::ops::Range;
 
@@ -16,6 +16,7 @@ pub enum Call {
     Lookup { path: Vec<u8> },
     Read { path: Vec<u8>, offset: u64, buffer: Vec<u8> },
     LookInPlace { path: Vec<u8>, index: u64 },
+    ReadAttributes { path: Vec<u8>, buffer: Vec<u8> },
 }
 
 /// What a call must give.
@@ -110,19 +111,27 @@ fn look_at(image: &[u8], call: &Call) -> Answer {
         Call::Check => Answer::Checked(check(image)),
         Call::Lookup { path } => Answer::Found(lookup(image, path)),
         Call::Read { path, offset, buffer } => {
-            let mut after = buffer.clone();
-            match read(image, path, *offset, buffer.len()) {
-                Err(number) => Answer::Read { number, count: 0, buffer: after },
-                Ok(bytes) => {
-                    after[..bytes.len()].copy_from_slice(&bytes);
-                    Answer::Read { number: 0, count: bytes.len() as u32, buffer: after }
-                }
-            }
+            filled(buffer, read(image, path, *offset, buffer.len()))
+        }
+        Call::ReadAttributes { path, buffer } => {
+            filled(buffer, read_attributes(image, path, buffer.len()))
         }
         Call::LookInPlace { path, index } => {
             let range = look_in_place(image, path, *index);
             Answer::Part { bytes: image[range.clone()].to_vec(), range }
         }
         Call::Change(_) | Call::Undo => unreachable!("not a look"),
+    }
+}
+
+/// The answer of a call that puts bytes at the front of a buffer.
+fn filled(buffer: &[u8], bytes: Result<Vec<u8>, Refusal>) -> Answer {
+    let mut after = buffer.to_vec();
+    match bytes {
+        Err(number) => Answer::Read { number, count: 0, buffer: after },
+        Ok(bytes) => {
+            after[..bytes.len()].copy_from_slice(&bytes);
+            Answer::Read { number: 0, count: bytes.len() as u32, buffer: after }
+        }
     }
 }

@@ -3,7 +3,7 @@
 
 use crate::check::{length, sound};
 use crate::layout::*;
-use crate::path::{named, place, Want};
+use crate::path::{named, parts, place, Want};
 use crate::Refusal;
 use std::collections::BTreeSet;
 use std::ops::Range;
@@ -52,6 +52,17 @@ pub struct DeleteDirectory {
     pub path: Vec<u8>,
 }
 
+#[derive(Clone, Debug, PartialEq, Eq)]
+pub struct SetAttributes {
+    pub path: Vec<u8>,
+    pub data: Vec<u8>,
+}
+
+#[derive(Clone, Debug, PartialEq, Eq)]
+pub struct ClearAttributes {
+    pub path: Vec<u8>,
+}
+
 /// A call that changes the image.
 #[derive(Clone, Debug, PartialEq, Eq)]
 pub enum Change {
@@ -60,6 +71,8 @@ pub enum Change {
     Delete(Delete),
     CreateDirectory(CreateDirectory),
     DeleteDirectory(DeleteDirectory),
+    SetAttributes(SetAttributes),
+    ClearAttributes(ClearAttributes),
 }
 
 /// An image after a change, and what the journal and the caller need of it.
@@ -144,6 +157,16 @@ pub fn read(image: &[u8], path: &[u8], offset: u64, buffer_len: usize) -> Result
     Ok(rest[..rest.len().min(buffer_len)].to_vec())
 }
 
+/// The bytes that read attributes puts at the front of a buffer of `buffer_len`
+/// bytes: as many whole blocks as there are and fit.
+pub fn read_attributes(image: &[u8], path: &[u8], buffer_len: usize) -> Result<Vec<u8>, Refusal> {
+    sound(image)?;
+    let file = find_file(image, path)?;
+    let blocks = file.attributes(image);
+    let count = blocks.len().min(buffer_len / BLOCK);
+    Ok(bytes_of(image, &blocks[..count]))
+}
+
 /// The part of the image that holds the file's block `index`, cut at the
 /// file's end; 0..0 if there is none.
 pub fn look_in_place(image: &[u8], path: &[u8], index: u64) -> Range<usize> {
@@ -165,7 +188,7 @@ fn find_file(image: &[u8], path: &[u8]) -> Result<Entry, Refusal> {
     place(path, Want::File, true)?.find(image, Want::File)
 }
 
-/// A change of a sound image; weighs the numbers 9, 17, 10 to 12, 18, 13, 14.
+/// A change of a sound image; weighs the numbers 9, 20, 17, 10 to 12, 18, 13, 14.
 pub fn change(image: &[u8], change: &Change) -> Result<Changed, Refusal> {
     match change {
         Change::Create(c) => create(image, c),
@@ -173,6 +196,8 @@ pub fn change(image: &[u8], change: &Change) -> Result<Changed, Refusal> {
         Change::Delete(d) => delete(image, d),
         Change::CreateDirectory(c) => create_directory(image, c),
         Change::DeleteDirectory(d) => delete_directory(image, d),
+        Change::SetAttributes(s) => set_attributes(image, s),
+        Change::ClearAttributes(c) => clear_attributes(image, c),
     }
 }
 
@@ -285,7 +310,46 @@ fn removed(image: &[u8], entry: &Entry) -> Changed {
     let mut named = BTreeSet::from([entry.at / BLOCK]);
     after[entry.at..entry.at + SLOT].fill(0);
     free(&mut after, &entry.chain(image), &mut named);
+    free(&mut after, &entry.attributes(image), &mut named);
     Changed { image: after, named, slot: 0 }
+}
+
+fn set_attributes(image: &[u8], s: &SetAttributes) -> Result<Changed, Refusal> {
+    if parts(&s.path).is_none() || s.data.is_empty() || s.data.len() % BLOCK != 0 {
+        return Err(9);
+    }
+    if s.data.len() / BLOCK > MAX_ATTRIBUTE_BLOCKS {
+        return Err(20);
+    }
+    let file = find_file(image, &s.path)?;
+    let mut after = image.to_vec();
+    let mut named = BTreeSet::from([file.at / BLOCK]);
+    free(&mut after, &file.attributes(image), &mut named);
+
+    let taken = lowest_free(&after, s.data.len() / BLOCK)?;
+    link(&mut after, &taken);
+    for (&b, part) in taken.iter().zip(s.data.chunks(BLOCK)) {
+        put(&mut after, b * BLOCK, part);
+        named.extend([0, b, table_block_of(b)]);
+    }
+    put_attributes(&mut after, &file, taken[0], taken.len());
+    recount(&mut after);
+    Ok(Changed { image: after, named, slot: 0 })
+}
+
+fn clear_attributes(image: &[u8], c: &ClearAttributes) -> Result<Changed, Refusal> {
+    let file = find_file(image, &c.path)?;
+    let mut after = image.to_vec();
+    let mut named = BTreeSet::from([file.at / BLOCK]);
+    free(&mut after, &file.attributes(image), &mut named);
+    put_attributes(&mut after, &file, 0, 0);
+    Ok(Changed { image: after, named, slot: 0 })
+}
+
+/// The two attribute fields of a file.
+fn put_attributes(image: &mut [u8], file: &Entry, first: usize, count: usize) {
+    put_number(image, file.at + slot::ATTRIBUTE_BLOCK, first as u32);
+    put_number(image, file.at + slot::ATTRIBUTE_SIZE, count as u32);
 }
 
 /// Frees the blocks of a chain, which become blank. With any of them, block 0
@@ -313,12 +377,14 @@ fn blank(image: &mut [u8], blocks: &[usize]) {
 
 /// A file's bytes: its blocks in chain order, cut at its size.
 fn content(image: &[u8], file: &Entry) -> Vec<u8> {
-    let mut bytes = Vec::new();
-    for b in file.chain(image) {
-        bytes.extend_from_slice(&image[b * BLOCK..(b + 1) * BLOCK]);
-    }
+    let mut bytes = bytes_of(image, &file.chain(image));
     bytes.truncate(file.size as usize);
     bytes
+}
+
+/// All bytes of some blocks, in their order.
+fn bytes_of(image: &[u8], blocks: &[usize]) -> Vec<u8> {
+    blocks.iter().flat_map(|&b| &image[b * BLOCK..(b + 1) * BLOCK]).copied().collect()
 }
 
 /// Makes the header's counts those of the table.

@@ -2,7 +2,8 @@
 //! this crate and for those that hold another implementation against it.
 
 use crate::{
-    format, start, Change, Create, CreateDirectory, Delete, DeleteDirectory, Refusal, State, Write,
+    format, start, Change, ClearAttributes, Create, CreateDirectory, Delete, DeleteDirectory,
+    Refusal, SetAttributes, State, Write,
 };
 
 /// A volume of `n` blocks, `d` of them for the root.
@@ -38,4 +39,12 @@ pub fn create_directory(path: &[u8], blocks: u32) -> Change {
 
 pub fn delete_directory(path: &[u8]) -> Change {
     Change::DeleteDirectory(DeleteDirectory { path: path.to_vec() })
+}
+
+pub fn set_attributes(path: &[u8], data: &[u8]) -> Change {
+    Change::SetAttributes(SetAttributes { path: path.to_vec(), data: data.to_vec() })
+}
+
+pub fn clear_attributes(path: &[u8]) -> Change {
+    Change::ClearAttributes(ClearAttributes { path: path.to_vec() })
 }

@@ -2,19 +2,22 @@
 use Prim.Native.Nat.{ℕ, _+_, _-_, _≤_, _<_}
 use mathlib.Core.Path.{_≡_, refl, sym, ap, _∙_}
 use mathlib.Core.List.{List, [], _++_}
+use mathlib.Core.Bool.{Bool, true, false, cond}
+use lib.Dec.{eqb}
 use native.Mathlib.Omega.{arith}
 use borrow.Rule.Slice.PartMut.{putMid}
 use lib.ListN.{length, replicate, length-append, length-replicate}
 use Rattle.layout.specs.Bytes.{bytes4, zeros, part, splice}
 use Rattle.layout.specs.declared.reading.Filled.{Filled}
 use Rattle.layout.specs.declared.reading.Filled.the-variants.{Bytes, Refused}
-use Rattle.layout.specs.Looks.{ReadAnswer, Extent, read, extentOf, lookInPlace}
-use Rattle.journal.specs.Run.{Call, Answer, State, change, undo, look, checkImage, findFile, readFile, lookAt, filled, shown, lookAnswer, answer, changeAnswer, changeRefusal, undoAnswer, undoRefusal}
-use Rattle.journal.specs.Script.{numbers, encoded, answerSize}
+use Rattle.layout.specs.Looks.{ReadAnswer, Extent, read, extentOf, lookInPlace, readAttributes}
+use Rattle.journal.specs.Run.{Call, Answer, State, change, undo, look, checkImage, findFile, readFile, lookAt, readAttributesOf, filled, shown, lookAnswer, answer, changeAnswer, changeRefusal, undoAnswer, undoRefusal}
+use Rattle.journal.specs.Script.{be64, opAt, nameAt, dataAt, numbers, encoded, answerSize}
+use Rattle.journal.specs.Walks.Scripts.{filledAt}
 use Rattle.layout.specs.Answers.{readAnswer}
 use Rattle.layout.proofs.Laws.Bytes.{length-zeros, putMid-splice, splice-append, splice-whole, splice-three, splice-back}
 use Rattle.layout.proofs.Laws.Tests.{accept-either}
-use Rattle.layout.proofs.Laws.Looks.{read-count, read-length, extent-small, length-look, look-short}
+use Rattle.layout.proofs.Laws.Looks.{read-count, read-length, attributes-count, attributes-length, extent-small, length-look, look-short}
 
 pub length-numbers : (a b c d : ℕ) → length (numbers a b c d) ≡ 16
 unfolding numbers bytes4
@@ -43,6 +46,9 @@ answer-length p (look (findFile name)) = length-numbers _ _ _ _
 answer-length p (look (readFile name offset buffer)) =
     let r : ReadAnswer = read (p .image) name offset buffer in
     length-append (numbers (r .number) (r .count) 0 0) (r .buffer) ∙ rw (length-numbers, read-length (p .image) name offset buffer)
+answer-length p (look (readAttributesOf name buffer)) =
+    let r : ReadAnswer = readAttributes (p .image) name buffer in
+    length-append (numbers (r .number) (r .count) 0 0) (r .buffer) ∙ rw (length-numbers, attributes-length (p .image) name buffer)
 answer-length p (look (lookAt name i)) =
     let b : List ℕ = lookInPlace (p .image) name i in
     let h : length b ≤ 512 = look-short (p .image) name i in
@@ -76,14 +82,32 @@ module _ (f : Filled) (b : List ℕ) where
   buffer-alone = elim f [ Bytes count ↦ refl | Refused number ↦ refl ]
 
 -- what read_into left in the part, and the numbers before it
-pub read-answered : (s b name before : List ℕ) (image : List ℕ) (offset : ℕ) (f : Filled) → readAnswer f b ≡ read image name offset before → length s ≡ 16 + length before
-    → splice (splice s 16 b) 0 (numbers (readAnswer f [] .number) (readAnswer f [] .count) 0 0) ≡ encoded (filled (read image name offset before))
-read-answered s b name before image offset f e h =
-    let l : length b ≡ length before = ap length (sym (buffer-alone f b)) ∙ ap (λ (a : ReadAnswer). length (a .buffer)) e ∙ read-length image name offset before in
-    rw (number-alone f b, count-alone f b) (read-encoded s b (readAnswer f b) (omega arith) (buffer-alone f b)) ∙ ap (λ (a : ReadAnswer). encoded (filled a)) e
+pub read-answered : (s b : List ℕ) (a : ReadAnswer) (f : Filled) → readAnswer f b ≡ a → length s ≡ 16 + length (a .buffer)
+    → splice (splice s 16 b) 0 (numbers (readAnswer f [] .number) (readAnswer f [] .count) 0 0) ≡ encoded (filled a)
+read-answered s b a f e h =
+    let l : length b ≡ length (a .buffer) = ap length (sym (buffer-alone f b)) ∙ ap (λ (x : ReadAnswer). length (x .buffer)) e in
+    rw (number-alone f b, count-alone f b) (read-encoded s b (readAnswer f b) (omega arith) (buffer-alone f b)) ∙ ap (λ (x : ReadAnswer). encoded (filled x)) e
 
-pub read-small : (b name before : List ℕ) (image : List ℕ) (offset : ℕ) (f : Filled) → readAnswer f b ≡ read image name offset before → readAnswer f [] .count ≤ length before
-read-small b name before image offset f e = omega (arith, count-alone f b, ap (λ (a : ReadAnswer). a .count) e, read-count image name offset before)
+-- an item's buffer keeps its length, and no more is filled
+module _ (image s : List ℕ) (at : ℕ) where
+  pub filled-length : length (filledAt image s at .buffer) ≡ length (dataAt s at)
+  unfolding filledAt
+  filled-length = go (eqb (opAt s at) 13)
+    where
+      go : (t : Bool) → length (cond t (readAttributes image (nameAt s at) (dataAt s at)) (read image (nameAt s at) (be64 s (at + 9)) (dataAt s at)) .buffer) ≡ length (dataAt s at)
+      go true = attributes-length image (nameAt s at) (dataAt s at)
+      go false = read-length image (nameAt s at) (be64 s (at + 9)) (dataAt s at)
+
+  filled-count : filledAt image s at .count ≤ length (dataAt s at)
+  unfolding filledAt
+  filled-count = go (eqb (opAt s at) 13)
+    where
+      go : (t : Bool) → cond t (readAttributes image (nameAt s at) (dataAt s at)) (read image (nameAt s at) (be64 s (at + 9)) (dataAt s at)) .count ≤ length (dataAt s at)
+      go true = attributes-count image (nameAt s at) (dataAt s at)
+      go false = read-count image (nameAt s at) (be64 s (at + 9)) (dataAt s at)
+
+  pub read-small : (b : List ℕ) (f : Filled) → readAnswer f b ≡ filledAt image s at → readAnswer f [] .count ≤ length (dataAt s at)
+  read-small b f e = omega (arith, count-alone f b, ap (λ (a : ReadAnswer). a .count) e, filled-count)
 
 zeros-are : (k : ℕ) → replicate k 0 ≡ zeros k
 unfolding zeros
@@ -105,12 +129,12 @@ shown-written s t bytes x y start h g d e f l =
     whole : (y : List ℕ) (k : ℕ) → y ≡ replicate k 0 → y ≡ zeros (length y)
     whole y k f = f ∙ zeros-are k ∙ ap zeros (sym (ap length f ∙ length-replicate {A = ℕ} k 0))
 
-pub read-written : (s b t name before image : List ℕ) (offset size : ℕ) (f : Filled) (n₁ n₂ n₃ n₄ : ℕ) → readAnswer f b ≡ read image name offset before
-    → length before ≡ size → length s ≡ 16 + size → length b ≡ 16 + size - 16
+pub read-written : (s b t : List ℕ) (a : ReadAnswer) (size : ℕ) (f : Filled) (n₁ n₂ n₃ n₄ : ℕ) → readAnswer f b ≡ a
+    → length (a .buffer) ≡ size → length s ≡ 16 + size → length b ≡ 16 + size - 16
     → (n₁ ≡ readAnswer f [] .number) × (n₂ ≡ readAnswer f [] .count) × (n₃ ≡ 0) × (n₄ ≡ 0)
-    → t ≡ splice (putMid 16 (16 + size - 16) s b) 0 (numbers n₁ n₂ n₃ n₄) → t ≡ encoded (filled (read image name offset before))
-read-written s b t name before image offset size f n₁ n₂ n₃ n₄ e l h k n d =
-    d ∙ rw (n .0, n .1, n .2, n .3) (rw (putMid-splice s 16 (16 + size - 16) b k) (read-answered s b name before image offset f e (h ∙ omega arith)))
+    → t ≡ splice (putMid 16 (16 + size - 16) s b) 0 (numbers n₁ n₂ n₃ n₄) → t ≡ encoded (filled a)
+read-written s b t a size f n₁ n₂ n₃ n₄ e l h k n d =
+    d ∙ rw (n .0, n .1, n .2, n .3) (rw (putMid-splice s 16 (16 + size - 16) b k) (read-answered s b a f e (h ∙ omega arith)))
 
 -- look in place by its numbers: the part that begins there
 module _ (s name : List ℕ) (i start size : ℕ) (starts : start ≡ extentOf s name i .start) (sizes : size ≡ extentOf s name i .size) where

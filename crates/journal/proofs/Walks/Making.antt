@@ -2,6 +2,8 @@
 use Prim.Native.Nat.{ℕ, zero, suc, _≤_}
 use mathlib.Core.Path.{_≡_, refl, sym, ap, _∙_}
 use mathlib.Core.List.{List}
+use mathlib.Core.Bool.{true, false}
+use mathlib.Core.Logic.{⊎-elim}
 use native.Mathlib.Omega.{arith}
 use lib.ListN.{length}
 use Rattle.layout.specs.Bytes.{splice}
@@ -10,8 +12,8 @@ use Rattle.volume.specs.Asked.{asked}
 use Rattle.volume.specs.declared.change.Change.{Change as Kind}
 use Rattle.journal.specs.Run.{Call, Answer, State, Look, change, undo, look, step, answer, afterChange, changeAnswer, afterUndo, undoAnswer, lookAnswer, state}
 use Rattle.journal.specs.Script.{opAt, nameAt, dataAt, changeAt, callAt, answerSize, numbers, encoded}
-use Rattle.journal.specs.Walks.Scripts.{CallDone}
-use Rattle.journal.proofs.Walks.Scripts.{is-change, is-check, is-lookup, is-read, is-look-in-place}
+use Rattle.journal.specs.Walks.Scripts.{looks, CallDone}
+use Rattle.journal.proofs.Walks.Scripts.{is-change, is-check, is-lookup, is-read, is-look-in-place, is-read-attributes, looks-split}
 use Rattle.journal.proofs.Walks.Encoding.{numbers-alone}
 
 module _ (p : State) (image journal part part′ : List ℕ) (n₁ n₂ n₃ n₄ : ℕ) (a : Answer)
@@ -36,7 +38,7 @@ look-answered image journal part call l e answered = answered ∙ sym (ap (λ (c
 
 -- the call of an item by what the code has read of it
 pub item-change : (s : List ℕ) (at : ℕ) (what : Kind) (name bytes : List ℕ) → name ≡ nameAt s at → bytes ≡ dataAt s at
-    → asked what (nameAt s at) (dataAt s at) ≡ changeAt s at → 5 ≤ opAt s at → (opAt s at ≡ 8 → ⊥) → callAt s at ≡ change (asked what name bytes)
+    → asked what (nameAt s at) (dataAt s at) ≡ changeAt s at → looks (opAt s at) ≡ false → (opAt s at ≡ 8 → ⊥) → callAt s at ≡ change (asked what name bytes)
 item-change s at what name bytes n b a h ne = is-change s at h ne ∙ ap change (sym a) ∙ rw (n, b)
 
 -- a call that only looks leaves image and journal
@@ -48,13 +50,15 @@ one-of (suc (suc (suc zero))) l h a b c d = c refl
 one-of (suc (suc (suc (suc zero)))) l h a b c d = d refl
 one-of (suc (suc (suc (suc (suc x))))) l h a b c d = absurd (omega arith)
 
-look-keeps : (p : State) (s : List ℕ) (at : ℕ) → 1 ≤ opAt s at → opAt s at ≤ 4 → step p (callAt s at) ≡ p
+look-keeps : (p : State) (s : List ℕ) (at : ℕ) → 1 ≤ opAt s at → looks (opAt s at) ≡ true → step p (callAt s at) ≡ p
 unfolding step
-look-keeps p s at l h =
-    one-of (opAt s at) l h (λ e. ap (step p) (is-check s at e)) (λ e. ap (step p) (is-lookup s at e)) (λ e. ap (step p) (is-read s at e))
-    (λ e. ap (step p) (is-look-in-place s at e))
+look-keeps p s at l t =
+    ⊎-elim (λ e. ap (step p) (is-read-attributes s at e))
+    (λ h. one-of (opAt s at) l h (λ e. ap (step p) (is-check s at e)) (λ e. ap (step p) (is-lookup s at e)) (λ e. ap (step p) (is-read s at e))
+    (λ e. ap (step p) (is-look-in-place s at e)))
+    (looks-split (opAt s at) t)
 
-pub look-made : (image journal part s : List ℕ) (at : ℕ) → 1 ≤ opAt s at → opAt s at ≤ 4
+pub look-made : (image journal part s : List ℕ) (at : ℕ) → 1 ≤ opAt s at → looks (opAt s at) ≡ true
     → ((j : List ℕ) → part ≡ encoded (answer (state image j) (callAt s at)))
     → CallDone (state image journal) (callAt s at) image journal part
 look-made image journal part s at l h answered = record { after = sym (look-keeps (state image journal) s at l h); answered = answered journal }

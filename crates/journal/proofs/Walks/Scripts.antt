@@ -1,19 +1,40 @@
 -- The items of a script one after the other, and the call of each.
 use Prim.Native.Nat.{ℕ, _+_, _-_, _≤_, _<_}
 use mathlib.Core.Path.{_≡_, refl, ap, _∙_}
-use mathlib.Core.Bool.{Bool, true, false, cond}
+use mathlib.Core.Bool.{Bool, true, false, cond, _||_}
+use mathlib.Core.Logic.{_⊎_, inl, inr, ⊎-elim}
 use mathlib.Core.List.{List, [], _∷_, map}
 use native.Mathlib.Omega.{arith}
-use borrow.Author.Tests.{le-leb, lt-leb, leb-true, leb-false, ne-eqb}
+use borrow.Author.Tests.{le-leb, lt-leb, leb-true, leb-false, ne-eqb, eqb-true, eqb-false}
 use lib.Dec.{leb, eqb}
 use lib.ListN.{length}
 use Rattle.layout.specs.Lists.{every}
 use Rattle.layout.specs.Bytes.{be32}
-use Rattle.journal.specs.Run.{Call, change, undo, look, checkImage, findFile, readFile, lookAt}
+use Rattle.journal.specs.Run.{Call, State, change, undo, look, checkImage, findFile, readFile, lookAt, readAttributesOf, filled, lookAnswer, answer}
 use Rattle.journal.specs.Script.{lastOp, be64, opAt, nameAt, dataAt, dataLength, itemSize, changeAt, callAt, itemOk, itemsFrom, callsFrom, answerSize, answersSize}
-use Rattle.layout.proofs.Laws.Tests.{and-split}
+use Rattle.journal.specs.Walks.Scripts.{looks, fills, filledAt}
+use Rattle.layout.proofs.Laws.Tests.{and-split, or-split, true-not-false}
 use Rattle.layout.proofs.Laws.Bytes.{length-part}
 use Rattle.journal.proofs.Laws.RecordWalk.{records-none, records-more, records-enough}
+
+-- the ops that look, and those that fill a buffer
+module _ (x : ℕ) where
+  pub looks-split : looks x ≡ true → (x ≡ 13) ⊎ (x ≤ 4)
+  looks-split h = ⊎-elim (λ a. inl (eqb-true x 13 a)) (λ b. inr (leb-true x 4 b)) (or-split (eqb x 13) (leb x 4) h)
+
+  pub fills-split : fills x ≡ true → (x ≡ 13) ⊎ (x ≡ 3)
+  fills-split h = ⊎-elim (λ a. inl (eqb-true x 13 a)) (λ b. inr (eqb-true x 3 b)) (or-split (eqb x 13) (eqb x 3) h)
+
+  neither : (a b : Bool) → a || b ≡ false → (a ≡ false) × (b ≡ false)
+  neither true b h = absurd (true-not-false refl h)
+  neither false true h = absurd (true-not-false refl h)
+  neither false false h = (refl, refl)
+
+  pub not-looks : looks x ≡ false → (x ≡ 13 → ⊥) × (4 < x)
+  not-looks h = let n = neither (eqb x 13) (leb x 4) h in (eqb-false x 13 (n .0), leb-false x 4 (n .1))
+
+  pub not-fills : fills x ≡ false → (x ≡ 13 → ⊥) × (x ≡ 3 → ⊥)
+  not-fills h = let n = neither (eqb x 13) (eqb x 3) h in (eqb-false x 13 (n .0), eqb-false x 3 (n .1))
 
 module _ (s : List ℕ) (at : ℕ) where
   pub items-none : length s ≤ at → itemsFrom s at ≡ []
@@ -93,14 +114,20 @@ module _ (s : List ℕ) (at : ℕ) where
   unfolding callAt
   is-look-in-place e = rw e
 
-  pub is-change : 5 ≤ opAt s at → (opAt s at ≡ 8 → ⊥) → callAt s at ≡ change (changeAt s at)
+  pub is-read-attributes : opAt s at ≡ 13 → callAt s at ≡ look (readAttributesOf (nameAt s at) (dataAt s at))
   unfolding callAt
-  is-change h ne =
+  is-read-attributes e = rw e
+
+  pub is-change : looks (opAt s at) ≡ false → (opAt s at ≡ 8 → ⊥) → callAt s at ≡ change (changeAt s at)
+  unfolding callAt
+  is-change l ne =
+      let h = not-looks (opAt s at) l in
       rw (
         ne-eqb (opAt s at) 1 (λ e. omega arith),
         ne-eqb (opAt s at) 2 (λ e. omega arith),
         ne-eqb (opAt s at) 3 (λ e. omega arith),
         ne-eqb (opAt s at) 4 (λ e. omega arith),
+        ne-eqb (opAt s at) 13 (h .0),
         ne-eqb (opAt s at) 8 ne,
       )
 
@@ -117,26 +144,39 @@ module _ (s : List ℕ) (at : ℕ) where
   either true x y k f g = f
   either false x y k f g = g
 
-  pub size-read : at + itemSize s at ≤ length s → opAt s at ≡ 3 → answerSize (callAt s at) ≡ 16 + dataLength s at
+  pub size-read : at + itemSize s at ≤ length s → fills (opAt s at) ≡ true → answerSize (callAt s at) ≡ 16 + dataLength s at
   unfolding answerSize
-  size-read h e = rw (is-read e, length-data h)
+  size-read h f = ⊎-elim (λ e. rw (is-read-attributes e, length-data h)) (λ e. rw (is-read e, length-data h)) (fills-split (opAt s at) f)
 
   pub size-look-in-place : opAt s at ≡ 4 → answerSize (callAt s at) ≡ 528
   unfolding answerSize
   size-look-in-place e = rw (is-look-in-place e)
 
-  pub size-plain : eqb (opAt s at) 3 ≡ false → eqb (opAt s at) 4 ≡ false → answerSize (callAt s at) ≡ 16
+  pub size-plain : fills (opAt s at) ≡ false → eqb (opAt s at) 4 ≡ false → answerSize (callAt s at) ≡ 16
   unfolding answerSize callAt
   size-plain e f =
-      rw (e, f)
+      let n = not-fills (opAt s at) e in
+      rw (ne-eqb (opAt s at) 13 (n .0), ne-eqb (opAt s at) 3 (n .1), f)
       (either (eqb (opAt s at) 1) _ _ 16 refl
       (either (eqb (opAt s at) 2) _ _ 16 refl (either (eqb (opAt s at) 8) _ _ 16 refl refl)))
 
-  pub size-low : opAt s at ≤ 2 → answerSize (callAt s at) ≡ 16
-  size-low h = size-plain (ne-eqb (opAt s at) 3 (λ e. omega arith)) (ne-eqb (opAt s at) 4 (λ e. omega arith))
+  pub size-low : fills (opAt s at) ≡ false → opAt s at ≤ 2 → answerSize (callAt s at) ≡ 16
+  size-low f h = size-plain f (ne-eqb (opAt s at) 4 (λ e. omega arith))
 
-  pub size-high : 5 ≤ opAt s at → answerSize (callAt s at) ≡ 16
-  size-high h = size-plain (ne-eqb (opAt s at) 3 (λ e. omega arith)) (ne-eqb (opAt s at) 4 (λ e. omega arith))
+  pub size-high : looks (opAt s at) ≡ false → answerSize (callAt s at) ≡ 16
+  size-high l =
+      let h = not-looks (opAt s at) l in
+      size-plain (rw (ne-eqb (opAt s at) 13 (h .0), ne-eqb (opAt s at) 3 (λ e. omega arith))) (ne-eqb (opAt s at) 4 (λ e. omega arith))
+
+  -- the item that fills a buffer, and the one that looks and is none of the others
+  pub read-answer : (p : State) → fills (opAt s at) ≡ true → answer p (callAt s at) ≡ filled (filledAt (p .image) s at)
+  unfolding answer lookAnswer filledAt
+  read-answer p f = ⊎-elim (λ e. rw (is-read-attributes e, e)) (λ e. rw (is-read e, e)) (fills-split (opAt s at) f)
+
+  pub last-look : looks (opAt s at) ≡ true → fills (opAt s at) ≡ false → 1 ≤ opAt s at → (opAt s at ≡ 1 → ⊥) → (opAt s at ≡ 2 → ⊥) → opAt s at ≡ 4
+  last-look l f low a b =
+      let n = not-fills (opAt s at) f in
+      ⊎-elim (λ e. absurd (n .0 e)) (λ h. omega arith) (looks-split (opAt s at) l)
 
   -- room for the answers from here on
   pub sizes-step : at < length s → answersSize (callsFrom s at) ≡ answerSize (callAt s at) + answersSize (callsFrom s (at + itemSize s at))

@@ -24,7 +24,7 @@ use Rattle.layout.proofs.Laws.Frames.{Same, same-be32, same-part}
 use Rattle.layout.proofs.Laws.Visits.{Local, Tree, dirBlocks, blocksIn, below-is}
 use Rattle.layout.proofs.Laws.Trees.{sizeAt, Directory, root-in, directory-in, length-directory, slotAt-zero, directoryOk-join, directoryOk-split, childOk-split, childOk-join, same-slot-place}
 use Rattle.layout.proofs.Laws.Tables.{Table, table-of}
-use Rattle.layout.proofs.Laws.Sound.{Facts, Sound, Entry, EntryIn, blocksOfAll, heldAt}
+use Rattle.layout.proofs.Laws.Sound.{Facts, Sound, EntryIn, blocksOfAll, heldAt, Owner, owner-map}
 use Rattle.layout.proofs.Laws.Slots.{in-slots, in-children, newName-join, dir-least, child-dir, slot-entry, slot-entry-in, slot-other, entry-of-tree, slot-ok, names-differ, entry-high}
 
 -- what keeps a directory's place in the tree: its blocks, its children's entries, and where they lead
@@ -246,7 +246,7 @@ module _ (s s′ : List ℕ) (S : Sound s) (len : length s′ ≡ length s) (hea
   small : 512 ≤ length s
   small = omega (arith, S .whole, S .least)
 
-  facts : Tree s′ (blockCount s) → Table (blockCount s) (Entry s′) (next s′) (firstBlock s′) (heldAt s′) → be32 s′ 20 ≡ occupied (next s′) (blockCount s)
+  facts : Tree s′ (blockCount s) → Table (blockCount s) (Owner s′) (next s′) (firstBlock s′) (heldAt s′) → be32 s′ 20 ≡ occupied (next s′) (blockCount s)
       → be32 s′ 24 ≡ blockCount s - occupied (next s′) (blockCount s) → Facts s′ (blockCount s)
   unfolding stage2 stage3
   facts tree table used free =
@@ -269,7 +269,7 @@ module _ (s s′ : List ℕ) (S : Sound s) (len : length s′ ≡ length s) (hea
         free-is = free;
       }
 
-  pub sound-of : Tree s′ (blockCount s) → Table (blockCount s) (Entry s′) (next s′) (firstBlock s′) (heldAt s′) → be32 s′ 20 ≡ occupied (next s′) (blockCount s)
+  pub sound-of : Tree s′ (blockCount s) → Table (blockCount s) (Owner s′) (next s′) (firstBlock s′) (heldAt s′) → be32 s′ 20 ≡ occupied (next s′) (blockCount s)
       → be32 s′ 24 ≡ blockCount s - occupied (next s′) (blockCount s) → Sound s′
   sound-of tree table used free = rw len (facts tree table used free)
 
@@ -335,9 +335,9 @@ module _ (s s′ : List ℕ) (S : Sound s) (d₀ : ℕ × ℕ) (i₀ : In d₀ (
         pub blocks-again : dirBlocks s′ ≡ dirBlocks s
         blocks-again = dirBlocks-same s s′ (O .len) kept
 
-        pub sound-again : Table m (Entry s) (next s′) (firstBlock s′) (heldAt s′) → be32 s′ 20 ≡ occupied (next s′) m → be32 s′ 24 ≡ m - occupied (next s′) m → Sound s′
+        pub sound-again : Table m (Owner s) (next s′) (firstBlock s′) (heldAt s′) → be32 s′ 20 ≡ occupied (next s′) m → be32 s′ 24 ≡ m - occupied (next s′) m → Sound s′
         sound-again table used free =
             sound-of s s′ S (O .len) (O .head) (O .tail) tree-again
-            (table-of m (Entry s) (Entry s′) (next s′) (firstBlock s′) (heldAt s′)
-            (λ a E. record { within-tree = rw blocks-again at (E .within-tree); aligned = E .aligned })
-            (λ a E. record { within-tree = rw blocks-again (E .within-tree); aligned = E .aligned }) table) used free
+            (table-of m (Owner s) (Owner s′) (next s′) (firstBlock s′) (heldAt s′)
+            (owner-map s′ s (dirs s′) (dirs s) (λ a E. record { within-tree = rw blocks-again at (E .within-tree); aligned = E .aligned }))
+            (owner-map s s′ (dirs s) (dirs s′) (λ a E. record { within-tree = rw blocks-again (E .within-tree); aligned = E .aligned })) table) used free

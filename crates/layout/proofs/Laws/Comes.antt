@@ -25,7 +25,7 @@ use Rattle.layout.proofs.Laws.Joins.{in-interval, join-append, select-a
 use Rattle.layout.proofs.Laws.Visits.{Local, Tree, blocksIn, dirBlocks, below-is, under, childOk-directory, directoryOk-distinct}
 use Rattle.layout.proofs.Laws.Trees.{sizeAt, directory-in, length-directory, pair-same, root-in}
 use Rattle.layout.proofs.Laws.Tables.{Table}
-use Rattle.layout.proofs.Laws.Sound.{Sound, Entry, heldAt}
+use Rattle.layout.proofs.Laws.Sound.{Sound, Entry, heldAt, Owner}
 use Rattle.layout.proofs.Laws.Slots.{in-slots, in-children, dir-least, child-dir, child-below, slot-entry, slot-other}
 use Rattle.layout.proofs.Laws.Changed.{Kept, below-same, OneSlot, SlotsRight, type-stays, field-stays, blocks-stay, child-entry, child-stays, slots-again, root-right, sound-of}
 use Rattle.layout.proofs.Laws.Spread.{below-level, below-trans, spread}
@@ -290,5 +290,5 @@ module _ (s s′ : List ℕ) (S : Sound s) (b₀ j : ℕ) (i₀ : In (b₀, suc 
             }
 
         -- A SOUND IMAGE AGAIN, where the owners are the old entries and the new self entry, and no other entry of the new directory owns a block
-        pub sound-more : Table n (Entry s′) (next s′) (firstBlock s′) (heldAt s′) → be32 s′ 20 ≡ occupied (next s′) n → be32 s′ 24 ≡ n - occupied (next s′) n → Sound s′
+        pub sound-more : Table n (Owner s′) (next s′) (firstBlock s′) (heldAt s′) → be32 s′ 20 ≡ occupied (next s′) n → be32 s′ 24 ≡ n - occupied (next s′) n → Sound s′
         sound-more table used free = sound-of s s′ S (O .len) (O .head) (O .tail) tree-more table used free

@@ -1,28 +1,29 @@
 -- What is known of a file of a sound image, in any directory of the tree: where its entry is, its blocks, its content.
 use Prim.Native.Nat.{ℕ, _+_, _-_, _*_, _/_, _≤_, _<_, suc, zero}
-use mathlib.Core.Bool.{true}
+use mathlib.Core.Bool.{true, not}
 use mathlib.Core.List.{List, [], _∷_}
 use mathlib.Core.Logic.{_⊎_, inl, inr, ⊎-elim, _≢_}
 use mathlib.Core.Path.{_≡_, refl, sym, ap, _∙_}
 use native.Mathlib.Omega.{arith}
 use lib.Dec.{eqb}
 use lib.ListN.{length, length-append, length-take, getD}
-use borrow.Author.Tests.{eqb-true}
+use borrow.Author.Tests.{eqb-true, eqb-false, not-true, ne-eqb}
 use lib.Seq.{take-at, drop-append-add}
+use Rattle.layout.specs.Limits.{maxAttributes}
 use Rattle.layout.specs.Lists.{joined}
 use Rattle.layout.specs.Bytes.{block, part}
 use Rattle.layout.specs.Geometry.{blockCount, blocksFor}
 use Rattle.layout.specs.Table.{next, chainOk}
-use Rattle.layout.specs.Directory.{slotAt, typeOf, firstBlock, sizeOf, blocksOf, isFree, isFile, nameOk, freeSlot, directory, dirs, fileBlocks, content}
-use Rattle.layout.specs.Check.{attributesOk, fileOk}
+use Rattle.layout.specs.Directory.{slotAt, typeOf, firstBlock, sizeOf, blocksOf, attributeBlock, attributeSize, isFree, isFile, nameOk, freeSlot, directory, dirs, fileBlocks, content, attributeBlocks, attributes}
+use Rattle.layout.specs.Check.{noAttributes, attributesOk, fileOk}
 use Rattle.layout.proofs.Laws.Bytes.{length-block, part-part}
 use Rattle.layout.proofs.Laws.Chains.{length-chain, chain-below}
 use Rattle.layout.proofs.Laws.Lists.{In, lowest-met, getD-in}
 use Rattle.layout.proofs.Laws.Trees.{sizeAt, length-directory, block-above}
 use Rattle.layout.proofs.Laws.Sound.{Sound, Entry, slotOk-split}
 use Rattle.layout.proofs.Laws.Slots.{slot-entry, slot-ok}
-use Rattle.layout.proofs.Laws.Owners.{file-chained}
-use Rattle.layout.proofs.Laws.Tests.{and-split, within-split}
+use Rattle.layout.proofs.Laws.Owners.{file-chained, second-chained}
+use Rattle.layout.proofs.Laws.Tests.{and-split, or-split, within-split, within-join}
 
 -- an entry of the directory lies in one block of the image
 pub record Slot (s : List ℕ) (e : ℕ) : Type 0 where
@@ -34,6 +35,29 @@ pub record File (s : List ℕ) (e : ℕ) : Type 0 where
   pub slot : Slot s e
   pub blocks : blocksOf s e ≡ blocksFor (sizeOf s e)
   pub chained : chainOk (next s) (blockCount s) (firstBlock s e) (blocksOf s e) ≡ true
+  pub fields : attributesOk s e ≡ true
+  pub second : chainOk (next s) (blockCount s) (attributeBlock s e) (attributeSize s e) ≡ true
+
+-- a file's attribute fields: none, or a block and 1 to 8 of them
+abbrev pub AttributeFields : ℕ → ℕ → Type 0
+AttributeFields first size = ((first ≡ 0) × (size ≡ 0)) ⊎ ((first ≢ 0) × (1 ≤ size) × (size ≤ maxAttributes))
+
+pub attributesOk-split : (s : List ℕ) (e : ℕ) → attributesOk s e ≡ true → AttributeFields (attributeBlock s e) (attributeSize s e)
+unfolding attributesOk noAttributes
+attributesOk-split s e ok = ⊎-elim
+    (λ a. let z = and-split (eqb (attributeBlock s e) 0) _ a in inl (eqb-true _ _ (z .0), eqb-true _ _ (z .1)))
+    (λ a. let z = and-split (not (eqb (attributeBlock s e) 0)) _ a in
+    let w = within-split 1 maxAttributes (attributeSize s e) (z .1) in
+    inr (eqb-false _ _ (not-true _ (z .0)), w .0, w .1))
+    (or-split (noAttributes s e) _ ok)
+
+pub attributesOk-join : (s : List ℕ) (e : ℕ) → AttributeFields (attributeBlock s e) (attributeSize s e) → attributesOk s e ≡ true
+unfolding attributesOk noAttributes
+attributesOk-join s e (inl w) = rw (w .0, w .1)
+attributesOk-join s e (inr w) = rw (ne-eqb (attributeBlock s e) 0 (w .0)) (within-join 1 maxAttributes (attributeSize s e) (w .1) (w .2))
+
+pub attributes-few : (s : List ℕ) (e : ℕ) → attributesOk s e ≡ true → attributeSize s e ≤ maxAttributes
+attributes-few s e ok = ⊎-elim (λ a. omega (arith, a .1)) (λ a. a .2) (attributesOk-split s e ok)
 
 -- the bytes of some blocks, one after the other
 pub length-blocks : (s bs : List ℕ) → ((x : ℕ) → In x bs → 512 * x + 512 ≤ length s) → length (joined (block s) bs) ≡ 512 * length bs
@@ -53,6 +77,10 @@ joined-block s (b ∷ bs) f (suc i) g =
 pub length-fileBlocks : (s : List ℕ) (e : ℕ) → length (fileBlocks s e) ≡ blocksOf s e
 unfolding fileBlocks
 length-fileBlocks s e = length-chain (next s) (firstBlock s e) (blocksOf s e)
+
+pub length-attributeBlocks : (s : List ℕ) (e : ℕ) → length (attributeBlocks s e) ≡ attributeSize s e
+unfolding attributeBlocks
+length-attributeBlocks s e = length-chain (next s) (attributeBlock s e) (attributeSize s e)
 
 -- the lowest free slot of the directory at b
 pub free-slot : (s : List ℕ) (b : ℕ) → freeSlot s (directory s b) ≢ 0
@@ -85,12 +113,16 @@ module _ (s : List ℕ) (S : Sound s) where
         let a₁ = and-split (nameOk s a) _ file-right in
         let a₂ = and-split (attributesOk s a) _ (a₁ .1) in
         let a₃ = and-split (eqb (blocksOf s a) (blocksFor (sizeOf s a))) _ (a₂ .1) in
-        record { slot = entry-slot a E; blocks = eqb-true _ _ (a₃ .0); chained = file-chained s S a E t }
+        record { slot = entry-slot a E; blocks = eqb-true _ _ (a₃ .0); chained = file-chained s S a E t; fields = a₂ .0; second = second-chained s S a E t }
 
-  -- its blocks and its content
+  -- its blocks, its content and its attributes
   pub file-inside : (e x : ℕ) → File s e → In x (fileBlocks s e) → x < blockCount s
   unfolding fileBlocks
   file-inside e x f m = chain-below (next s) (blockCount s) (firstBlock s e) (blocksOf s e) x (f .chained) m
+
+  pub attribute-inside : (e x : ℕ) → File s e → In x (attributeBlocks s e) → x < blockCount s
+  unfolding attributeBlocks
+  attribute-inside e x f m = chain-below (next s) (blockCount s) (attributeBlock s e) (attributeSize s e) x (f .second) m
 
   module _ (e : ℕ) (f : File s e) where
     bound : (x : ℕ) → In x (fileBlocks s e) → 512 * x + 512 ≤ length s
@@ -102,6 +134,11 @@ module _ (s : List ℕ) (S : Sound s) where
     pub length-content : length (content s e) ≡ sizeOf s e
     unfolding content
     length-content = let l = length-file in simp length-take (omega (arith, f .blocks))
+
+    pub length-attributes : length (attributes s e) ≡ 512 * attributeSize s e
+    unfolding attributes
+    length-attributes =
+        length-blocks s (attributeBlocks s e) (λ x m. omega (arith, attribute-inside e x f m, S .whole)) ∙ ap (λ (k : ℕ). 512 * k) (length-attributeBlocks s e)
 
     -- block i of the file, cut at the file's end, is that part of its content
     pub content-part : (i m : ℕ) → i < blocksOf s e → m ≤ 512 → m ≤ sizeOf s e - 512 * i

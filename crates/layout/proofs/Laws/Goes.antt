@@ -23,7 +23,7 @@ use Rattle.layout.proofs.Laws.Joins.{of-join, to-join, join-append, sel
 use Rattle.layout.proofs.Laws.Visits.{Local, Tree, blocksIn, dirBlocks, below-is, under}
 use Rattle.layout.proofs.Laws.Trees.{sizeAt, directory-in, length-directory, root-in, childOk-split, directoryOk-split}
 use Rattle.layout.proofs.Laws.Tables.{Table}
-use Rattle.layout.proofs.Laws.Sound.{Sound, Entry, EntryIn, heldAt}
+use Rattle.layout.proofs.Laws.Sound.{Sound, Entry, EntryIn, heldAt, Owner}
 use Rattle.layout.proofs.Laws.Slots.{in-slots, in-children, children-in, dir-least, child-dir, child-below, slot-entry-in, slot-other, names-differ}
 use Rattle.layout.proofs.Laws.Changed.{Kept, below-same, OneSlot, type-stays, field-stays, blocks-stay, child-entry, child-stays, slots-again, root-right, sound-of}
 use Rattle.layout.proofs.Laws.Spread.{below-level, spread}
@@ -314,5 +314,5 @@ module _ (s s′ : List ℕ) (S : Sound s) (b₀ j : ℕ) (j₀ : In (b₀, suc 
                 once = rw blocks-left (distinct-remove left-front (directory s c) left-back once-all);
               }
 
-          pub sound-less : Table n (Entry s′) (next s′) (firstBlock s′) (heldAt s′) → be32 s′ 20 ≡ occupied (next s′) n → be32 s′ 24 ≡ n - occupied (next s′) n → Sound s′
+          pub sound-less : Table n (Owner s′) (next s′) (firstBlock s′) (heldAt s′) → be32 s′ 20 ≡ occupied (next s′) n → be32 s′ 24 ≡ n - occupied (next s′) n → Sound s′
           sound-less table used left = sound-of s s′ S (O .len) (O .head) (O .tail) tree-less table used left

@@ -1,5 +1,5 @@
 -- What looking up, reading and looking in place give.
-use Prim.Native.Nat.{ℕ, _+_, _-_, _*_, _≤_, _<_, min}
+use Prim.Native.Nat.{ℕ, zero, suc, _+_, _-_, _*_, _/_, _≤_, _<_, min}
 use mathlib.Core.Bool.{not, true}
 use mathlib.Core.List.{List, []}
 use mathlib.Core.Logic.{_⊎_, inl, inr, _≢_}
@@ -7,16 +7,16 @@ use mathlib.Core.Path.{_≡_, sym, ap, _∙_, refl}
 use native.Mathlib.Decide.{ℕ-discrete}
 use native.Mathlib.Omega.{arith}
 use lib.Dec.{eqb}
-use lib.ListN.{length, getD, drop}
+use lib.ListN.{length, getD, take, drop}
 use borrow.Author.Tests.{le-ltb, lt-ltb, eqb-false, not-true}
 use Rattle.layout.specs.Bytes.{part}
-use Rattle.layout.specs.Directory.{sizeOf, blocksOf, isFile, fileBlocks, content}
-use Rattle.layout.specs.Limits.{maxBlocks, maxLevels}
+use Rattle.layout.specs.Directory.{sizeOf, blocksOf, attributeSize, isFile, fileBlocks, content, attributes}
+use Rattle.layout.specs.Limits.{maxBlocks, maxLevels, maxAttributes}
 use Rattle.layout.specs.Paths.{parts, pathOk, leading, shallow, home, pathSlot, entryOf, fileRefusal}
 use Rattle.layout.specs.Check.{check}
-use Rattle.layout.specs.Looks.{lookupRefusal, readRefusal, read, extentOf, lookInPlace, ReadAnswer}
+use Rattle.layout.specs.Looks.{lookupRefusal, readRefusal, read, extentOf, lookInPlace, ReadAnswer, readAttributes}
 use Rattle.layout.proofs.Laws.Bytes.{length-part, length-splice, length-take-most, be32-small}
-use Rattle.layout.proofs.Laws.Files.{File, file-in, length-fileBlocks, file-inside, content-part}
+use Rattle.layout.proofs.Laws.Files.{File, attributes-few, file-in, length-fileBlocks, file-inside, content-part}
 use Rattle.layout.proofs.Laws.Paths.{path-named, path-home}
 use Rattle.layout.proofs.Laws.Lists.{getD-in}
 use Rattle.layout.proofs.Laws.Sound.{sound}
@@ -85,6 +85,31 @@ module _ (s path : List ℕ) (offset : ℕ) (buffer : List ℕ) where
       let h : min (length buffer) (sizeOf s (entryOf isFile s path) - offset) < 0x100000000 = omega (arith, be32-small s (entryOf isFile s path + 8) f) in
       let z : 0 < 0x100000000 = omega arith in
       accept-either (λ (r : ReadAnswer). r .count < 0x100000000) (readRefusal s path offset) _ _ h z
+
+-- and so does reading attributes, at most 8 blocks
+module _ (s path buffer : List ℕ) where
+  pub attributes-count : readAttributes s path buffer .count ≤ length buffer
+  unfolding readAttributes
+  attributes-count =
+      let h : 512 * min (attributeSize s (entryOf isFile s path)) (length buffer / 512) ≤ length buffer = omega arith in
+      let z : 0 ≤ length buffer = omega arith in
+      accept-either (λ (r : ReadAnswer). r .count ≤ length buffer) (lookupRefusal s path) _ _ h z
+
+  pub attributes-length : length (readAttributes s path buffer .buffer) ≡ length buffer
+  unfolding readAttributes
+  attributes-length =
+      let count : ℕ = 512 * min (attributeSize s (entryOf isFile s path)) (length buffer / 512) in
+      let bytes : List ℕ = take count (attributes s (entryOf isFile s path)) in
+      let h : length bytes ≤ count = length-take-most count (attributes s (entryOf isFile s path)) in
+      accept-either (λ (r : ReadAnswer). length (r .buffer) ≡ length buffer) (lookupRefusal s path) _ _ (length-splice buffer 0 bytes (omega arith)) refl
+
+  pub attributes-small : readAttributes s path buffer .count ≤ 512 * maxAttributes
+  unfolding readAttributes
+  attributes-small = go (lookupRefusal s path) refl
+    where
+      go : (r : ℕ) → lookupRefusal s path ≡ r → readAttributes s path buffer .count ≤ 512 * maxAttributes
+      go (suc r) q = rw q (omega arith)
+      go zero q = let f = attributes-few s (entryOf isFile s path) (lookup-file s path q .fields) in rw q (omega arith)
 
 -- look in place: the part of block i of a file, as numbers
 module _ (s path : List ℕ) (i : ℕ) where

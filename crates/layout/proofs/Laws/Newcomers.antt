@@ -1,5 +1,5 @@
 -- After a directory has come, the files of all paths stay: a path that passes through its name led nowhere, and leads to no file now.
-use Prim.Native.Nat.{ℕ, zero, suc, _-_, _*_, _/_, _≤_, _<_}
+use Prim.Native.Nat.{ℕ, zero, suc, _+_, _-_, _*_, _/_, _≤_, _<_}
 use mathlib.Core.Path.{_≡_, refl, sym, ap, _∙_, subst}
 use mathlib.Core.Bool.{Bool, true, false, cond}
 use mathlib.Core.List.{List, [], _∷_}
@@ -19,15 +19,15 @@ use Rattle.layout.specs.Paths.{parts, leading, lastPart, shallow, childO
 use Rattle.layout.proofs.Laws.Tests.{true-not-false, is-false, within-split}
 use Rattle.layout.proofs.Laws.Lists.{In}
 use Rattle.layout.proofs.Laws.Names.{same-eq}
-use Rattle.layout.proofs.Laws.Chains.{nth}
 use Rattle.layout.proofs.Laws.Trees.{sizeAt, root-in, same-slot-place}
-use Rattle.layout.proofs.Laws.Sound.{Sound, Entry, heldAt}
+use Rattle.layout.proofs.Laws.Sound.{Sound, Entry, Owner}
 use Rattle.layout.proofs.Laws.Slots.{slot-entry}
 use Rattle.layout.proofs.Laws.Paths.{Named, slot-named, slot-unnamed, child-found, child-in-tree, home-in-tree, path-named, path-home, home-found}
 use Rattle.layout.proofs.Laws.Changed.{OneSlot, blocks-stay, size-stays}
 use Rattle.layout.proofs.Laws.Empties.{Empty}
-use Rattle.layout.proofs.Laws.Others.{other-bytes, other-type, other-field, other-name, other-blocks, other-content, test-slot, reached-entry, reached-file}
+use Rattle.layout.proofs.Laws.Others.{other-bytes, other-type, other-field, other-name, test-slot, reached-entry, reached-file, same-own, same-second}
 use Rattle.layout.specs.Claims.{Reached, Untouched}
+use Rattle.layout.proofs.Laws.Owners.{blocksAt}
 
 entry-kept : (s s′ path : List ℕ) (type : ℕ → Bool) → pathSlot type s′ path ≡ pathSlot type s path → home s′ path ≡ home s path → directory s′ (home s path) ≡ directory s (home s path)
     → entryOf type s′ path ≡ entryOf type s path
@@ -219,19 +219,17 @@ module _ (s s′ : List ℕ) (S : Sound s) (b₀ j : ℕ) (i₀ : In (b₀, suc 
 
       -- THE FILES OF ALL PATHS STAY
       pub newcomer-untouched :
-          ((a : ℕ) → Entry s a → a ≢ e → (x : ℕ) → x < heldAt s a → next s′ (nth (next s) x (firstBlock s a)) ≡ next s (nth (next s) x (firstBlock s a)))
-          → ((a : ℕ) → Entry s a → a ≢ e → isFile (typeOf s a) ≡ true → (x : ℕ) → x < heldAt s a → block s′ (nth (next s) x (firstBlock s a)) ≡ block s (nth (next s) x (firstBlock s a)))
+          ((a : ℕ) → Owner s a → a ≢ e → a ≢ e + 28 → ((d : ℕ × ℕ) → In d (dirs s) → a ≢ 512 * d .0) → (q : ℕ) → In q (blocksAt s a) → next s′ q ≡ next s q)
+          → ((a : ℕ) → Owner s a → a ≢ e → a ≢ e + 28 → ((d : ℕ × ℕ) → In d (dirs s) → a ≢ 512 * d .0) → (q : ℕ) → In q (blocksAt s a) → block s′ q ≡ block s q)
           → (other : List ℕ) → Untouched s s′ other
       newcomer-untouched values stuff other =
           record {
             slot = after-slot other;
             entry = entry-stays;
             bytes = λ r. other-bytes s s′ S d₀ i₀ k k₁ k₂ O (entryOf isFile s other) (reached-entry s S other r) (away r);
-            blocks = λ r. let E = reached-entry s S other r in
-                other-blocks s s′ S d₀ i₀ k k₁ k₂ O (entryOf isFile s other) E (away r) (reached-file s other r .0) (values (entryOf isFile s other) E (away r));
-            contents = λ r. let E = reached-entry s S other r in
-                other-content s s′ S d₀ i₀ k k₁ k₂ O (entryOf isFile s other) E (away r) (reached-file s other r .0) (values (entryOf isFile s other) E (away r))
-                (stuff (entryOf isFile s other) E (away r) (reached-file s other r .0));
+            blocks = λ r. same-own s s′ S d₀ i₀ k k₁ k₂ O values stuff other r (away r) .blocks;
+            contents = λ r. same-own s s′ S d₀ i₀ k k₁ k₂ O values stuff other r (away r) .contents;
+            second = λ r. same-second s s′ S d₀ i₀ k k₁ k₂ O values stuff other r (away r);
           }
         where
           away : Reached s other → entryOf isFile s other ≢ e

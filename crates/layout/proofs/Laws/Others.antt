@@ -1,8 +1,8 @@
 -- What a change of one entry of a file leaves: the tree, the bytes of every other entry, the blocks and content of every other file, where every path
 -- leads that does not name it.
-use Prim.Native.Nat.{ℕ, zero, suc, _+_, _-_, _*_, _/_, _≤_, _<_}
+use Prim.Native.Nat.{ℕ, zero, suc, _+_, _-_, _*_, _/_, _%_, _≤_, _<_}
 use mathlib.Core.Path.{_≡_, refl, sym, ap, _∙_, subst}
-use mathlib.Core.Bool.{Bool, true, false, _&&_, cond}
+use mathlib.Core.Bool.{Bool, true, false, _&&_, cond, or-true}
 use mathlib.Core.List.{List, [], _∷_}
 use mathlib.Core.Logic.{_⊎_, inl, inr, ⊎-elim, _≢_}
 use native.Mathlib.Omega.{arith}
@@ -15,8 +15,8 @@ use Rattle.layout.specs.Lists.{same, joined}
 use Rattle.layout.specs.Bytes.{be32, part, block}
 use Rattle.layout.specs.Geometry.{blockCount, rootBlock}
 use Rattle.layout.specs.Table.{next}
-use Rattle.layout.specs.Directory.{slotAt, slots, typeOf, firstBlock, sizeOf, blocksOf, isFile, isDirectory, nameOf, slotOf, directory, rootOf, dirs, fileBlocks, content}
-use Rattle.layout.specs.Looks.{lookInPlace, extentOf, lookupRefusal, readRefusal, read, lookup}
+use Rattle.layout.specs.Directory.{slotAt, slots, typeOf, firstBlock, sizeOf, blocksOf, attributeBlock, attributeSize, isFile, isDirectory, nameOf, slotOf, directory, rootOf, dirs, fileBlocks, content, attributeBlocks, attributes}
+use Rattle.layout.specs.Looks.{lookInPlace, extentOf, lookupRefusal, readRefusal, read, lookup, readAttributes}
 use Rattle.layout.specs.Check.{check}
 use Rattle.layout.proofs.Laws.Bytes.{be32-part}
 use Rattle.layout.proofs.Laws.Looks.{look-content, lookup-given, lookup-path, short-given}
@@ -25,15 +25,67 @@ use Rattle.layout.proofs.Laws.Tests.{and-join, true-not-false, lt-or-ge
 use Rattle.layout.proofs.Laws.Lists.{In, joined-same}
 use Rattle.layout.proofs.Laws.Joins.{select-agree}
 use Rattle.layout.proofs.Laws.Names.{same-refl}
-use Rattle.layout.proofs.Laws.Chains.{nth, chain-agree}
+use Rattle.layout.proofs.Laws.Chains.{nth, chain-agree, chain-in}
 use Rattle.layout.proofs.Laws.Frames.{same-part}
 use Rattle.layout.proofs.Laws.Trees.{sizeAt, root-in, same-slot-place}
-use Rattle.layout.proofs.Laws.Sound.{Sound, Entry, heldAt}
+use Rattle.layout.proofs.Laws.Sound.{Sound, Entry, heldAt, Owner, own-held, second-held, second-first}
 use Rattle.layout.proofs.Laws.Slots.{in-slots, slot-entry, entry-high}
-use Rattle.layout.proofs.Laws.Owners.{file-holds, file-at}
+use Rattle.layout.proofs.Laws.Owners.{blocksAt, file-blocks, second-blocks, file-no-self, second-no-self, second}
 use Rattle.layout.proofs.Laws.Paths.{slot-named, child-in-tree, home-in-tree, path-named, path-home}
 use Rattle.layout.proofs.Laws.Changed.{OneSlot, type-stays, field-stays, name-stays, blocks-stay}
-use Rattle.layout.specs.Claims.{Reached, Untouched}
+use Rattle.layout.specs.Claims.{Reached, SameAttributes, Untouched}
+
+-- THE CHAIN OF AN OWNER that stays, and its bytes
+module _ (s s′ : List ℕ) (a : ℕ) (size : heldAt s′ a ≡ heldAt s a) (first : firstBlock s′ a ≡ firstBlock s a) (values : (q : ℕ) → In q (blocksAt s a) → next s′ q ≡ next s q) where
+  pub owner-blocks : blocksAt s′ a ≡ blocksAt s a
+  owner-blocks =
+      rw (size, first) (chain-agree (next s) (next s′) (firstBlock s a) (heldAt s a)
+      (λ y h. values (nth (next s) y (firstBlock s a)) (chain-in (next s) (firstBlock s a) (heldAt s a) (nth (next s) y (firstBlock s a)) y h refl)))
+
+  pub owner-bytes : ((q : ℕ) → In q (blocksAt s a) → block s′ q ≡ block s q) → joined (block s′) (blocksAt s′ a) ≡ joined (block s) (blocksAt s a)
+  owner-bytes stuff = rw owner-blocks (joined-same (block s) (block s′) (blocksAt s a) stuff)
+
+-- A FILE that stays: its own chain and content; its attributes
+pub record SameFile (s s′ : List ℕ) (e : ℕ) : Type 0 where
+  pub blocks : fileBlocks s′ e ≡ fileBlocks s e
+  pub contents : content s′ e ≡ content s e
+
+module _ (s s′ : List ℕ) (e : ℕ) (lined : e % 128 ≡ 0) (file : isFile (typeOf s e) ≡ true) (type : typeOf s′ e ≡ typeOf s e) where
+  own-is : (t : List ℕ) → typeOf t e ≡ typeOf s e → blocksAt t e ≡ fileBlocks t e
+  unfolding fileBlocks
+  own-is t q = rw (own-held t e lined, q, file, or-true (eqb (typeOf s e) 1))
+
+  second-is : (t : List ℕ) → typeOf t e ≡ typeOf s e → blocksAt t (e + 28) ≡ attributeBlocks t e
+  unfolding attributeBlocks
+  second-is t q = rw (second-held t e lined, second-first t e, q, file)
+
+  module _ (first : firstBlock s′ e ≡ firstBlock s e) (count : blocksOf s′ e ≡ blocksOf s e) (size : sizeOf s′ e ≡ sizeOf s e)
+      (values : (q : ℕ) → In q (fileBlocks s e) → next s′ q ≡ next s q) (stuff : (q : ℕ) → In q (fileBlocks s e) → block s′ q ≡ block s q)
+    where
+      held-is : heldAt s′ e ≡ heldAt s e
+      held-is = rw (own-held s′ e lined, own-held s e lined, type, count)
+
+      blocks-is : fileBlocks s′ e ≡ fileBlocks s e
+      blocks-is = sym (own-is s′ type) ∙ owner-blocks s s′ e held-is first (λ q i. values q (rw (own-is s refl) at i)) ∙ own-is s refl
+
+      pub same-file : SameFile s s′ e
+      unfolding content
+      same-file =
+          record { blocks = blocks-is; contents = rw (size, blocks-is) (ap (take (sizeOf s e)) (joined-same (block s) (block s′) (fileBlocks s e) stuff)) }
+
+  module _ (first : attributeBlock s′ e ≡ attributeBlock s e) (count : attributeSize s′ e ≡ attributeSize s e)
+      (values : (q : ℕ) → In q (attributeBlocks s e) → next s′ q ≡ next s q) (stuff : (q : ℕ) → In q (attributeBlocks s e) → block s′ q ≡ block s q)
+    where
+      held-second-is : heldAt s′ (e + 28) ≡ heldAt s (e + 28)
+      held-second-is = rw (second-held s′ e lined, second-held s e lined, type, count)
+
+      second-blocks-is : attributeBlocks s′ e ≡ attributeBlocks s e
+      second-blocks-is =
+          sym (second-is s′ type) ∙ owner-blocks s s′ (e + 28) held-second-is (second-first s′ e ∙ first ∙ sym (second-first s e)) (λ q i. values q (rw (second-is s refl) at i)) ∙ second-is s refl
+
+      pub same-attributes : SameAttributes s s′ e
+      unfolding attributes
+      same-attributes = record { size = count; blocks = second-blocks-is; bytes = rw second-blocks-is (joined-same (block s) (block s′) (attributeBlocks s e) stuff) }
 
 module _ (s s′ : List ℕ) (S : Sound s) (d₀ : ℕ × ℕ) (i₀ : In d₀ (dirs s)) (k : ℕ) (k₁ : 1 ≤ k) (k₂ : k < 4 * sizeAt s (d₀ .0) - 1) where
   abbrev e : ℕ
@@ -57,22 +109,13 @@ module _ (s s′ : List ℕ) (S : Sound s) (d₀ : ℕ × ℕ) (i₀ : In d₀ (
       pub other-name : nameOf s′ a ≡ nameOf s a
       other-name = name-stays s s′ S (dirs s) all d₀ i₀ k k₁ k₂ O a E ne
 
-      -- a file, whose chain and data stay
-      module _ (file : isFile (typeOf s a) ≡ true)
-          (values : (x : ℕ) → x < heldAt s a → next s′ (nth (next s) x (firstBlock s a)) ≡ next s (nth (next s) x (firstBlock s a)))
-        where
-          pub other-blocks : fileBlocks s′ a ≡ fileBlocks s a
-          unfolding fileBlocks
-          other-blocks =
-              rw (other-field 4 (omega arith), other-field 12 (omega arith))
-              (chain-agree (next s) (next s′) (firstBlock s a) (blocksOf s a) (λ y h. values y (omega (arith, file-holds s S a E file))))
+      -- a file: its own chain, and its attributes
+      module _ (file : isFile (typeOf s a) ≡ true) where
+        pub other-file : ((q : ℕ) → In q (fileBlocks s a) → next s′ q ≡ next s q) → ((q : ℕ) → In q (fileBlocks s a) → block s′ q ≡ block s q) → SameFile s s′ a
+        other-file = same-file s s′ a (E .aligned) file other-type (other-field 4 (omega arith)) (other-field 12 (omega arith)) (other-field 8 (omega arith))
 
-          pub other-content : ((x : ℕ) → x < heldAt s a → block s′ (nth (next s) x (firstBlock s a)) ≡ block s (nth (next s) x (firstBlock s a))) → content s′ a ≡ content s a
-          unfolding content
-          other-content stuff =
-              let w : joined (block s′) (fileBlocks s a) ≡ joined (block s) (fileBlocks s a) =
-              joined-same (block s) (block s′) (fileBlocks s a) (λ q i. let r = file-at s S a E file q i in rw (r .2) (stuff (r .0) (r .1))) in
-              rw (other-field 8 (omega arith), other-blocks) (ap (take (sizeOf s a)) w)
+        pub other-attributes : ((q : ℕ) → In q (attributeBlocks s a) → next s′ q ≡ next s q) → ((q : ℕ) → In q (attributeBlocks s a) → block s′ q ≡ block s q) → SameAttributes s s′ a
+        other-attributes = same-attributes s s′ a (E .aligned) file other-type (other-field 32 (omega arith)) (other-field 36 (omega arith))
 
     -- a slot of a name, where the test at e is the same before and after
     pub test-slot : (type : ℕ → Bool) (name : List ℕ) (d : ℕ × ℕ) (di : In d (dirs s))
@@ -178,10 +221,48 @@ module _ (s s′ : List ℕ) (S : Sound s) (d₀ : ℕ × ℕ) (i₀ : In d₀ (
   abbrev e₀ : ℕ
   e₀ = slotAt (directory s (d₀ .0)) k
 
-  -- the table's entries and the bytes of every other entry's blocks stay; the entry is no file of the other path's name, before or after
+  -- the two chains of the file of another path
+  module _ (O : OneSlot s (dirs s) s′ e₀)
+      (values : (a : ℕ) → Owner s a → a ≢ e₀ → a ≢ e₀ + 28 → ((d : ℕ × ℕ) → In d (dirs s) → a ≢ 512 * d .0) → (q : ℕ) → In q (blocksAt s a) → next s′ q ≡ next s q)
+      (stuff : (a : ℕ) → Owner s a → a ≢ e₀ → a ≢ e₀ + 28 → ((d : ℕ × ℕ) → In d (dirs s) → a ≢ 512 * d .0) → (q : ℕ) → In q (blocksAt s a) → block s′ q ≡ block s q)
+      (other : List ℕ) (r : Reached s other) (away₀ : entryOf isFile s other ≢ e₀)
+    where
+      abbrev a : ℕ
+      a = entryOf isFile s other
+
+      E : Entry s a
+      E = reached-entry s S other r
+
+      file : isFile (typeOf s a) ≡ true
+      file = reached-file s other r .0
+
+      lined : e₀ % 128 ≡ 0
+      lined = slot-entry s S d₀ i₀ k (omega arith) .aligned
+
+      ne₁ : a ≢ e₀ + 28
+      ne₁ q = let h = E .aligned in let g = lined in omega arith
+
+      ne₂ : a + 28 ≢ e₀
+      ne₂ q = let h = E .aligned in let g = lined in omega arith
+
+      ne₃ : a + 28 ≢ e₀ + 28
+      ne₃ q = away₀ (omega arith)
+
+      pub same-own : SameFile s s′ a
+      same-own =
+          other-file s s′ S d₀ i₀ k k₁ k₂ O a E away₀ file (λ q i. values a (inl E) away₀ ne₁ (file-no-self s S a E file) q (rw (file-blocks s S a E file) i))
+          (λ q i. stuff a (inl E) away₀ ne₁ (file-no-self s S a E file) q (rw (file-blocks s S a E file) i))
+
+      pub same-second : SameAttributes s s′ a
+      same-second =
+          other-attributes s s′ S d₀ i₀ k k₁ k₂ O a E away₀ file
+          (λ q i. values (a + 28) (second s S a E file) ne₂ ne₃ (second-no-self s S a E file) q (rw (second-blocks s S a E file) i))
+          (λ q i. stuff (a + 28) (second s S a E file) ne₂ ne₃ (second-no-self s S a E file) q (rw (second-blocks s S a E file) i))
+
+  -- the table's entries and the bytes of every other owner's blocks stay; the entry is no file of the other path's name, before or after
   module _ (O : OneSlot s (dirs s) s′ e₀) (was : isDirectory (typeOf s e₀) ≡ false) (now : isDirectory (typeOf s′ e₀) ≡ false)
-      (values : (a : ℕ) → Entry s a → a ≢ e₀ → (x : ℕ) → x < heldAt s a → next s′ (nth (next s) x (firstBlock s a)) ≡ next s (nth (next s) x (firstBlock s a)))
-      (stuff : (a : ℕ) → Entry s a → a ≢ e₀ → isFile (typeOf s a) ≡ true → (x : ℕ) → x < heldAt s a → block s′ (nth (next s) x (firstBlock s a)) ≡ block s (nth (next s) x (firstBlock s a)))
+      (values : (a : ℕ) → Owner s a → a ≢ e₀ → a ≢ e₀ + 28 → ((d : ℕ × ℕ) → In d (dirs s) → a ≢ 512 * d .0) → (q : ℕ) → In q (blocksAt s a) → next s′ q ≡ next s q)
+      (stuff : (a : ℕ) → Owner s a → a ≢ e₀ → a ≢ e₀ + 28 → ((d : ℕ × ℕ) → In d (dirs s) → a ≢ 512 * d .0) → (q : ℕ) → In q (blocksAt s a) → block s′ q ≡ block s q)
       (other : List ℕ)
       (before : (home s other ≢ d₀ .0) ⊎ ((isFile (typeOf s e₀) && same (nameOf s e₀) (lastPart (parts other))) ≡ false))
       (after : (home s other ≢ d₀ .0) ⊎ ((isFile (typeOf s′ e₀) && same (nameOf s′ e₀) (lastPart (parts other))) ≡ false))
@@ -206,11 +287,9 @@ module _ (s s′ : List ℕ) (S : Sound s) (d₀ : ℕ × ℕ) (i₀ : In d₀ (
             slot = λ h. path-same s s′ S d₀ i₀ k k₁ k₂ O was now other h isFile aside;
             entry = λ r. entry-same s s′ S d₀ i₀ k k₁ k₂ O was now other (r .0) isFile aside (r .1);
             bytes = λ r. other-bytes s s′ S d₀ i₀ k k₁ k₂ O (entryOf isFile s other) (reached-entry s S other r) (away r);
-            blocks = λ r. let E = reached-entry s S other r in
-                other-blocks s s′ S d₀ i₀ k k₁ k₂ O (entryOf isFile s other) E (away r) (reached-file s other r .0) (values (entryOf isFile s other) E (away r));
-            contents = λ r. let E = reached-entry s S other r in
-                other-content s s′ S d₀ i₀ k k₁ k₂ O (entryOf isFile s other) E (away r) (reached-file s other r .0) (values (entryOf isFile s other) E (away r))
-                (stuff (entryOf isFile s other) E (away r) (reached-file s other r .0));
+            blocks = λ r. same-own O values stuff other r (away r) .blocks;
+            contents = λ r. same-own O values stuff other r (away r) .contents;
+            second = λ r. same-second O values stuff other r (away r);
           }
 
 -- read backwards
@@ -222,6 +301,7 @@ untouched-back s s′ other U =
       bytes = λ r. rw (U .entry (back r)) (sym (U .bytes (back r)));
       blocks = λ r. rw (U .entry (back r)) (sym (U .blocks (back r)));
       contents = λ r. rw (U .entry (back r)) (sym (U .contents (back r)));
+      second = λ r. let A = U .second (back r) in rw (U .entry (back r)) (record { size = sym (A .size); blocks = sym (A .blocks); bytes = sym (A .bytes) });
     }
   where
     back : Reached s other → Reached s′ other
@@ -276,3 +356,14 @@ module _ (s s′ other : List ℕ) (ok : check s ≡ 0) (ok′ : check s′ ≡ 
           let ne : Reached s other = (short-given s other (lookup-path s other q), lookup-given s other q) in
           let e : blocksOf s′ (entryOf isFile s′ other) ≡ blocksOf s (entryOf isFile s other) = rw (U .entry ne) (field ne 12 (omega arith)) in
           rw (refusal-stays, q, e, le-ltb i (blocksOf s (entryOf isFile s other)) h)
+
+  -- and of its attributes
+  pub attributes-stay : (buffer : List ℕ) → readAttributes s′ other buffer ≡ readAttributes s other buffer
+  unfolding readAttributes lookupRefusal fileRefusal
+  attributes-stay buffer = go (pathOk other) refl (shallow (leading (parts other))) refl (ℕ-discrete (pathSlot isFile s other) 0)
+    where
+      go : (g : Bool) → pathOk other ≡ g → (w : Bool) → shallow (leading (parts other)) ≡ w → Dec (pathSlot isFile s other ≡ 0) → readAttributes s′ other buffer ≡ readAttributes s other buffer
+      go false q w v z = rw (ok, ok′, q)
+      go true q false v z = rw (ok, ok′, q, v)
+      go true q true v (no ne) = let same = U .second (v, ne) in rw (ok, ok′, U .slot v, U .entry (v, ne), same .size, same .bytes)
+      go true q true v (yes z) = rw (ok, ok′, q, v, U .slot v, eq-eqb (pathSlot isFile s other) 0 z)

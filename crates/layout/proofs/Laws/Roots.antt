@@ -13,8 +13,8 @@ use Rattle.layout.proofs.Laws.Lists.{In}
 use Rattle.layout.proofs.Laws.Tables.{Table, table-wider}
 use Rattle.layout.proofs.Laws.Visits.{Local, Tree, blocksIn, dirBlocks, below-is, directoryOk-distinct}
 use Rattle.layout.proofs.Laws.Trees.{Directory, directoryOk-join, directory-in}
-use Rattle.layout.proofs.Laws.Sound.{Entry, heldAt}
-use Rattle.layout.proofs.Laws.Empties.{Empty, empty-leaf, empty-slots, empty-held}
+use Rattle.layout.proofs.Laws.Sound.{heldAt, Owner}
+use Rattle.layout.proofs.Laws.Empties.{Empty, empty-leaf, empty-slots, empty-owner}
 
 module _ (s : List ℕ) (n r : ℕ) (at : rootOf s ≡ r) (D : Directory s n r r) (M : Empty s r) (least : minBlocks ≤ n) where
   pub root-alone : dirs s ≡ (r, maxLevels) ∷ []
@@ -40,12 +40,19 @@ module _ (s : List ℕ) (n r : ℕ) (at : rootOf s ≡ r) (D : Directory s n r r
       }
 
   -- the self entry alone owns blocks
-  pub root-table : Table n (λ a. a ≡ 512 * r) (next s) (firstBlock s) (heldAt s) → Table n (Entry s) (next s) (firstBlock s) (heldAt s)
+  pub root-table : Table n (λ a. a ≡ 512 * r) (next s) (firstBlock s) (heldAt s) → Table n (Owner s) (next s) (firstBlock s) (heldAt s)
   root-table T =
-      table-wider n (λ a. a ≡ 512 * r) (Entry s) (next s) (firstBlock s) (heldAt s) T
-      (λ a q. record { within-tree = let z : a / 512 ≡ r = omega arith in rw (root-blocks, z) (directory-in s r 0 (M .least)); aligned = omega arith })
-      (λ a E. other a E (ℕ-discrete a (512 * r)))
+      table-wider n (λ a. a ≡ 512 * r) (Owner s) (next s) (firstBlock s) (heldAt s) T
+      (λ a q. inl (record { within-tree = let z : a / 512 ≡ r = omega arith in rw (root-blocks, z) (directory-in s r 0 (M .least)); aligned = omega arith }))
+      (λ a A. other a A (ℕ-discrete a (512 * r)))
     where
-      other : (a : ℕ) → Entry s a → Dec (a ≡ 512 * r) → (a ≡ 512 * r) ⊎ (heldAt s a ≡ 0)
-      other a E (yes q) = inl q
-      other a E (no ne) = inr (empty-held s r M a (rw root-blocks at (E .within-tree)) (E .aligned) ne)
+      inside : (a : ℕ) → Owner s a → In (a / 512) (directory s r)
+      inside a (inl E) = rw root-blocks at (E .within-tree)
+      inside a (inr F) =
+          let h = F .place in
+          let z : (a - 28) / 512 ≡ a / 512 = omega arith in
+          rw (root-blocks, z) at (F .entry .within-tree)
+
+      other : (a : ℕ) → Owner s a → Dec (a ≡ 512 * r) → (a ≡ 512 * r) ⊎ (heldAt s a ≡ 0)
+      other a A (yes q) = inl q
+      other a A (no ne) = inr (empty-owner s r M (dirs s) a A (inside a A) ne)

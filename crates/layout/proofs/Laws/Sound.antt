@@ -1,6 +1,6 @@
 -- A SOUND IMAGE, as plain facts; `check s ≡ 0` gives them (sound), and they give it (check-zero).
 use Prim.Native.Nat.{ℕ, zero, suc, _+_, _-_, _*_, _/_, _%_, _≤_, _<_}
-use mathlib.Core.Bool.{Bool, true, false, _&&_, _||_, cond, or-true, and-assoc, and-true}
+use mathlib.Core.Bool.{Bool, true, false, _&&_, _||_, cond, or-true, and-assoc}
 use mathlib.Core.List.{List, [], _∷_, _++_, append-nil, append-assoc}
 use mathlib.Core.Logic.{_⊎_, inl, inr, ⊎-elim, _≢_}
 use mathlib.Core.Path.{_≡_, refl, sym, ap, _∙_}
@@ -14,7 +14,7 @@ use Rattle.layout.specs.Lists.{interval, every, has, distinct, select, k
 use Rattle.layout.specs.Bytes.{be32}
 use Rattle.layout.specs.Geometry.{blockCount, tableBlocks}
 use Rattle.layout.specs.Table.{next, chain, chainOk, occupied}
-use Rattle.layout.specs.Directory.{slotAt, slots, typeOf, firstBlock, blocksOf, isFree, isFile, isDirectory, files, directory, dirs}
+use Rattle.layout.specs.Directory.{slotAt, slots, typeOf, firstBlock, blocksOf, isFree, isFile, isDirectory, files, directory, dirs, attributeBlock, attributeSize}
 use Rattle.layout.specs.Check.{stage1, stage2, stage3, fileOk, directoryEntryOk, slotOk, fileChains, chains, allChains, owned, tableOk, stage6, stage7, visitRoot, faultOf, check}
 use Rattle.layout.proofs.Laws.Chains.{nth, in-chain, chain-in, chainOk-split, chainOk-join, chain-distinct}
 use Rattle.layout.proofs.Laws.Lists.{In, every-same, every-in, in-every, every-interval, interval-every, has-eqb-in, in-has-eqb, joined-same}
@@ -24,16 +24,39 @@ use Rattle.layout.proofs.Laws.Tests.{and-split, and-join, or-split, req
 use Rattle.layout.proofs.Laws.Visits.{Local, Tree, dirBlocks, blocksIn, tree, visit-tree}
 use Rattle.layout.proofs.Laws.Trees.{Directory, in-tree, length-directory, slotAt-zero}
 
--- WHO OWNS BLOCKS: an entry at e, by its type. A self entry owns the chain of its directory, a file its own; a free slot, an end slot and the entry of a
--- child directory own none (the child's self entry does).
+-- WHO OWNS BLOCKS. An owner is named by the place four bytes before the number of its first block: e for the chain of the entry at e, e + 28 for its
+-- attributes. A self entry owns the chain of its directory, a file its own and its attributes'; a free slot, an end slot and the entry of a child
+-- directory own none (the child's self entry does).
 abbrev pub owns : ℕ → Bool
 owns type = eqb type 1 || isFile type
 
 abbrev pub held : ℕ → ℕ → ℕ
 held type b = cond (owns type) b 0
 
-abbrev pub heldAt : List ℕ → ℕ → ℕ
-heldAt s e = held (typeOf s e) (blocksOf s e)
+abbrev pub heldSecond : ℕ → ℕ → ℕ
+heldSecond type b = cond (isFile type) b 0
+
+heldBy : List ℕ → ℕ → ℕ → ℕ
+heldBy s a zero = held (typeOf s a) (blocksOf s a)
+heldBy s a (suc r) = heldSecond (typeOf s (a - 28)) (be32 s (a + 8))
+
+pub heldAt : List ℕ → ℕ → ℕ
+heldAt s a = heldBy s a (a % 128)
+
+pub own-held : (s : List ℕ) (e : ℕ) → e % 128 ≡ 0 → heldAt s e ≡ held (typeOf s e) (blocksOf s e)
+unfolding heldAt heldBy
+own-held s e h = rw h
+
+pub second-held : (s : List ℕ) (e : ℕ) → e % 128 ≡ 0 → heldAt s (e + 28) ≡ heldSecond (typeOf s e) (attributeSize s e)
+unfolding heldAt heldBy
+second-held s e h =
+    let r : (e + 28) % 128 ≡ suc 27 = omega arith in
+    let p : e + 28 - 28 ≡ e = omega arith in
+    let q : e + 28 + 8 ≡ e + 36 = omega arith in
+    rw (r, p, q)
+
+pub second-first : (s : List ℕ) (e : ℕ) → firstBlock s (e + 28) ≡ attributeBlock s e
+second-first s e = let q : e + 28 + 4 ≡ e + 32 = omega arith in rw q
 
 -- the blocks of some directories; e is where a slot begins, in a block of one of them, or of a directory of the tree
 abbrev pub blocksOfAll : List ℕ → List (ℕ × ℕ) → List ℕ
@@ -46,6 +69,27 @@ pub record EntryIn (s : List ℕ) (ks : List (ℕ × ℕ)) (e : ℕ) : Type 0 wh
 abbrev pub Entry : List ℕ → ℕ → Type 0
 Entry s = EntryIn s (dirs s)
 
+pub record SecondIn (s : List ℕ) (ks : List (ℕ × ℕ)) (a : ℕ) : Type 0 where
+  pub entry : EntryIn s ks (a - 28)
+  pub place : a % 128 ≡ 28
+
+abbrev pub OwnerIn : List ℕ → List (ℕ × ℕ) → ℕ → Type 0
+OwnerIn s ks a = EntryIn s ks a ⊎ SecondIn s ks a
+
+abbrev pub Owner : List ℕ → ℕ → Type 0
+Owner s = OwnerIn s (dirs s)
+
+-- where entries go, owners go
+pub owner-map : (s s′ : List ℕ) (ks ks′ : List (ℕ × ℕ)) → ((e : ℕ) → EntryIn s ks e → EntryIn s′ ks′ e) → (a : ℕ) → OwnerIn s ks a → OwnerIn s′ ks′ a
+owner-map s s′ ks ks′ f a (inl E) = inl (f a E)
+owner-map s s′ ks ks′ f a (inr F) = inr (record { entry = f (a - 28) (F .entry); place = F .place })
+
+-- the second owner of an entry
+pub second-owner : (s : List ℕ) (ks : List (ℕ × ℕ)) (e : ℕ) → EntryIn s ks e → OwnerIn s ks (e + 28)
+second-owner s ks e E =
+    let p : e + 28 - 28 ≡ e = omega arith in
+    inr (record { entry = rw p E; place = omega (arith, E .aligned) })
+
 pub record Facts (s : List ℕ) (n : ℕ) : Type 0 where
   pub whole : length s ≡ 512 * n
   pub least : minBlocks ≤ n
@@ -53,7 +97,7 @@ pub record Facts (s : List ℕ) (n : ℕ) : Type 0 where
   pub signed : stage2 s ≡ true
   pub numbered : stage3 s ≡ true
   pub tree : Tree s n
-  pub table : Table n (Entry s) (next s) (firstBlock s) (heldAt s)
+  pub table : Table n (Owner s) (next s) (firstBlock s) (heldAt s)
   pub used-is : be32 s 20 ≡ occupied (next s) n
   pub free-is : be32 s 24 ≡ n - occupied (next s) n
 
@@ -156,9 +200,12 @@ every-joined {A} {B} p g (x ∷ xs) = both (g x) ∙ ap (λ (t : Bool). every p 
     both [] = refl
     both (y ∷ ys) = ap (λ (t : Bool). p y && t) (both ys) ∙ sym (and-assoc (p y) (every p ys) (every p (joined g xs)))
 
--- the chains of an entry, by its type
+-- the chains of an entry, by its type: a file's two, a directory's own; and the two owners of an entry
 unfoldable pub entryChains : List ℕ → ℕ → List (ℕ × ℕ)
-entryChains s e = cond (owns (typeOf s e)) (fileChains s e) []
+entryChains s e = cond (isFile (typeOf s e)) (fileChains s e) (cond (eqb (typeOf s e) 1) ((firstBlock s e, blocksOf s e) ∷ []) [])
+
+two : ℕ → List ℕ
+two e = e ∷ (e + 28) ∷ []
 
 -- a slot of stage 5
 pub slotOk-split : (s : List ℕ) (e : ℕ) → slotOk s e ≡ true
@@ -218,25 +265,36 @@ module _ (s : List ℕ) (v : ℕ → ℕ) where
   abbrev pub chainOf : ℕ → List ℕ
   chainOf e = chain v (firstBlock s e) (heldAt s e)
 
-  owned-entries : (es : List ℕ) → owned v (joined (entryChains s) es) ≡ joined chainOf es
-  unfolding owned chain fileChains entryChains
-  owned-entries es =
-      join-join (λ c. chain v (c .0) (c .1)) (entryChains s) es
-      ∙ joined-same chainOf (λ e. joined (λ c. chain v (c .0) (c .1)) (entryChains s e)) es (λ e i. one e (owns (typeOf s e)))
-    where
-      one : (e : ℕ) (t : Bool) → joined (λ c. chain v (c .0) (c .1)) (cond t (fileChains s e) []) ≡ chain v (firstBlock s e) (cond t (blocksOf s e) 0)
-      one e true = append-nil (chain v (firstBlock s e) (blocksOf s e))
-      one e false = refl
+  module _ (es : List ℕ) (lined : (e : ℕ) → In e es → e % 128 ≡ 0) where
+    owned-entries : owned v (joined (entryChains s) es) ≡ joined chainOf (joined two es)
+    unfolding owned chain fileChains entryChains two
+    owned-entries =
+        join-join (λ c. chain v (c .0) (c .1)) (entryChains s) es
+        ∙ joined-same (λ e. joined chainOf (two e)) (λ e. joined (λ c. chain v (c .0) (c .1)) (entryChains s e)) es
+        (λ e i. rw (own-held s e (lined e i), second-held s e (lined e i), second-first s e) (one e (isFile (typeOf s e)) (eqb (typeOf s e) 1)))
+        ∙ sym (join-join chainOf two es)
+      where
+        one : (e : ℕ) (f t : Bool) → joined (λ c. chain v (c .0) (c .1)) (cond f (fileChains s e) (cond t ((firstBlock s e, blocksOf s e) ∷ []) []))
+            ≡ chain v (firstBlock s e) (cond (t || f) (blocksOf s e) 0) ++ (chain v (attributeBlock s e) (cond f (attributeSize s e) 0) ++ [])
+        one e true true = refl
+        one e true false = refl
+        one e false true = refl
+        one e false false = refl
 
-  every-entries : (n : ℕ) (es : List ℕ) → every (λ c. chainOk v n (c .0) (c .1)) (joined (entryChains s) es) ≡ every (λ e. chainOk v n (firstBlock s e) (heldAt s e)) es
-  unfolding chainOk fileChains entryChains
-  every-entries n es =
-      every-joined (λ c. chainOk v n (c .0) (c .1)) (entryChains s) es ∙ every-same (λ e. every (λ c. chainOk v n (c .0) (c .1)) (entryChains s e))
-      (λ e. chainOk v n (firstBlock s e) (heldAt s e)) (λ e. one e (owns (typeOf s e))) es
-    where
-      one : (e : ℕ) (t : Bool) → every (λ c. chainOk v n (c .0) (c .1)) (cond t (fileChains s e) []) ≡ chainOk v n (firstBlock s e) (cond t (blocksOf s e) 0)
-      one e true = and-true (chainOk v n (firstBlock s e) (blocksOf s e))
-      one e false = refl
+    every-entries : (n : ℕ) → every (λ c. chainOk v n (c .0) (c .1)) (joined (entryChains s) es) ≡ every (λ a. chainOk v n (firstBlock s a) (heldAt s a)) (joined two es)
+    unfolding chainOk fileChains entryChains two
+    every-entries n =
+        every-joined (λ c. chainOk v n (c .0) (c .1)) (entryChains s) es
+        ∙ every-same (λ e. every (λ c. chainOk v n (c .0) (c .1)) (entryChains s e)) (λ e. every (λ a. chainOk v n (firstBlock s a) (heldAt s a)) (two e)) es
+        (λ e i. rw (own-held s e (lined e i), second-held s e (lined e i), second-first s e) (one e (isFile (typeOf s e)) (eqb (typeOf s e) 1)))
+        ∙ sym (every-joined (λ a. chainOk v n (firstBlock s a) (heldAt s a)) two es)
+      where
+        one : (e : ℕ) (f t : Bool) → every (λ c. chainOk v n (c .0) (c .1)) (cond f (fileChains s e) (cond t ((firstBlock s e, blocksOf s e) ∷ []) []))
+            ≡ chainOk v n (firstBlock s e) (cond (t || f) (blocksOf s e) 0) && (chainOk v n (attributeBlock s e) (cond f (attributeSize s e) 0) && true)
+        one e true true = refl
+        one e true false = refl
+        one e false true = refl
+        one e false false = refl
 
 -- the tests of stage 6 on the chains of a list of entries, and the table's facts
 module _ (n : ℕ) (es : List ℕ) (P : ℕ → Type 0) (in-P : (e : ℕ) → In e es → P e) (P-in : (e : ℕ) → P e → In e es) (v f l : ℕ → ℕ) where
@@ -291,24 +349,95 @@ module _ (n : ℕ) (es : List ℕ) (P : ℕ → Type 0) (in-P : (e : ℕ) → In
             rw (in-has-eqb b (joined blocksOn es) (to-join blocksOn es (r .0) b (P-in (r .0) (r .2)) (chain-in v (f (r .0)) (l (r .0)) b (r .1) (r .3) (r .4))))
             (or-true (eqb (v b) 0))
 
--- the entries of the tree
-entries : List ℕ → List ℕ
-entries s = joined quad (dirBlocks s)
+-- the two owners of different entries differ
+two-distinct : (es : List ℕ) → ((e : ℕ) → In e es → e % 128 ≡ 0) → distinct eqb es ≡ true → distinct eqb (joined two es) ≡ true
+unfolding two
+two-distinct es lined d =
+    join-distinct two es d (λ e i. rw (ne-eqb e (e + 28) (λ q. omega arith))) (λ x y i j ne b p q. let h = lined x i in let g = lined y j in ne (go x y b h g p q))
+  where
+    go : (x y b : ℕ) → x % 128 ≡ 0 → y % 128 ≡ 0 → In b (two x) → In b (two y) → x ≡ y
+    go x y b h g (inl p) (inl q) = omega arith
+    go x y b h g (inl p) (inr (inl q)) = absurd (omega arith)
+    go x y b h g (inr (inl p)) (inl q) = absurd (omega arith)
+    go x y b h g (inr (inl p)) (inr (inl q)) = omega arith
 
-in-entries : (s : List ℕ) (e : ℕ) → In e (entries s) → Entry s e
-unfolding entries
-in-entries s e i = let w = in-quads (dirBlocks s) e i in record { within-tree = w .0; aligned = w .1 }
+-- STAGE 6 IN ANY ORDER: the entries of the directory blocks may be taken in any order of these blocks, as ascending: the test is the same. So code need
+-- not go through the tree again: once its blocks are marked, it goes from marked block to marked block, and through the four slots of each.
+unfoldable pub entryChainsOf : List ℕ → List ℕ → List (ℕ × ℕ)
+entryChainsOf s bs = joined (entryChains s) (joined quad bs)
 
-entries-in : (s : List ℕ) (e : ℕ) → Entry s e → In e (entries s)
-unfolding entries
-entries-in s e E = quads-in (dirBlocks s) e (E .within-tree) (E .aligned)
+module _ (s : List ℕ) (n : ℕ) (T : Tree s n) (least : minBlocks ≤ n) where
+  module _ (bs : List ℕ) (once : distinct eqb bs ≡ true) (sub : (q : ℕ) → In q bs → In q (dirBlocks s)) (all : (q : ℕ) → In q (dirBlocks s) → In q bs) where
+    lined-of : (e : ℕ) → In e (joined quad bs) → e % 128 ≡ 0
+    lined-of e i = in-quads bs e i .1
+
+    entry-of : (e : ℕ) → In e (joined quad bs) → Entry s e
+    entry-of e i = let w = in-quads bs e i in record { within-tree = sub (e / 512) (w .0); aligned = w .1 }
+
+    of-entry : (e : ℕ) → Entry s e → In e (joined quad bs)
+    of-entry e E = quads-in bs e (all (e / 512) (E .within-tree)) (E .aligned)
+
+    in-of : (a : ℕ) → In a (joined two (joined quad bs)) → Owner s a
+    unfolding two
+    in-of a i = let r = of-join two (joined quad bs) a i in go (r .0) (entry-of (r .0) (r .1)) (r .2)
+      where
+        go : (e : ℕ) → Entry s e → In a (two e) → Owner s a
+        go e E (inl q) = inl (rw q E)
+        go e E (inr (inl q)) = rw q (second-owner s (dirs s) e E)
+
+    of-in : (a : ℕ) → Owner s a → In a (joined two (joined quad bs))
+    unfolding two
+    of-in a (inl E) = to-join two (joined quad bs) a a (of-entry a E) (inl refl)
+    of-in a (inr F) = let h = F .place in to-join two (joined quad bs) (a - 28) a (of-entry (a - 28) (F .entry)) (inr (inl (omega arith)))
+
+    ok-table : tableOk (next s) n (entryChainsOf s bs) ≡ true → Table n (Owner s) (next s) (firstBlock s) (heldAt s)
+    unfolding tableOk entryChainsOf
+    ok-table ok =
+        let t = tableBlocks n in
+        let es = joined quad bs in
+        let os = joined two es in
+        let o = owned-entries s (next s) es lined-of in
+        let six = and-split (every (λ x. chainOk (next s) n (x .0) (x .1)) (joined (entryChains s) es)) _ ok in
+        let r = and-split (distinct eqb (owned (next s) (joined (entryChains s) es))) _ (six .1) in
+        let low = and-split (every (λ x. eqb (next s x) 1) (interval 0 (t + 1))) _ (r .1) in
+        to-table n os (Owner s) in-of of-in (next s) (firstBlock s) (heldAt s) (sym (every-entries s (next s) es lined-of n) ∙ six .0) (rw o at (r .0)) (low .0) (rw o at (low .1))
+
+    table-ok : Table n (Owner s) (next s) (firstBlock s) (heldAt s) → tableOk (next s) n (entryChainsOf s bs) ≡ true
+    unfolding tableOk entryChainsOf
+    table-ok U =
+        let es = joined quad bs in
+        let os = joined two es in
+        rw (owned-entries s (next s) es lined-of) (and-join
+        (every-entries s (next s) es lined-of n ∙ from-right n os (Owner s) in-of of-in (next s) (firstBlock s) (heldAt s) U least)
+        (and-join (from-distinct n os (Owner s) in-of of-in (next s) (firstBlock s) (heldAt s) U least (two-distinct es lined-of (quads-distinct bs once)))
+        (and-join (from-low n os (Owner s) in-of of-in (next s) (firstBlock s) (heldAt s) U least)
+        (from-high n os (Owner s) in-of of-in (next s) (firstBlock s) (heldAt s) U least))))
+
+  tree-chains : allChains s ≡ entryChainsOf s (dirBlocks s)
+  tree-chains = all-chains s n T ∙ (unfold entryChainsOf in refl)
+
+  -- by the directory blocks in the order of the tree, as the rule has them
+  ok-tree : tableOk (next s) n (allChains s) ≡ true → Table n (Owner s) (next s) (firstBlock s) (heldAt s)
+  ok-tree ok = ok-table (dirBlocks s) (T .once) (λ q i. i) (λ q i. i) (rw tree-chains at ok)
+
+  tree-ok : Table n (Owner s) (next s) (firstBlock s) (heldAt s) → tableOk (next s) n (allChains s) ≡ true
+  tree-ok U = rw tree-chains (table-ok (dirBlocks s) (T .once) (λ q i. i) (λ q i. i) U)
+
+  pub any-order : (bs : List ℕ) → distinct eqb bs ≡ true → ((q : ℕ) → In q bs → In q (dirBlocks s)) → ((q : ℕ) → In q (dirBlocks s) → In q bs)
+      → tableOk (next s) n (allChains s) ≡ tableOk (next s) n (entryChainsOf s bs)
+  any-order bs once sub all =
+      both (tableOk (next s) n (allChains s)) (tableOk (next s) n (entryChainsOf s bs)) (λ a. table-ok bs once sub all (ok-tree a)) (λ b. tree-ok (ok-table bs once sub all b))
+    where
+      both : (a b : Bool) → (a ≡ true → b ≡ true) → (b ≡ true → a ≡ true) → a ≡ b
+      both true b f g = sym (f refl)
+      both false true f g = g refl
+      both false false f g = refl
 
 -- CHECK TO FACTS
 pub sound : (s : List ℕ) → check s ≡ 0 → Sound s
-unfolding check stage1 stage6 stage7 tableOk entries
+unfolding check stage1 stage6 stage7
 sound s ok =
     let n = blockCount s in
-    let t = tableBlocks n in
     let a = require-zero (stage1 s) 0 _ ok in
     let b = require-zero (stage2 s) 1 _ (a .1) in
     let c = require-zero (stage3 s) 2 _ (b .1) in
@@ -318,11 +447,6 @@ sound s ok =
     let one = and-split (eqb (length s) (512 * n)) _ (a .0) in
     let size = within-split minBlocks maxBlocks n (one .1) in
     let T = tree s (d .0) in
-    let q = all-chains s n T in
-    let o : owned (next s) (allChains s) ≡ joined (chainOf s (next s)) (entries s) = ap (owned (next s)) q ∙ owned-entries s (next s) (entries s) in
-    let six = and-split (every (λ x. chainOk (next s) n (x .0) (x .1)) (allChains s)) _ (f .0) in
-    let r = and-split (distinct eqb (owned (next s) (allChains s))) _ (six .1) in
-    let low = and-split (every (λ x. eqb (next s x) 1) (interval 0 (t + 1))) _ (r .1) in
     let seven = and-split (eqb (be32 s 20) (occupied (next s) n)) _ (g .0) in
     record {
       whole = eqb-true _ _ (one .0);
@@ -331,76 +455,17 @@ sound s ok =
       signed = b .0;
       numbered = c .0;
       tree = T;
-      table = to-table n (entries s) (Entry s) (in-entries s) (entries-in s) (next s) (firstBlock s) (heldAt s)
-          (sym (every-entries s (next s) n (entries s)) ∙ ap (every (λ x. chainOk (next s) n (x .0) (x .1))) (sym q) ∙ six .0)
-          (rw o at (r .0)) (low .0) (rw o at (low .1));
+      table = ok-tree s n T (size .0) (f .0);
       used-is = eqb-true _ _ (seven .0);
       free-is = eqb-true _ _ (seven .1);
     }
 
 -- FACTS TO CHECK
 pub check-zero : (s : List ℕ) → Sound s → check s ≡ 0
-unfolding check stage1 stage6 stage7 tableOk entries
+unfolding check stage1 stage6 stage7
 check-zero s S =
     let n = blockCount s in
-    let T = S .tree in
-    let q = all-chains s n T in
-    let o : owned (next s) (allChains s) ≡ joined (chainOf s (next s)) (entries s) = ap (owned (next s)) q ∙ owned-entries s (next s) (entries s) in
     let one : stage1 s ≡ true = and-join (eq-eqb _ _ (S .whole)) (within-join minBlocks maxBlocks n (S .least) (S .most)) in
-    let six : stage6 s ≡ true =
-    rw o (and-join
-    (ap (every (λ x. chainOk (next s) n (x .0) (x .1))) q ∙ every-entries s (next s) n (entries s)
-    ∙ from-right n (entries s) (Entry s) (in-entries s) (entries-in s) (next s) (firstBlock s) (heldAt s) (S .table) (S .least))
-    (and-join (from-distinct n (entries s) (Entry s) (in-entries s) (entries-in s) (next s) (firstBlock s) (heldAt s) (S .table) (S .least) (quads-distinct (dirBlocks s) (T .once)))
-    (and-join (from-low n (entries s) (Entry s) (in-entries s) (entries-in s) (next s) (firstBlock s) (heldAt s) (S .table) (S .least))
-    (from-high n (entries s) (Entry s) (in-entries s) (entries-in s) (next s) (firstBlock s) (heldAt s) (S .table) (S .least))))) in
+    let six : stage6 s ≡ true = tree-ok s n (S .tree) (S .least) (S .table) in
     let seven : stage7 s ≡ true = and-join (eq-eqb _ _ (S .used-is)) (eq-eqb _ _ (S .free-is)) in
-    rw (one, S .signed, S .numbered, visit-tree s T, six, seven)
-
--- STAGE 6 IN ANY ORDER: the entries of the directory blocks may be taken in any order of these blocks, as ascending: the test is the same. So code need
--- not go through the tree again: once its blocks are marked, it goes from marked block to marked block, and through the four slots of each.
-unfoldable pub entryChainsOf : List ℕ → List ℕ → List (ℕ × ℕ)
-entryChainsOf s bs = joined (entryChains s) (joined quad bs)
-
-module _ (s : List ℕ) (n : ℕ) (T : Tree s n) (least : minBlocks ≤ n) where
-  module _ (bs : List ℕ) (once : distinct eqb bs ≡ true) (sub : (q : ℕ) → In q bs → In q (dirBlocks s)) (all : (q : ℕ) → In q (dirBlocks s) → In q bs) where
-    in-of : (e : ℕ) → In e (joined quad bs) → Entry s e
-    in-of e i = let w = in-quads bs e i in record { within-tree = sub (e / 512) (w .0); aligned = w .1 }
-
-    of-in : (e : ℕ) → Entry s e → In e (joined quad bs)
-    of-in e E = quads-in bs e (all (e / 512) (E .within-tree)) (E .aligned)
-
-    ok-table : tableOk (next s) n (entryChainsOf s bs) ≡ true → Table n (Entry s) (next s) (firstBlock s) (heldAt s)
-    unfolding tableOk entryChainsOf
-    ok-table ok =
-        let t = tableBlocks n in
-        let es = joined quad bs in
-        let o = owned-entries s (next s) es in
-        let six = and-split (every (λ x. chainOk (next s) n (x .0) (x .1)) (joined (entryChains s) es)) _ ok in
-        let r = and-split (distinct eqb (owned (next s) (joined (entryChains s) es))) _ (six .1) in
-        let low = and-split (every (λ x. eqb (next s x) 1) (interval 0 (t + 1))) _ (r .1) in
-        to-table n es (Entry s) in-of of-in (next s) (firstBlock s) (heldAt s) (sym (every-entries s (next s) n es) ∙ six .0) (rw o at (r .0)) (low .0) (rw o at (low .1))
-
-    table-ok : Table n (Entry s) (next s) (firstBlock s) (heldAt s) → tableOk (next s) n (entryChainsOf s bs) ≡ true
-    unfolding tableOk entryChainsOf
-    table-ok U =
-        let es = joined quad bs in
-        rw (owned-entries s (next s) es) (and-join
-        (every-entries s (next s) n es ∙ from-right n es (Entry s) in-of of-in (next s) (firstBlock s) (heldAt s) U least)
-        (and-join (from-distinct n es (Entry s) in-of of-in (next s) (firstBlock s) (heldAt s) U least (quads-distinct bs once))
-        (and-join (from-low n es (Entry s) in-of of-in (next s) (firstBlock s) (heldAt s) U least)
-        (from-high n es (Entry s) in-of of-in (next s) (firstBlock s) (heldAt s) U least))))
-
-  pub any-order : (bs : List ℕ) → distinct eqb bs ≡ true → ((q : ℕ) → In q bs → In q (dirBlocks s)) → ((q : ℕ) → In q (dirBlocks s) → In q bs)
-      → tableOk (next s) n (allChains s) ≡ tableOk (next s) n (entryChainsOf s bs)
-  any-order bs once sub all = both (tableOk (next s) n (allChains s)) (tableOk (next s) n (entryChainsOf s bs))
-      (λ a. table-ok bs once sub all (ok-table (dirBlocks s) (T .once) (λ q i. i) (λ q i. i) (rw same-chains at a)))
-      (λ b. rw same-chains (table-ok (dirBlocks s) (T .once) (λ q i. i) (λ q i. i) (ok-table bs once sub all b)))
-    where
-      same-chains : allChains s ≡ entryChainsOf s (dirBlocks s)
-      same-chains = all-chains s n T ∙ (unfold entryChainsOf in refl)
-
-      both : (a b : Bool) → (a ≡ true → b ≡ true) → (b ≡ true → a ≡ true) → a ≡ b
-      both true b f g = sym (f refl)
-      both false true f g = g refl
-      both false false f g = refl
+    rw (one, S .signed, S .numbered, visit-tree s (S .tree), six, seven)

@@ -1,5 +1,7 @@
--- A change in steps: while the chain of the entry e grows or shrinks, the directories ks stay, block and slot (Midway); when a slot has the new chain,
--- the image is sound again (midway-end). For a file, ks are all directories and the owners P their entries. A new directory's self entry is one owner
+-- A change in steps: while the chain of the owner e grows or shrinks, the directories ks stay, block and slot (Midway); when a slot has the new chains,
+-- the image is sound again (midway-end). The chains of all other owners are given by f and l: those of s (midway-start), or those that the steps of an
+-- earlier chain left (midway-then, staying-then), where both chains of a file change. For a file, ks are all directories and the owners P those of
+-- their entries. A new directory's self entry is one owner
 -- more, with no blocks at first; the self entry of a directory that goes is an owner, and that directory is not among ks.
 use Prim.Native.Nat.{ℕ, _+_, _-_, _*_, _/_, _≤_, _<_}
 use mathlib.Core.Path.{_≡_, refl, sym, ap, _∙_, subst}
@@ -24,11 +26,10 @@ use Rattle.layout.proofs.Laws.Chains.{nth, nth-agree, chain-used}
 use Rattle.layout.proofs.Laws.Tables.{Table, table-same}
 use Rattle.layout.proofs.Laws.Visits.{blocksIn}
 use Rattle.layout.proofs.Laws.Trees.{sizeAt, in-tree, in-directory, directory-in, block-above}
-use Rattle.layout.proofs.Laws.Sound.{heldAt, Sound, Entry, blocksOfAll}
+use Rattle.layout.proofs.Laws.Sound.{heldAt, Sound, Entry, blocksOfAll, Owner}
 use Rattle.layout.proofs.Laws.Slots.{slot-entry, entry-high, entry-low, entries-apart}
-use Rattle.layout.proofs.Laws.Entries.{same-type, same-field}
 use Rattle.layout.proofs.Laws.Changed.{OneSlot, sound-again}
-use Rattle.layout.proofs.Laws.Owners.{self-first, self-size, self-entry}
+use Rattle.layout.proofs.Laws.Owners.{self-first, self-size, self-entry, owner-stays}
 use Rattle.layout.proofs.Laws.Bytes.{length-splice}
 
 -- f, but x at k
@@ -42,32 +43,28 @@ pub over-other : (k x : ℕ) (f : ℕ → ℕ) (j : ℕ) → j ≢ k → over k 
 over-other k x f j ne = rw (ne-eqb j k ne)
 
 -- t stands between s and the end of a change: the directories ks are as they were, and the chain of the owner e is now the c blocks from b
-pub record Midway (s : List ℕ) (ks : List (ℕ × ℕ)) (P : ℕ → Type 0) (e : ℕ) (t : List ℕ) (b c : ℕ) : Type 0 where
+pub record Midway (s : List ℕ) (ks : List (ℕ × ℕ)) (P : ℕ → Type 0) (f l : ℕ → ℕ) (e : ℕ) (t : List ℕ) (b c : ℕ) : Type 0 where
   pub len : length t ≡ length s
   pub head : Same s t 0 20
   pub tail : Same s t 28 4
   pub kept : (q : ℕ) → In q (blocksOfAll s ks) → Same s t (512 * q) 512
   pub values : (q : ℕ) → In q (blocksOfAll s ks) → next t q ≡ next s q
-  pub table : Table (blockCount s) P (next t) (over e b (firstBlock s)) (over e c (heldAt s))
+  pub table : Table (blockCount s) P (next t) (over e b f) (over e c l)
   pub used : be32 t 20 ≡ occupied (next t) (blockCount s)
   pub free : be32 t 24 ≡ blockCount s - occupied (next t) (blockCount s)
 
 -- what is asked of a change: the directories that stay are of the tree, their self entries own blocks, and e is none of these
-pub record Staying (s : List ℕ) (ks : List (ℕ × ℕ)) (P : ℕ → Type 0) (e : ℕ) : Type 0 where
+pub record Staying (s : List ℕ) (ks : List (ℕ × ℕ)) (P : ℕ → Type 0) (f l : ℕ → ℕ) (e : ℕ) : Type 0 where
   pub owner : P e
   pub of-tree : (d : ℕ × ℕ) → In d ks → In d (dirs s)
   pub selfs : (d : ℕ × ℕ) → In d ks → P (512 * d .0)
   pub apart : (d : ℕ × ℕ) → In d ks → 512 * d .0 ≢ e
+  pub firsts : (d : ℕ × ℕ) → In d ks → f (512 * d .0) ≡ d .0
+  pub sizes : (d : ℕ × ℕ) → In d ks → l (512 * d .0) ≡ sizeAt s (d .0)
 
-module _ (s : List ℕ) (S : Sound s) (ks : List (ℕ × ℕ)) (P : ℕ → Type 0) (e : ℕ) (St : Staying s ks P e) where
+module _ (s : List ℕ) (S : Sound s) (ks : List (ℕ × ℕ)) (P : ℕ → Type 0) (f l : ℕ → ℕ) (e : ℕ) (St : Staying s ks P f l e) where
   abbrev n : ℕ
   n = blockCount s
-
-  abbrev f : ℕ → ℕ
-  f = firstBlock s
-
-  abbrev l : ℕ → ℕ
-  l = heldAt s
 
   -- the directory blocks that stay are above the table, and not of the chain
   pub kept-above : (q : ℕ) → In q (blocksOfAll s ks) → (tableBlocks n < q) × (q < n)
@@ -82,23 +79,22 @@ module _ (s : List ℕ) (S : Sound s) (ks : List (ℕ × ℕ)) (P : ℕ → Type
       let D = in-tree s n (S .tree) (r .0) (St .of-tree (r .0) (r .1)) in
       rw (x .2) (chain-used (next s) n (r .0 .0) (sizeAt s (r .0 .0)) (D .1 .chained) (S .least) (x .0) (x .1))
 
-  pub dir-apart : (t : List ℕ) (b c : ℕ) → Midway s ks P e t b c → (q : ℕ) → In q (blocksOfAll s ks) → (y : ℕ) → y < c → q ≢ nth (next t) y b
+  pub dir-apart : (t : List ℕ) (b c : ℕ) → Midway s ks P f l e t b c → (q : ℕ) → In q (blocksOfAll s ks) → (y : ℕ) → y < c → q ≢ nth (next t) y b
   dir-apart t b c I q i y hy z =
       let r = of-join (blocksIn s) ks q i in
       let d = r .0 in
       let x = in-directory s (d .0) q (r .2) in
       let a : ℕ = 512 * d .0 in
       let ne : a ≢ e = St .apart d (r .1) in
-      let di = St .of-tree d (r .1) in
-      let p : over e b f a ≡ d .0 = over-other e b f a ne ∙ self-first s S d di in
-      let w : over e c l a ≡ sizeAt s (d .0) = over-other e c l a ne ∙ self-size s S d di in
+      let p : over e b f a ≡ d .0 = over-other e b f a ne ∙ St .firsts d (r .1) in
+      let w : over e c l a ≡ sizeAt s (d .0) = over-other e c l a ne ∙ St .sizes d (r .1) in
       let g : nth (next t) (x .0) (d .0) ≡ nth (next s) (x .0) (d .0) =
       nth-agree (next s) (next t) (x .0) (d .0) (λ j h. I .values (nth (next s) j (d .0)) (to-join (blocksIn s) ks d (nth (next s) j (d .0)) (r .1) (directory-in s (d .0) j (omega (arith, x .1))))) in
       I .table .apart a e (St .selfs d (r .1)) (St .owner) ne (x .0) y (omega (arith, x .1)) (omega (arith, over-same e c l))
       (ap (nth (next t) (x .0)) p ∙ g ∙ sym (x .2) ∙ z ∙ ap (nth (next t) y) (sym (over-same e b f)))
 
   -- bytes in a block that is none of the directories'
-  module _ (t : List ℕ) (b c : ℕ) (I : Midway s ks P e t b c) (q : ℕ) (tq : tableBlocks n < q) (qn : q < n)
+  module _ (t : List ℕ) (b c : ℕ) (I : Midway s ks P f l e t b c) (q : ℕ) (tq : tableBlocks n < q) (qn : q < n)
       (far : In q (blocksOfAll s ks) → ⊥) (at : ℕ) (p : List ℕ) (h₁ : 512 * q ≤ at) (h₂ : at + length p ≤ 512 * q + 512)
     where
       fits : at + length p ≤ length t
@@ -119,7 +115,7 @@ module _ (s : List ℕ) (S : Sound s) (ks : List (ℕ × ℕ)) (P : ℕ → Type
       beside : (x : ℕ) → In x (blocksOfAll s ks) → (512 * x + 512 ≤ at) ⊎ (at + length p ≤ 512 * x)
       beside x i = ⊎-elim (λ lt. inl (omega arith)) (λ lt. inr (omega arith)) (lt-or-gt x q (λ z. far (subst (λ (w : ℕ). In w (blocksOfAll s ks)) z i)))
 
-      pub bytes-step : Midway s ks P e (splice t at p) b c
+      pub bytes-step : Midway s ks P f l e (splice t at p) b c
       bytes-step =
           record {
             len = length-splice t at p fits ∙ I .len;
@@ -133,12 +129,12 @@ module _ (s : List ℕ) (S : Sound s) (ks : List (ℕ × ℕ)) (P : ℕ → Type
           }
 
 -- where a change of the chain of e begins
-module _ (s : List ℕ) (S : Sound s) (ks : List (ℕ × ℕ)) (e : ℕ) where
-  over-self : (g : ℕ → ℕ) (j : ℕ) → Dec (j ≡ e) → over e (g e) g j ≡ g j
-  over-self g j (yes q) = subst (λ (z : ℕ). over e (g e) g z ≡ g z) (sym q) (over-same e (g e) g)
-  over-self g j (no ne) = over-other e (g e) g j ne
+over-self : (e : ℕ) (g : ℕ → ℕ) (j : ℕ) → Dec (j ≡ e) → over e (g e) g j ≡ g j
+over-self e g j (yes q) = subst (λ (z : ℕ). over e (g e) g z ≡ g z) (sym q) (over-same e (g e) g)
+over-self e g j (no ne) = over-other e (g e) g j ne
 
-  pub midway-of : Midway s ks (Entry s) e s (firstBlock s e) (heldAt s e)
+module _ (s : List ℕ) (S : Sound s) (ks : List (ℕ × ℕ)) (e : ℕ) where
+  pub midway-of : Midway s ks (Owner s) (firstBlock s) (heldAt s) e s (firstBlock s e) (heldAt s e)
   midway-of =
       record {
         len = refl;
@@ -146,18 +142,53 @@ module _ (s : List ℕ) (S : Sound s) (ks : List (ℕ × ℕ)) (e : ℕ) where
         tail = λ i h. refl;
         kept = λ q g i h. refl;
         values = λ q h. refl;
-        table = table-same (blockCount s) (Entry s) (next s) (firstBlock s) (heldAt s) (S .table) (S .least) (next s) (over e (firstBlock s e) (firstBlock s)) (over e (heldAt s e) (heldAt s))
-            (λ b h. refl) (λ j h. over-self (heldAt s) j (ℕ-discrete j e)) (λ j h pos. over-self (firstBlock s) j (ℕ-discrete j e));
+        table = table-same (blockCount s) (Owner s) (next s) (firstBlock s) (heldAt s) (S .table) (S .least) (next s) (over e (firstBlock s e) (firstBlock s)) (over e (heldAt s e) (heldAt s))
+            (λ b h. refl) (λ j h. over-self e (heldAt s) j (ℕ-discrete j e)) (λ j h pos. over-self e (firstBlock s) j (ℕ-discrete j e));
         used = S .used-is;
         free = S .free-is;
       }
 
--- a change of a file: all directories stay
-module _ (s : List ℕ) (S : Sound s) (e : ℕ) (E : Entry s e) (no-self : (d : ℕ × ℕ) → In d (dirs s) → 512 * d .0 ≢ e) where
-  pub staying : Staying s (dirs s) (Entry s) e
-  staying = record { owner = E; of-tree = λ d i. i; selfs = λ d i. self-entry s S d i; apart = no-self }
+-- then a change of the chain of e₂
+module _ (s : List ℕ) (S : Sound s) (ks : List (ℕ × ℕ)) (P : ℕ → Type 0) (f l : ℕ → ℕ) (e : ℕ) (St : Staying s ks P f l e) (b c e₂ : ℕ) where
+  pub staying-then : P e₂ → ((d : ℕ × ℕ) → In d ks → 512 * d .0 ≢ e₂) → Staying s ks P (over e b f) (over e c l) e₂
+  staying-then owner apart =
+      record {
+        owner = owner;
+        of-tree = St .of-tree;
+        selfs = St .selfs;
+        apart = apart;
+        firsts = λ d i. over-other e b f (512 * d .0) (St .apart d i) ∙ St .firsts d i;
+        sizes = λ d i. over-other e c l (512 * d .0) (St .apart d i) ∙ St .sizes d i;
+      }
 
-  pub midway-start : Midway s (dirs s) (Entry s) e s (firstBlock s e) (heldAt s e)
+  pub midway-then : (t : List ℕ) → Midway s ks P f l e t b c → Midway s ks P (over e b f) (over e c l) e₂ t (over e b f e₂) (over e c l e₂)
+  midway-then t I =
+      record {
+        len = I .len;
+        head = I .head;
+        tail = I .tail;
+        kept = I .kept;
+        values = I .values;
+        table = table-same (blockCount s) P (next t) (over e b f) (over e c l) (I .table) (S .least) (next t) (over e₂ (over e b f e₂) (over e b f)) (over e₂ (over e c l e₂) (over e c l))
+            (λ x h. refl) (λ j h. over-self e₂ (over e c l) j (ℕ-discrete j e₂)) (λ j h pos. over-self e₂ (over e b f) j (ℕ-discrete j e₂));
+        used = I .used;
+        free = I .free;
+      }
+
+-- a change of a file: all directories stay
+module _ (s : List ℕ) (S : Sound s) (e : ℕ) (A : Owner s e) (no-self : (d : ℕ × ℕ) → In d (dirs s) → 512 * d .0 ≢ e) where
+  pub staying : Staying s (dirs s) (Owner s) (firstBlock s) (heldAt s) e
+  staying =
+      record {
+        owner = A;
+        of-tree = λ d i. i;
+        selfs = λ d i. inl (self-entry s S d i);
+        apart = no-self;
+        firsts = λ d i. self-first s S d i;
+        sizes = λ d i. self-size s S d i;
+      }
+
+  pub midway-start : Midway s (dirs s) (Owner s) (firstBlock s) (heldAt s) e s (firstBlock s e) (heldAt s e)
   midway-start = midway-of s S (dirs s) e
 
 -- the slot is written, and the image is sound again: slot k of the directory d
@@ -168,7 +199,7 @@ module _ (s : List ℕ) (S : Sound s) (d : ℕ × ℕ) (di : In d (dirs s)) (k :
   mine : Entry s e′
   mine = slot-entry s S d di k (omega arith)
 
-  module _ (t : List ℕ) (b c : ℕ) (I : Midway s (dirs s) (Entry s) e′ t b c) (t′ : List ℕ) (len : length t′ ≡ length t)
+  module _ (f l : ℕ → ℕ) (a₀ : ℕ) (t : List ℕ) (b c : ℕ) (I : Midway s (dirs s) (Owner s) f l a₀ t b c) (t′ : List ℕ) (len : length t′ ≡ length t)
       (outside : (a w : ℕ) → (a + w ≤ e′) ⊎ (e′ + 128 ≤ a) → Same t t′ a w)
     where
       before : Same t t′ 0 (512 * (tableBlocks (blockCount s) + 1))
@@ -192,21 +223,18 @@ module _ (s : List ℕ) (S : Sound s) (d : ℕ × ℕ) (di : In d (dirs s)) (k :
 
       module _ (was : isDirectory (typeOf s e′) ≡ false) (now : isDirectory (typeOf t′ e′) ≡ false) (ok : slotOk t′ e′ ≡ true)
           (new : typeOf t′ e′ ≢ 0 → (j : ℕ) → 1 ≤ j → j < 4 * sizeAt s (d .0) - 1 → j ≢ k → typeOf s (slotAt (directory s (d .0)) j) ≢ 0 → nameOf t′ e′ ≢ nameOf s (slotAt (directory s (d .0)) j))
-          (first : 0 < c → firstBlock t′ e′ ≡ b) (blocks : heldAt t′ e′ ≡ c)
+          -- the table's chains are those of the slots
+          (others : (a : ℕ) → Owner s a → a ≢ e′ → a ≢ e′ + 28 → (over a₀ c l a ≡ heldAt s a) × (over a₀ b f a ≡ firstBlock s a))
+          (own : (heldAt t′ e′ ≡ over a₀ c l e′) × (0 < over a₀ c l e′ → firstBlock t′ e′ ≡ over a₀ b f e′))
+          (second : (heldAt t′ (e′ + 28) ≡ over a₀ c l (e′ + 28)) × (0 < over a₀ c l (e′ + 28) → firstBlock t′ (e′ + 28) ≡ over a₀ b f (e′ + 28)))
         where
-          lengths : (a : ℕ) → Entry s a → Dec (a ≡ e′) → heldAt t′ a ≡ over e′ c (heldAt s) a
-          lengths a E (yes q) = ap (heldAt t′) q ∙ blocks ∙ sym (over-same e′ c (heldAt s)) ∙ ap (over e′ c (heldAt s)) (sym q)
-          lengths a E (no ne) =
-              let fit = entry-high s S a E in
-              let z = one-slot .slots a E ne in
-              rw (over-other e′ c (heldAt s) a ne, same-type s t′ a (one-slot .len) fit z, same-field s t′ a (one-slot .len) fit z 12 (omega arith))
-
-          firsts : (a : ℕ) → Entry s a → 0 < over e′ c (heldAt s) a → Dec (a ≡ e′) → firstBlock t′ a ≡ over e′ b (firstBlock s) a
-          firsts a E pos (yes q) =
-              let z : over e′ c (heldAt s) a ≡ c = ap (over e′ c (heldAt s)) q ∙ over-same e′ c (heldAt s) in
-              ap (firstBlock t′) q ∙ first (omega arith) ∙ sym (over-same e′ b (firstBlock s)) ∙ ap (over e′ b (firstBlock s)) (sym q)
-          firsts a E pos (no ne) =
-              same-field s t′ a (one-slot .len) (entry-high s S a E) (one-slot .slots a E ne) 4 (omega arith) ∙ sym (over-other e′ b (firstBlock s) a ne)
+          chain-now : (a : ℕ) → Owner s a → Dec (a ≡ e′) → Dec (a ≡ e′ + 28) → (heldAt t′ a ≡ over a₀ c l a) × (0 < over a₀ c l a → firstBlock t′ a ≡ over a₀ b f a)
+          chain-now a A (yes q) r = subst (λ (z : ℕ). (heldAt t′ z ≡ over a₀ c l z) × (0 < over a₀ c l z → firstBlock t′ z ≡ over a₀ b f z)) (sym q) own
+          chain-now a A (no p) (yes q) = subst (λ (z : ℕ). (heldAt t′ z ≡ over a₀ c l z) × (0 < over a₀ c l z → firstBlock t′ z ≡ over a₀ b f z)) (sym q) second
+          chain-now a A (no p) (no q) =
+              let w = owner-stays s t′ (dirs s) e′ (one-slot .len) (entry-high s S) (one-slot .slots) a A p q in
+              let o = others a A p q in
+              (w .0 ∙ sym (o .0), λ pos. w .1 ∙ sym (o .1))
 
           counted : occupied (next t′) (blockCount s) ≡ occupied (next t) (blockCount s)
           counted = before-occupied t t′ (blockCount s) before
@@ -214,7 +242,24 @@ module _ (s : List ℕ) (S : Sound s) (d : ℕ × ℕ) (di : In d (dirs s)) (k :
           pub midway-end : Sound t′
           midway-end =
               sound-again s t′ S d di k k₁ k₂ one-slot was now ok new
-              (table-same (blockCount s) (Entry s) (next t) (over e′ b (firstBlock s)) (over e′ c (heldAt s)) (I .table) (S .least) (next t′) (firstBlock t′) (heldAt t′) slot-values
-              (λ a E. lengths a E (ℕ-discrete a e′)) (λ a E pos. firsts a E pos (ℕ-discrete a e′)))
+              (table-same (blockCount s) (Owner s) (next t) (over a₀ b f) (over a₀ c l) (I .table) (S .least) (next t′) (firstBlock t′) (heldAt t′) slot-values
+              (λ a A. chain-now a A (ℕ-discrete a e′) (ℕ-discrete a (e′ + 28)) .0) (λ a A pos. chain-now a A (ℕ-discrete a e′) (ℕ-discrete a (e′ + 28)) .1 pos))
               (before-header t t′ (blockCount s) before 20 (omega arith) ∙ I .used ∙ sym counted)
               (before-header t t′ (blockCount s) before 24 (omega arith) ∙ I .free ∙ ap (λ (z : ℕ). blockCount s - z) (sym counted))
+
+  -- a change of a file's own chain alone: its attributes' chain is as before
+  other-place : e′ + 28 ≢ e′
+  other-place q = omega arith
+
+  pub midway-own : (t : List ℕ) (b c : ℕ) → Midway s (dirs s) (Owner s) (firstBlock s) (heldAt s) e′ t b c → (t′ : List ℕ) → length t′ ≡ length t
+      → ((a w : ℕ) → (a + w ≤ e′) ⊎ (e′ + 128 ≤ a) → Same t t′ a w) → isDirectory (typeOf s e′) ≡ false → isDirectory (typeOf t′ e′) ≡ false → slotOk t′ e′ ≡ true
+      → (typeOf t′ e′ ≢ 0 → (j : ℕ) → 1 ≤ j → j < 4 * sizeAt s (d .0) - 1 → j ≢ k → typeOf s (slotAt (directory s (d .0)) j) ≢ 0 → nameOf t′ e′ ≢ nameOf s (slotAt (directory s (d .0)) j))
+      → (0 < c → firstBlock t′ e′ ≡ b) → heldAt t′ e′ ≡ c
+      → heldAt t′ (e′ + 28) ≡ heldAt s (e′ + 28) → (0 < heldAt s (e′ + 28) → firstBlock t′ (e′ + 28) ≡ firstBlock s (e′ + 28)) → Sound t′
+  midway-own t b c I t′ len outside was now ok new first blocks size start =
+      midway-end (firstBlock s) (heldAt s) e′ t b c I t′ len outside was now ok new
+      (λ a A p q. (over-other e′ c (heldAt s) a p, over-other e′ b (firstBlock s) a p))
+      (blocks ∙ sym (over-same e′ c (heldAt s)), λ pos. first (rw (over-same e′ c (heldAt s)) at pos) ∙ sym (over-same e′ b (firstBlock s))) (
+        size ∙ sym (over-other e′ c (heldAt s) (e′ + 28) other-place),
+        λ pos. start (rw (over-other e′ c (heldAt s) (e′ + 28) other-place) at pos) ∙ sym (over-other e′ b (firstBlock s) (e′ + 28) other-place),
+      )

@@ -13,10 +13,10 @@ use Rattle.layout.specs.Bytes.{be32, part, splice}
 use Rattle.layout.specs.Limits.{maxBlocks}
 use Rattle.layout.specs.Geometry.{blockCount, blocksFor}
 use Rattle.layout.specs.Table.{next, chain, chainOk}
-use Rattle.layout.specs.Directory.{slotAt, firstBlock, sizeOf, blocksOf, isFile, isDirectory, directory, fileBlocks, content}
+use Rattle.layout.specs.Directory.{slotAt, firstBlock, sizeOf, blocksOf, attributeBlock, attributeSize, isFile, isDirectory, directory, fileBlocks, content, attributeBlocks, attributes}
 use Rattle.layout.specs.Check.{check}
 use Rattle.layout.specs.Paths.{parts, pathOk, leading, shallow, home, entryOf, fileRefusal, directoryRefusal}
-use Rattle.layout.specs.Looks.{lookupRefusal, lookup, readRefusal, read, extentOf}
+use Rattle.layout.specs.Looks.{lookupRefusal, lookup, readRefusal, read, extentOf, readAttributes}
 use Rattle.layout.specs.Walks.Looks.{formRefusal, wholeRefusal, foundRefusal, Located, NoFile, Opens}
 use Rattle.layout.specs.Walks.Paths.{goodParts, PathGiven, Spotted}
 use Rattle.layout.specs.Walks.Shapes.{ChainBelow}
@@ -182,6 +182,36 @@ module _ {s path : List ℕ} {slot b first size blocks : ℕ} (l : Located isFil
     pub located-below : ChainBelow s (blockCount s) first blocks
     located-below = sound-chain s ok first blocks located-ok
 
+  -- and its attributes' chain
+  module _ {f k : ℕ} (e : (f ≡ attributeBlock s (entryAt b slot)) × (k ≡ attributeSize s (entryAt b slot))) where
+    attributes-first : f ≡ attributeBlock s (entryOf isFile s path)
+    attributes-first = e .0 ∙ ap (λ (a : ℕ). attributeBlock s a) (l .place)
+
+    pub attributes-blocks : k ≡ attributeSize s (entryOf isFile s path)
+    attributes-blocks = e .1 ∙ ap (λ (a : ℕ). attributeSize s a) (l .place)
+
+    pub attributes-chain : chain (next s) f k ≡ attributeBlocks s (entryOf isFile s path)
+    unfolding attributeBlocks
+    attributes-chain = rw (attributes-first, attributes-blocks)
+
+    module _ (r : fileRefusal s path ≡ 0) (ok : check s ≡ 0) where
+      pub attributes-ok : chainOk (next s) (blockCount s) f k ≡ true
+      attributes-ok = rw (attributes-first, attributes-blocks) (path-file s path r ok .second)
+
+      pub attributes-below : ChainBelow s (blockCount s) f k
+      attributes-below = sound-chain s ok f k attributes-ok
+
+-- the buffer after the part of it that was lent is filled from a chain
+lent-chain : (s : List ℕ) (n first blocks : ℕ) → ChainBelow s n first blocks → (offset : ℕ) (buffer : List ℕ) (count k : ℕ) (ys : List ℕ) → offset + count ≤ 512 * blocks
+    → count ≤ length buffer → k ≡ count → ys ≡ take (length (take k buffer)) (drop offset (chainBytes s first blocks))
+    → ys ++ drop k buffer ≡ splice buffer 0 (take count (drop offset (chainBytes s first blocks)))
+lent-chain s n first blocks r offset buffer count k ys h g ek ey =
+    let l = length-chainBytes s n first blocks (r .shape .whole) (below-nth s n first blocks r) in
+    let lk : length (take k buffer) ≡ count = simp length-take (omega arith) in
+    let f : List ℕ = take count (drop offset (chainBytes s first blocks)) in
+    let lf : length f ≡ k = simp (length-take, length-drop) (omega arith) in
+    lent buffer 0 k ys f (ey ∙ ap (λ (j : ℕ). take j (drop offset (chainBytes s first blocks))) lk) lf
+
 -- a file that was opened
 module _ {s path : List ℕ} {number slot b first size blocks : ℕ} (o : Opens isFile s path (lookupRefusal s path) number slot b first size blocks) where
   pub lookup-refused : (number ≡ 0 → ⊥) → record { number = number; slot = 0; size = 0; blocks = 0 } ≡ lookup s path
@@ -195,6 +225,10 @@ module _ {s path : List ℕ} {number slot b first size blocks : ℕ} (o : Opens 
   pub read-refused : (offset : ℕ) (buffer : List ℕ) → (number ≡ 0 → ⊥) → read s path offset buffer ≡ record { number = number; count = 0; buffer = buffer }
   unfolding read readRefusal
   read-refused offset buffer h = rw (← o .number-is, firstOf-refused number (require (leb offset (sizeOf s (entryOf isFile s path))) 12 0) h) (accept-refused number _ _ h)
+
+  pub attributes-refused : (buffer : List ℕ) → (number ≡ 0 → ⊥) → readAttributes s path buffer ≡ record { number = number; count = 0; buffer = buffer }
+  unfolding readAttributes
+  attributes-refused buffer h = rw (← o .number-is) (accept-refused number _ _ h)
 
   module _ (z : number ≡ 0) where
     accepted : lookupRefusal s path ≡ 0
@@ -254,18 +288,29 @@ module _ {s path : List ℕ} {number slot b first size blocks : ℕ} (o : Opens 
         → ys ≡ take (length (take k buffer)) (drop offset (chainBytes s first blocks))
         → record { number = 0; count = count; buffer = ys ++ drop k buffer } ≡ read s path offset buffer
     read-fills offset buffer count k ys h e ek ey =
-        let r = opened-chain in
         let q = opened-blocks in
-        let l = length-chainBytes s (blockCount s) first blocks (r .shape .whole) (below-nth s (blockCount s) first blocks r) in
-        let lk : length (take k buffer) ≡ count = simp length-take (omega arith) in
-        let f : List ℕ = take count (drop offset (chainBytes s first blocks)) in
-        let lf : length f ≡ k = simp (length-take, length-drop) (omega arith) in
-        let y : ys ≡ f = ey ∙ ap (λ (j : ℕ). take j (drop offset (chainBytes s first blocks))) lk in
-        let b : ys ++ drop k buffer ≡ splice buffer 0 f = lent buffer 0 k ys f y lf in
-        ap (λ (x : List ℕ). record { number = 0; count = count; buffer = x }) b ∙ sym (read-done offset buffer count h e)
+        ap (λ (x : List ℕ). record { number = 0; count = count; buffer = x })
+        (lent-chain s (blockCount s) first blocks opened-chain offset buffer count k ys (omega arith) (omega arith) ek ey)
+        ∙ sym (read-done offset buffer count h e)
 
     pub read-room : (offset : ℕ) (buffer : List ℕ) (count k : ℕ) → offset ≤ size → count ≡ min (length buffer) (size - offset) → k ≡ count
         → offset + length (take k buffer) ≤ 512 * blocks
     read-room offset buffer count k h e ek =
         let q = opened-blocks in
         simp length-take (omega arith)
+
+    -- and its attributes, by the numbers of their chain
+    module _ {f k : ℕ} (e : (f ≡ attributeBlock s (entryAt b slot)) × (k ≡ attributeSize s (entryAt b slot))) where
+      pub opened-attributes : ChainBelow s (blockCount s) f k
+      opened-attributes = attributes-below loc e (lookup-path s path accepted) (lookup-sound s path accepted)
+
+      pub attributes-fill : (buffer : List ℕ) (count j : ℕ) (ys : List ℕ) → count ≡ 512 * min k (length buffer / 512) → j ≡ count
+          → ys ≡ take (length (take j buffer)) (drop 0 (chainBytes s f k)) → record { number = 0; count = count; buffer = ys ++ drop j buffer } ≡ readAttributes s path buffer
+      unfolding readAttributes attributes
+      attributes-fill buffer count j ys ec ej ey =
+          ap (λ (x : List ℕ). record { number = 0; count = count; buffer = x })
+          (lent-chain s (blockCount s) f k opened-attributes 0 buffer count j ys (omega arith) (omega arith) ej ey)
+          ∙ rw (accepted, ← attributes-blocks loc e, ← attributes-chain loc e, ← ec)
+
+      pub attributes-room : (buffer : List ℕ) (count j : ℕ) → count ≡ 512 * min k (length buffer / 512) → j ≡ count → 0 + length (take j buffer) ≤ 512 * k
+      attributes-room buffer count j ec ej = simp length-take (omega arith)

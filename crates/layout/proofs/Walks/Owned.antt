@@ -8,15 +8,15 @@ use lib.Dec.{eqb}
 use lib.ListN.{length, getD}
 use borrow.Author.Tests.{eq-eqb, ne-eqb}
 use Rattle.layout.specs.Lists.{interval, every, has, distinct, select, keep, joined}
-use Rattle.layout.specs.Bytes.{be32, zeros}
+use Rattle.layout.specs.Bytes.{zeros}
 use Rattle.layout.specs.Geometry.{blockCount, tableBlocks}
 use Rattle.layout.specs.Table.{next, chainOk}
-use Rattle.layout.specs.Directory.{typeOf, firstBlock, blocksOf}
+use Rattle.layout.specs.Directory.{typeOf, firstBlock, blocksOf, attributeBlock, attributeSize, isFile}
 use Rattle.layout.specs.Check.{fileChains, owned, tableOk, stage6, allChains}
 use Rattle.layout.specs.Walks.Chains.{Walk, walked, follow, followAll, allOnes, restFree}
 use Rattle.layout.specs.Walks.Shapes.{Shape}
 use Rattle.layout.specs.Walks.Slots.{entryAt}
-use Rattle.layout.specs.Walks.Stages.{ownsBlocks, slotChains, followSlot, followSlots, isMarked, followBlocks, followTable}
+use Rattle.layout.specs.Walks.Stages.{slotChains, followFile, followSlot, followSlots, isMarked, followBlocks, followTable}
 use Rattle.layout.proofs.Laws.Bytes.{length-zeros}
 use Rattle.layout.proofs.Laws.Lists.{In, every-same, interval-next, has-eqb-in, in-has-eqb, select-in, select-distinct}
 use Rattle.layout.proofs.Laws.Joins.{select-has, interval-in, join-map, join-join, join-append}
@@ -45,28 +45,40 @@ module _ (v : ℕ → ℕ) (n : ℕ) where
       go true e h = h
       go false e h = sym (ap (λ (b : Bool). cond b (followAll v n ds (w .marks)) w) e)
 
+-- one chain
+followAll-one : (v : ℕ → ℕ) (n first blocks : ℕ) (m : List ℕ) → followAll v n ((first, blocks) ∷ []) m ≡ follow v n blocks first m
+unfolding followAll
+followAll-one v n first blocks m = go (follow v n blocks first m) (follow v n blocks first m .ok) refl
+  where
+    go : (w : Walk) (t : Bool) → w .ok ≡ t → cond t (walked true (w .marks)) w ≡ w
+    go w true e = ap (λ (b : Bool). walked b (w .marks)) (sym e)
+    go w false e = refl
+
+-- the two of a file
+module _ (s : List ℕ) (n e : ℕ) (m m′ : List ℕ) where
+  pub followFile-stop : walked false m′ ≡ follow (next s) n (blocksOf s e) (firstBlock s e) m → walked false m′ ≡ followFile s n e m
+  unfolding followFile fileChains followAll
+  followFile-stop h = rw (← h)
+
+  pub followFile-next : walked true m′ ≡ follow (next s) n (blocksOf s e) (firstBlock s e) m → (first blocks : ℕ) → first ≡ attributeBlock s e → blocks ≡ attributeSize s e
+      → follow (next s) n blocks first m′ ≡ followFile s n e m
+  unfolding followFile fileChains followAll
+  followFile-next h first blocks ef eb = rw (← h, ef, eb) (sym (followAll-one (next s) n (attributeBlock s e) (attributeSize s e) m′))
+
 -- one slot
 module _ (s : List ℕ) (n e : ℕ) (m : List ℕ) (ty : ℕ) (et : ty ≡ typeOf s e) where
-  pub followSlot-none : false ≡ ownsBlocks ty → walked true m ≡ followSlot s n e m
-  unfolding followSlot
-  followSlot-none h = rw (← et, ← h)
+  pub followSlot-file : true ≡ isFile ty → followFile s n e m ≡ followSlot s n e m
+  unfolding followSlot slotChains followFile
+  followSlot-file h = rw (← et, ← h)
 
-  pub followSlot-owner : true ≡ ownsBlocks ty → (first blocks : ℕ) → first ≡ be32 s (e + 4) → blocks ≡ be32 s (e + 12)
-      → follow (next s) n blocks first m ≡ followSlot s n e m
-  unfolding followSlot
-  followSlot-owner h first blocks ef eb = rw (← et, ← h, ← ef, ← eb)
+  module _ (hf : false ≡ isFile ty) where
+    pub followSlot-none : (ty ≡ 1 → ⊥) → walked true m ≡ followSlot s n e m
+    unfolding followSlot slotChains followAll
+    followSlot-none h = rw (← et, ← hf, ne-eqb ty 1 h)
 
-slot-chains : (s : List ℕ) (n e : ℕ) (m : List ℕ) → followAll (next s) n (slotChains s e) m ≡ followSlot s n e m
-unfolding slotChains followSlot fileChains followAll
-slot-chains s n e m = go (ownsBlocks (typeOf s e))
-  where
-    one : (w : Walk) (t : Bool) → w .ok ≡ t → cond t (walked true (w .marks)) w ≡ w
-    one w true e = ap (λ (b : Bool). walked b (w .marks)) (sym e)
-    one w false e = refl
-
-    go : (t : Bool) → followAll (next s) n (cond t ((firstBlock s e, blocksOf s e) ∷ []) []) m ≡ cond t (follow (next s) n (blocksOf s e) (firstBlock s e) m) (walked true m)
-    go true = one (follow (next s) n (blocksOf s e) (firstBlock s e) m) (follow (next s) n (blocksOf s e) (firstBlock s e) m .ok) refl
-    go false = refl
+    pub followSlot-self : ty ≡ 1 → follow (next s) n (blocksOf s e) (firstBlock s e) m ≡ followSlot s n e m
+    unfolding followSlot slotChains
+    followSlot-self h = rw (← et, ← hf, eq-eqb ty 1 h) (sym (followAll-one (next s) n (firstBlock s e) (blocksOf s e) m))
 
 -- the slots of a block
 module _ (s : List ℕ) (n b k j : ℕ) (m : List ℕ) where
@@ -75,10 +87,9 @@ module _ (s : List ℕ) (n b k j : ℕ) (m : List ℕ) where
   followSlots-end e = rw e
 
   slots-suc : 0 < j → followSlots s n b k j m ≡ (let w : Walk = followSlot s n (entryAt b k) m in cond (w .ok) (followSlots s n b (k + 1) (j - 1) (w .marks)) w)
-  unfolding followSlots
+  unfolding followSlots followSlot
   slots-suc h =
-      rw (interval-next k j h) (followAll-append (next s) n (slotChains s (entryAt b k)) (joined (λ x. slotChains s (entryAt b x)) (interval (k + 1) (j - 1))) m
-      ∙ rw (slot-chains s n (entryAt b k) m))
+      rw (interval-next k j h) (followAll-append (next s) n (slotChains s (entryAt b k)) (joined (λ x. slotChains s (entryAt b x)) (interval (k + 1) (j - 1))) m)
 
   pub followSlots-next : 0 < j → (m′ : List ℕ) → walked true m′ ≡ followSlot s n (entryAt b k) m → followSlots s n b k j m ≡ followSlots s n b (k + 1) (j - 1) m′
   followSlots-next h m′ e = slots-suc h ∙ rw (← e)
@@ -163,8 +174,8 @@ marked-chains s ms n = each (blocksIn ms n) ∙ sym (join-join (entryChains s) q
 rest-tied : (v : ℕ → ℕ) (m os : List ℕ) (a k : ℕ) → Marked m os → every (λ b. eqb (v b) 0 || has eqb b os) (interval a k) ≡ restFree v m a k
 unfolding restFree
 rest-tied v m os a k g =
-    every-same (λ b. eqb (v b) 0 || has eqb b os) (λ b. eqb (v b) 0 || not (eqb (getD m b 0) 0))
-    (λ x. ap (λ (t : Bool). eqb (v x) 0 || t) (sym (ap not (g .at x) ∙ Bool·not-not (has eqb x os)))) (interval a k)
+    every-same (λ b. eqb (v b) 0 || has eqb b os) (λ b. eqb (v b) 0 || not (eqb (getD m b 0) 0)) (interval a k)
+    (λ x i. ap (λ (t : Bool). eqb (v x) 0 || t) (sym (ap not (g .at x) ∙ Bool·not-not (has eqb x os))))
 
 module _ (s : List ℕ) (n : ℕ) (ms : List ℕ) (size : ℕ) (high : n ≤ size) where
   abbrev cs : List (ℕ × ℕ)

@@ -1,7 +1,7 @@
 -- The stages of the check, as the code takes them: chains and directories with marks, the header by itself, and the stages in parts.
 use Prim.Native.Nat.{ℕ, zero, suc, _+_, _-_, _*_}
-use mathlib.Core.Bool.{Bool, true, false, not, cond, _&&_, _||_}
-use mathlib.Core.List.{List, []}
+use mathlib.Core.Bool.{Bool, false, not, cond, _&&_}
+use mathlib.Core.List.{List, [], _∷_}
 use lib.Dec.{eqb, ltb}
 use lib.ListN.{getD}
 use Rattle.layout.specs.Limits.{maxLevels}
@@ -72,16 +72,16 @@ walkRoot s n m =
     let rest : Seen = walkEntries (walkChild maxLevels s n b) s (directory s b) (blocksOf s (512 * b)) (w .marks) in
     cond (w .ok) rest (visited 4 (w .marks))
 
--- STAGE 6, when the directory blocks are known by their marks ms: an entry that is a self entry's or a file's owns a chain. The entries of a block by
--- slot, of all directory blocks in ascending order.
-abbrev pub ownsBlocks : ℕ → Bool
-ownsBlocks type = eqb type 1 || isFile type
-
+-- STAGE 6, when the directory blocks are known by their marks ms: a file owns two chains, its own and its attributes' (L6), a self entry that of its
+-- directory. The entries of a block by slot, of all directory blocks in ascending order.
 unfoldable pub slotChains : List ℕ → ℕ → List (ℕ × ℕ)
-slotChains s e = cond (ownsBlocks (typeOf s e)) (fileChains s e) []
+slotChains s e = cond (isFile (typeOf s e)) (fileChains s e) (cond (eqb (typeOf s e) 1) ((firstBlock s e, blocksOf s e) ∷ []) [])
+
+unfoldable pub followFile : List ℕ → ℕ → ℕ → List ℕ → Walk
+followFile s n e m = followAll (next s) n (fileChains s e) m
 
 unfoldable pub followSlot : List ℕ → ℕ → ℕ → List ℕ → Walk
-followSlot s n e m = cond (ownsBlocks (typeOf s e)) (follow (next s) n (blocksOf s e) (firstBlock s e) m) (walked true m)
+followSlot s n e m = followAll (next s) n (slotChains s e) m
 
 unfoldable pub followSlots : List ℕ → ℕ → ℕ → ℕ → ℕ → List ℕ → Walk
 followSlots s n b k j m = followAll (next s) n (joined (λ x. slotChains s (entryAt b x)) (interval k j)) m

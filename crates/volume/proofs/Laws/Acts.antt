@@ -3,7 +3,7 @@ use Prim.Native.Nat.{ℕ, suc, _+_, _-_, _*_, _/_, _≤_, _<_}
 use mathlib.Core.Path.{_≡_, refl, sym, ap, _∙_}
 use mathlib.Core.Bool.{true, not, _&&_}
 use mathlib.Core.List.{List, [], _∷_}
-use mathlib.Core.Logic.{_⊎_, ⊎-elim, _≢_}
+use mathlib.Core.Logic.{⊎-elim, _≢_}
 use native.Mathlib.Omega.{arith}
 use borrow.Author.Tests.{leb-true, eq-eqb, eqb-false, not-true}
 use lib.ListN.{length}
@@ -14,18 +14,18 @@ use Rattle.layout.specs.Lists.{within, every}
 use Rattle.layout.specs.Bytes.{be32, bytes4, bytes8}
 use Rattle.layout.specs.Geometry.{blockCount}
 use Rattle.layout.specs.Table.{next, freeBlocks}
-use Rattle.layout.specs.Directory.{slotAt, slots, typeOf, firstBlock, isFree, isDirectory, isEmpty, goodName, directory, dirs, fileBlocks, freeSlot}
+use Rattle.layout.specs.Directory.{slotAt, slots, typeOf, firstBlock, isFree, isDirectory, isEmpty, goodName, directory, dirs, freeSlot}
 use Rattle.layout.specs.Check.{check}
 use Rattle.layout.specs.Paths.{parts, pathOk, leading, lastPart, shallow, home, pathSlot, entryOf, directoryRefusal}
 use Rattle.volume.specs.Entries.{directoryMade, blocksNamed}
 use Rattle.volume.specs.Create.{placeRefusal, createSlot}
 use Rattle.volume.specs.Directories.{createDirectoryRefusal, newDirectoryBlocks, createDirectoryImage, deleteDirectoryRefusal}
-use Rattle.volume.specs.Delete.{deleteAt, deleteNamed}
-use Rattle.volume.specs.Change.{Change, create, write, delete, createDirectory, deleteDirectory, refusal, after, named}
+use Rattle.volume.specs.Delete.{allBlocks, deleteAt, deleteNamed}
+use Rattle.volume.specs.Change.{Change, create, write, delete, createDirectory, deleteDirectory, setAttributes, clearAttributes, refusal, after, named}
 use Rattle.volume.specs.Views.{Folder, Maybe, just, folderOf, fileAt, folderAt, subject, ofFile, made, takes, gives, madeFolder, sizeIn, givesFolder}
 use Rattle.volume.proofs.Laws.Places.{leading-shorter, path-levels, path-name, place-is, place-home, place-free, place-new, place-there}
 use Rattle.volume.proofs.Laws.CreateDirectory.{made-inserted, made-slot, made-dir, made-bare, made-name, made-folder, made-used}
-use Rattle.volume.proofs.Laws.Content.{create-untouched, write-untouched, delete-untouched, create-directory-untouched}
+use Rattle.volume.proofs.Laws.Content.{create-untouched, write-untouched, delete-untouched, set-untouched, clear-untouched, create-directory-untouched}
 use Rattle.volume.proofs.Laws.Views.{other-shown}
 use Rattle.volume.proofs.Laws.Folders.{Comes, came-before, came-slot, came-entry, came-after, came-others}
 use Rattle.volume.proofs.Laws.Effects.{Effect, effect}
@@ -284,7 +284,7 @@ module _ (s path : List ℕ) (ok : check s ≡ 0) (r : deleteDirectoryRefusal s 
   S′ = removed-sound s T b i home-there x (N .low) (N .high) (N .typed) bare
 
   -- it changes no byte outside its named blocks
-  agreed : Agree s small (e / 512 ∷ blocksNamed (fileBlocks s e))
+  agreed : Agree s small (e / 512 ∷ blocksNamed (allBlocks s e))
   unfolding after named deleteNamed entryOf
   agreed = frame s (deleteDirectory path) ok (unfold refusal in r) .agree
 
@@ -328,6 +328,8 @@ acts s (write path offset bytes time) ok r = file-acts s (write path offset byte
 acts s (delete path) ok r = file-acts s (delete path) (λ m. refl) (λ m. refl) (effect s (delete path) refl ok r)
 acts s (createDirectory path type user group permissions flags time d) ok r = create-directory-acts s path ok type user group permissions flags time d r
 acts s (deleteDirectory path) ok r = delete-directory-acts s path ok r
+acts s (setAttributes path bytes) ok r = file-acts s (setAttributes path bytes) (λ m. refl) (λ m. refl) (effect s (setAttributes path bytes) refl ok r)
+acts s (clearAttributes path) ok r = file-acts s (clearAttributes path) (λ m. refl) (λ m. refl) (effect s (clearAttributes path) refl ok r)
 
 -- the files of all other paths stay where they are, with their entries and blocks
 pub others-untouched : (s : List ℕ) (c : Change) (other : List ℕ) → check s ≡ 0 → refusal s c ≡ 0 → other ≢ subject c → pathOk other ≡ true → Untouched s (after s c) other
@@ -337,3 +339,5 @@ others-untouched s (write path offset bytes time) other ok r ne good = write-unt
 others-untouched s (delete path) other ok r ne good = delete-untouched s path other ok good ne r
 others-untouched s (createDirectory path type user group permissions flags time d) other ok r ne good = create-directory-untouched s path other ok type user group permissions flags time d r
 others-untouched s (deleteDirectory path) other ok r ne good = delete-directory-untouched s path ok r other
+others-untouched s (setAttributes path bytes) other ok r ne good = set-untouched s path other ok good ne bytes r
+others-untouched s (clearAttributes path) other ok r ne good = clear-untouched s path other ok good ne r

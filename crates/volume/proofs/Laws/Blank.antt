@@ -12,33 +12,37 @@ use Rattle.layout.specs.Limits.{maxBlocks, maxLevels, maxDirectory}
 use Rattle.layout.specs.Lists.{within, has, distinct, lastOr}
 use Rattle.layout.specs.Bytes.{block, zeros, splice}
 use Rattle.layout.specs.Geometry.{blockCount, tableBlocks, rootBlock}
-use Rattle.layout.specs.Table.{next, freeBlocks}
-use Rattle.layout.specs.Directory.{slotAt, typeOf, firstBlock, blocksOf, isFile, isDirectory, directory, dirs, fileBlocks, freeSlot}
+use Rattle.layout.specs.Table.{next, chain, freeBlocks}
+use Rattle.layout.specs.Directory.{slotAt, typeOf, firstBlock, blocksOf, isFile, isDirectory, directory, dirs, fileBlocks, attributeBlocks, freeSlot}
 use Rattle.layout.specs.Check.{check}
 use Rattle.layout.specs.Paths.{parts, pathOk, leading, lastPart, shallow, home, pathSlot, entryOf, fileRefusal, directoryRefusal}
 use Rattle.volume.specs.Entries.{directoryMade, released, taken, grown, entriesNamed, blocksNamed}
 use Rattle.volume.specs.Create.{place, placeRefusal, createRefusal, createImage, createNamed}
 use Rattle.volume.specs.Write.{written, changedEntries, newBlocks, writeAt, writeRefusal, writeNamed}
-use Rattle.volume.specs.Delete.{deleteAt, deleteNamed}
+use Rattle.volume.specs.Delete.{allBlocks, deleteAt, deleteNamed}
+use Rattle.volume.specs.Attributes.{emptied, newAttributes, setAttributesRefusal, setAttributesAt, setAttributesNamed, clearAttributesAt, clearAttributesNamed}
 use Rattle.volume.specs.Directories.{createDirectoryRefusal, newDirectoryBlocks, createDirectoryImage, createDirectoryNamed, deleteDirectoryRefusal}
-use Rattle.volume.specs.Change.{Change, create, write, delete, createDirectory, deleteDirectory, refusal, after, named}
+use Rattle.volume.specs.Change.{Change, create, write, delete, createDirectory, deleteDirectory, setAttributes, clearAttributes, refusal, after, named}
 use Rattle.volume.specs.Claims.{Blanked}
 use Rattle.layout.proofs.Laws.Tests.{and-split, true-or-false, true-not-false, lt-or-ge, require-zero, firstOf-zero, within-split}
 use Rattle.layout.proofs.Laws.Bytes.{length-zeros, getD-zeros, getD-part, getD-splice-before, getD-splice-inside, getD-splice-after, part-same, length-splice}
 use Rattle.layout.proofs.Laws.Lists.{In, in-append, has-eqb-in, in-has-eqb, last-in, head-apart, tail-distinct}
 use Rattle.layout.proofs.Laws.Frames.{Agree, agree-block, agree-next, before-next, same-below}
 use Rattle.layout.proofs.Laws.Joins.{of-join}
-use Rattle.layout.proofs.Laws.Chains.{Chain, chain-used, chain-distinct, chainOk-split, in-chain}
+use Rattle.layout.proofs.Laws.Chains.{nth, chain-used, chain-distinct, in-chain}
 use Rattle.layout.proofs.Laws.Visits.{blocksIn, dirBlocks}
 use Rattle.layout.proofs.Laws.Trees.{sizeAt, in-directory}
 use Rattle.layout.proofs.Laws.Sound.{Sound, Entry, sound}
 use Rattle.layout.proofs.Laws.Slots.{entry-low, entry-high, right-dir}
-use Rattle.layout.proofs.Laws.Owners.{Fresh, free-fresh, file-used, file-chained}
+use Rattle.layout.proofs.Laws.Owners.{Fresh, free-fresh, file-used}
 use Rattle.volume.proofs.Laws.Table.{taken-length, taken-first, taken-zeros, released-next, released-zero}
 use Rattle.volume.proofs.Laws.Frame.{entries-low, blocks-not, written-in, changed-below, released-agree}
-use Rattle.volume.proofs.Laws.Framed.{frame, at-entry, place-entry, child-chain}
-use Rattle.volume.proofs.Laws.Places.{At, file-at-path, directory-at-path, path-levels, path-name, place-is, place-home, place-free, place-new, write-given}
+use Rattle.volume.proofs.Laws.Framed.{frame, at-entry, place-entry, child-chain, own-only}
+use Rattle.volume.proofs.Laws.Places.{file-at-path, directory-at-path, path-levels, path-name, place-is, place-home, place-free, place-new, write-given, set-path, set-given}
 use Rattle.volume.proofs.Laws.CreateDirectory.{made-table}
+use Rattle.volume.proofs.Laws.Delete.{deleted-below, deleted-above, deleted-in-use, deleted-once}
+use Rattle.volume.proofs.Laws.Attributes.{old-below, old-used, emptied-length, emptied-next, set-fresh, both-below}
+use Rattle.volume.proofs.Laws.SetClear.{cleared-table, cleared-zero, set-table, set-zero}
 use Rattle.volume.proofs.Laws.Space.{new-fresh, last-below}
 use Rattle.volume.proofs.Laws.Write.{written-table}
 
@@ -144,6 +148,20 @@ module _ (s : List ℕ) (S : Sound s) where
             let v : next s b ≡ 0 = sym (kept b bn out) ∙ z in
             inr (v, blocks-not n bs below b (free-above b v) out)
 
+-- the old chain of a file's attributes was freed, then blocks may have been taken; bs are these and those
+emptied-blanked : (s : List ℕ) (S : Sound s) (e : ℕ) (E : Entry s e) → isFile (typeOf s e) ≡ true → (s′ bs : List ℕ) → Agree s s′ (e / 512 ∷ blocksNamed bs) → ((q : ℕ) → In q bs → q < blockCount s)
+    → ((b : ℕ) → b < blockCount s → next s′ b ≡ 0 → (next (emptied s e) b ≡ 0) × (In b bs → In b (attributeBlocks s e)))
+    → ((b : ℕ) → In b (attributeBlocks s e) → next s′ b ≡ 0 → block s′ b ≡ zeros 512) → Blanked s s′
+emptied-blanked s S e E file s′ bs A below left zero = blanked s S e E s′ (blocksNamed bs) A λ b bn z. go b bn z (true-or-false (has eqb b (attributeBlocks s e)))
+  where
+    go : (b : ℕ) → b < blockCount s → next s′ b ≡ 0 → (has eqb b (attributeBlocks s e) ≡ true) ⊎ (has eqb b (attributeBlocks s e) ≡ false)
+        → ((next s b ≢ 0) × (block s′ b ≡ zeros 512)) ⊎ ((next s b ≡ 0) × (In b (blocksNamed bs) → ⊥))
+    go b bn z (inl h) = let i = has-eqb-in b (attributeBlocks s e) h in inl (old-used s S e E file b i, zero b i z)
+    go b bn z (inr h) =
+        let out : In b (attributeBlocks s e) → ⊥ = λ i. true-not-false (in-has-eqb b (attributeBlocks s e) i) h in
+        let v : next s b ≡ 0 = sym (emptied-next s S e E file b (omega (arith, S .least)) out) ∙ left b bn z .0 in
+        inr (v, blocks-not (blockCount s) bs below b (free-above s S b v) (λ i. out (left b bn z .1 i)))
+
 -- each kind of change
 module _ (s : List ℕ) (ok : check s ≡ 0) where
   abbrev T : Sound s
@@ -206,30 +224,64 @@ module _ (s : List ℕ) (ok : check s ≡ 0) where
       (lastPart (parts path)) (path-name path (b .0)) (place-new s path (i .0)) type user group permissions flags time (f .0) d (g .0) (g .1) (leb-true _ _ (m .0))))
       (λ b z out. blocks-not (blockCount s) new (F .below) b (free-above s T b z) out)
 
-  -- a chain and its entry go
-  chain-blanked : (e : ℕ) → Entry s e → Chain (next s) (blockCount s) (firstBlock s e) (blocksOf s e) → Agree s (deleteAt s e) (e / 512 ∷ blocksNamed (fileBlocks s e)) → Blanked s (deleteAt s e)
-  unfolding fileBlocks deleteAt
-  chain-blanked e E C A =
-      let at = in-chain (next s) (firstBlock s e) (blocksOf s e) in
-      deleted-blanked s T e E (fileBlocks s e) refl A (λ q i. let r = at q i in rw (r .2) (C .below (r .0) (r .1))) (λ q i. let r = at q i in rw (r .2) (C .above (r .0) (r .1)))
-      (λ q i. let r = at q i in rw (r .2) (chain-used (next s) (blockCount s) (firstBlock s e) (blocksOf s e) C (T .least) (r .0) (r .1)))
-      (chain-distinct (next s) (blockCount s) (firstBlock s e) (blocksOf s e) C (T .least))
-
   delete-blanked : (path : List ℕ) → fileRefusal s path ≡ 0 → Blanked s (deleteAt s (entryOf isFile s path))
-  unfolding refusal after named deleteNamed
+  unfolding refusal after named deleteNamed deleteAt entryOf
   delete-blanked path r =
       let A = file-at-path s path r in
-      let E = at-entry s T isFile path A in
-      chain-blanked (entryOf isFile s path) E (chainOk-split _ _ _ _ (file-chained s T (entryOf isFile s path) E (typed A))) (frame s (delete path) ok r .agree)
-    where
-      typed : At isFile s path → isFile (typeOf s (entryOf isFile s path)) ≡ true
-      typed A = unfold entryOf in A .named .typed
+      let N = A .named in
+      let d : ℕ × ℕ = (home s path, A .level) in
+      let k = pathSlot isFile s path in
+      let e : ℕ = slotAt (directory s (home s path)) k in
+      deleted-blanked s T e (at-entry s T isFile path A) (allBlocks s e) refl (frame s (delete path) ok r .agree)
+      (deleted-below s T d (A .home-in) k (N .low) (N .high) (N .typed)) (deleted-above s T d (A .home-in) k (N .low) (N .high) (N .typed))
+      (deleted-in-use s T d (A .home-in) k (N .low) (N .high) (N .typed)) (deleted-once s T d (A .home-in) k (N .low) (N .high) (N .typed))
 
   delete-directory-blanked : (path : List ℕ) → deleteDirectoryRefusal s path ≡ 0 → Blanked s (deleteAt s (entryOf isDirectory s path))
-  unfolding refusal after named deleteNamed deleteDirectoryRefusal
+  unfolding refusal after named deleteNamed deleteDirectoryRefusal deleteAt fileBlocks
   delete-directory-blanked path r =
       let A = directory-at-path s path (firstOf-zero (directoryRefusal s path) _ r .0) in
-      chain-blanked (entryOf isDirectory s path) (at-entry s T isDirectory path A) (child-chain s T path A) (frame s (deleteDirectory path) ok r .agree)
+      let e : ℕ = entryOf isDirectory s path in
+      let C = child-chain s T path A in
+      let is : allBlocks s e ≡ chain (next s) (firstBlock s e) (blocksOf s e) = own-only s T path A in
+      let at : (q : ℕ) → In q (allBlocks s e) → (x : ℕ) × (x < blocksOf s e) × (q ≡ nth (next s) x (firstBlock s e)) = λ q i. in-chain (next s) (firstBlock s e) (blocksOf s e) q (rw is at i) in
+      deleted-blanked s T e (at-entry s T isDirectory path A) (allBlocks s e) refl (frame s (deleteDirectory path) ok r .agree)
+      (λ q i. let x = at q i in rw (x .2) (C .below (x .0) (x .1))) (λ q i. let x = at q i in rw (x .2) (C .above (x .0) (x .1)))
+      (λ q i. let x = at q i in rw (x .2) (chain-used (next s) (blockCount s) (firstBlock s e) (blocksOf s e) C (T .least) (x .0) (x .1)))
+      (rw is (chain-distinct (next s) (blockCount s) (firstBlock s e) (blocksOf s e) C (T .least)))
+
+  -- the attributes of a file
+  clear-blanked : (path : List ℕ) → fileRefusal s path ≡ 0 → Blanked s (clearAttributesAt s (entryOf isFile s path))
+  unfolding refusal after named clearAttributesNamed entryOf
+  clear-blanked path r =
+      let A = file-at-path s path r in
+      let N = A .named in
+      let d : ℕ × ℕ = (home s path, A .level) in
+      let k = pathSlot isFile s path in
+      let e : ℕ = slotAt (directory s (home s path)) k in
+      let E = at-entry s T isFile path A in
+      emptied-blanked s T e E (N .typed) (clearAttributesAt s e) (attributeBlocks s e) (frame s (clearAttributes path) ok r .agree) (old-below s T e E (N .typed))
+      (λ b bn z. (sym (cleared-table s T d (A .home-in) k (N .low) (N .high) (N .typed) b (omega (arith, T .least))) ∙ z, λ i. i))
+      (λ b i z. cleared-zero s T d (A .home-in) k (N .low) (N .high) (N .typed) b i)
+
+  set-blanked : (path bytes : List ℕ) → setAttributesRefusal s path (length bytes) ≡ 0 → Blanked s (setAttributesAt s (entryOf isFile s path) bytes)
+  unfolding refusal after named setAttributesNamed entryOf
+  set-blanked path bytes r =
+      let A = file-at-path s path (set-path s path (length bytes) r) in
+      let R = set-given s path (length bytes) r in
+      let N = A .named in
+      let d : ℕ × ℕ = (home s path, A .level) in
+      let k = pathSlot isFile s path in
+      let e : ℕ = slotAt (directory s (home s path)) k in
+      let E = at-entry s T isFile path A in
+      let old = attributeBlocks s e in
+      let new = newAttributes s e (length bytes) in
+      let F = set-fresh s T e E (N .typed) bytes R in
+      let still : (b : ℕ) → b < blockCount s → next (setAttributesAt s e bytes) b ≡ 0 → (next (emptied s e) b ≡ 0) × (In b new → ⊥) = λ b bn z.
+      grown-free (blockCount s) (T .least) (T .most) new (emptied s e) 0 b (emptied-length s T e E (N .typed)) (omega (arith, T .least)) (λ pos. absurd (omega arith)) F bn
+      (sym (set-table s T d (A .home-in) k (N .low) (N .high) (N .typed) bytes R b (omega (arith, T .least))) ∙ z) in
+      emptied-blanked s T e E (N .typed) (setAttributesAt s e bytes) (old ++ new) (frame s (setAttributes path bytes) ok r .agree) (both-below s T e E (N .typed) bytes R)
+      (λ b bn z. (still b bn z .0, λ i. ⊎-elim (λ j. j) (λ j. absurd (still b bn z .1 j)) (in-append b old new i)))
+      (λ b i z. set-zero s T d (A .home-in) k (N .low) (N .high) (N .typed) bytes R b i (still b (old-below s T e E (N .typed) b i) z .1))
 
 pub blank : (s : List ℕ) (c : Change) → check s ≡ 0 → refusal s c ≡ 0 → Blanked s (after s c)
 unfolding refusal after
@@ -238,3 +290,5 @@ blank s (write path offset bytes time) ok r = write-blanked s ok path offset byt
 blank s (delete path) ok r = delete-blanked s ok path r
 blank s (createDirectory path type user group permissions flags time d) ok r = create-directory-blanked s ok path type user group permissions flags time d r
 blank s (deleteDirectory path) ok r = delete-directory-blanked s ok path r
+blank s (setAttributes path bytes) ok r = set-blanked s ok path bytes r
+blank s (clearAttributes path) ok r = clear-blanked s ok path r

@@ -17,14 +17,16 @@ use Rattle.layout.specs.Paths.{parts, pathOk, leading, lastPart, shallow, home,
 use Rattle.volume.specs.Create.{createRefusal, createImage, placeRefusal}
 use Rattle.volume.specs.Write.{writeAt, writeRefusal}
 use Rattle.volume.specs.Delete.{deleteAt}
+use Rattle.volume.specs.Attributes.{setAttributesAt, clearAttributesAt, setAttributesRefusal}
 use Rattle.volume.specs.Entries.{directoryMade}
 use Rattle.volume.specs.Directories.{createDirectoryRefusal, newDirectoryBlocks, createDirectoryImage, createDirectoryNamed}
 use Rattle.volume.specs.Change.{createDirectory, refusal, after, named}
 use Rattle.volume.proofs.Laws.CreateDirectory.{made-untouched}
 use Rattle.volume.proofs.Laws.Framed.{frame}
-use Rattle.volume.proofs.Laws.Places.{path-levels, file-at-path, write-given, path-name, place-is, place-home, place-free, place-new, place-there}
+use Rattle.volume.proofs.Laws.Places.{path-levels, file-at-path, write-given, set-path, set-given, path-name, place-is, place-home, place-free, place-new, place-there}
 use Rattle.volume.proofs.Laws.Write.{written-file, written-slot, written-next, written-block}
 use Rattle.volume.proofs.Laws.Delete.{deleted-slot, deleted-type, deleted-next, deleted-block}
+use Rattle.volume.proofs.Laws.SetClear.{cleared-slot, cleared-entry, cleared-next, cleared-block, set-slot, set-entry, set-next, set-block}
 use Rattle.volume.proofs.Laws.Create.{created-slot, created-no-dir, created-name, created-next, created-block}
 use Rattle.layout.proofs.Laws.Tests.{and-split, is-false, true-not-false, require-zero, firstOf-zero, within-split}
 use Rattle.layout.proofs.Laws.Names.{same-eq}
@@ -44,6 +46,7 @@ deep-untouched s s′ other f =
       bytes = λ r. absurd (true-not-false (r .0) f);
       blocks = λ r. absurd (true-not-false (r .0) f);
       contents = λ r. absurd (true-not-false (r .0) f);
+      second = λ r. absurd (true-not-false (r .0) f);
     }
 
 -- the entry of a path is no file of another path's name
@@ -80,8 +83,8 @@ module _ (s path other : List ℕ) (ok : check s ≡ 0) (good : pathOk other ≡
       untouched s (writeAt s e offset bytes time) S d (A .home-in) k (N .low) (N .high)
       (written-slot s S d (A .home-in) k (N .low) (N .high) (N .typed) offset bytes time (G .room))
       (file-no-dir (typeOf s e) (N .typed)) (rw (W .type) (file-no-dir (typeOf s e) (N .typed)))
-      (written-next s S d (A .home-in) k (N .low) (N .high) (N .typed) offset bytes time (G .room))
-      (written-block s S d (A .home-in) k (N .low) (N .high) (N .typed) offset bytes time (G .room))
+      (λ a O p q no-self x i. written-next s S d (A .home-in) k (N .low) (N .high) (N .typed) offset bytes time (G .room) a O p x i)
+      (λ a O p q no-self x i. written-block s S d (A .home-in) k (N .low) (N .high) (N .typed) offset bytes time (G .room) a O p x i no-self)
       other (beside s s e path other (N .named) p) (beside s (writeAt s e offset bytes time) e path other (W .name ∙ N .named) p)
 
   pub delete-untouched : fileRefusal s path ≡ 0 → Untouched s (deleteAt s (entryOf isFile s path)) other
@@ -98,7 +101,7 @@ module _ (s path other : List ℕ) (ok : check s ≡ 0) (good : pathOk other ≡
       (deleted-slot s S d (A .home-in) k (N .low) (N .high) (N .typed))
       (file-no-dir (typeOf s e) (N .typed)) (rw z)
       (deleted-next s S d (A .home-in) k (N .low) (N .high) (N .typed))
-      (λ a E q f x g. deleted-block s S d (A .home-in) k (N .low) (N .high) (N .typed) a E q x g f)
+      (deleted-block s S d (A .home-in) k (N .low) (N .high) (N .typed))
       other (beside s s e path other (N .named) p) (inr (no-file (deleteAt s e) e (lastPart (parts other)) z))
 
   pub create-untouched : (type user group permissions flags time : ℕ) → createRefusal s path type ≡ 0 → Untouched s (createImage s path type user group permissions flags time) other
@@ -120,10 +123,45 @@ module _ (s path other : List ℕ) (ok : check s ≡ 0) (good : pathOk other ≡
       (untouched s _ S d di k (w .0) (w .1)
       (created-slot s S d di k (w .0) (w .1) (w .2) name gn new type user group permissions flags time (b .1))
       (rw (w .2)) (created-no-dir s S d di k (w .0) (w .1) (w .2) name gn new type user group permissions flags time (b .1))
-      (λ x E q. created-next s S d di k (w .0) (w .1) (w .2) name gn new type user group permissions flags time (b .1) x E)
-      (λ x E q f y g. created-block s S d di k (w .0) (w .1) (w .2) name gn new type user group permissions flags time (b .1) x E y g f)
+      (λ x O p₁ q₁ no-self y i. created-next s S d di k (w .0) (w .1) (w .2) name gn new type user group permissions flags time (b .1) x O y i)
+      (λ x O p₁ q₁ no-self y i. created-block s S d di k (w .0) (w .1) (w .2) name gn new type user group permissions flags time (b .1) x O y i no-self)
       other (inr (no-file s e (lastPart (parts other)) (w .2)))
       (beside s _ e path other (created-name s S d di k (w .0) (w .1) (w .2) name gn new type user group permissions flags time (b .1)) p))
+
+  pub set-untouched : (bytes : List ℕ) → setAttributesRefusal s path (length bytes) ≡ 0 → Untouched s (setAttributesAt s (entryOf isFile s path) bytes) other
+  unfolding entryOf
+  set-untouched bytes r = by-depth (setAttributesAt s (entryOf isFile s path) bytes) λ v.
+      let A = file-at-path s path (set-path s path (length bytes) r) in
+      let R = set-given s path (length bytes) r in
+      let N = A .named in
+      let d : ℕ × ℕ = (home s path, A .level) in
+      let k : ℕ = pathSlot isFile s path in
+      let e : ℕ = slotAt (directory s (home s path)) k in
+      let K = set-entry s S d (A .home-in) k (N .low) (N .high) (N .typed) bytes R in
+      let p = other-path s S path other (A .good) good (A .short) v (A .there) ne in
+      untouched s (setAttributesAt s e bytes) S d (A .home-in) k (N .low) (N .high)
+      (set-slot s S d (A .home-in) k (N .low) (N .high) (N .typed) bytes R)
+      (file-no-dir (typeOf s e) (N .typed)) (rw (K .type) (file-no-dir (typeOf s e) (N .typed)))
+      (λ a O p₁ q₁. set-next s S d (A .home-in) k (N .low) (N .high) (N .typed) bytes R a O q₁)
+      (λ a O p₁ q₁. set-block s S d (A .home-in) k (N .low) (N .high) (N .typed) bytes R a O q₁)
+      other (beside s s e path other (N .named) p) (beside s (setAttributesAt s e bytes) e path other (K .name ∙ N .named) p)
+
+  pub clear-untouched : fileRefusal s path ≡ 0 → Untouched s (clearAttributesAt s (entryOf isFile s path)) other
+  unfolding entryOf
+  clear-untouched r = by-depth (clearAttributesAt s (entryOf isFile s path)) λ v.
+      let A = file-at-path s path r in
+      let N = A .named in
+      let d : ℕ × ℕ = (home s path, A .level) in
+      let k : ℕ = pathSlot isFile s path in
+      let e : ℕ = slotAt (directory s (home s path)) k in
+      let K = cleared-entry s S d (A .home-in) k (N .low) (N .high) (N .typed) in
+      let p = other-path s S path other (A .good) good (A .short) v (A .there) ne in
+      untouched s (clearAttributesAt s e) S d (A .home-in) k (N .low) (N .high)
+      (cleared-slot s S d (A .home-in) k (N .low) (N .high) (N .typed))
+      (file-no-dir (typeOf s e) (N .typed)) (rw (K .type) (file-no-dir (typeOf s e) (N .typed)))
+      (λ a O p₁ q₁. cleared-next s S d (A .home-in) k (N .low) (N .high) (N .typed) a O q₁)
+      (λ a O p₁ q₁. cleared-block s S d (A .home-in) k (N .low) (N .high) (N .typed) a O q₁)
+      other (beside s s e path other (N .named) p) (beside s (clearAttributesAt s e) e path other (K .name ∙ N .named) p)
 
 -- a directory created: the file of every path stays
 pub create-directory-untouched : (s path other : List ℕ) → check s ≡ 0 → (type user group permissions flags time d : ℕ) → createDirectoryRefusal s path type d ≡ 0

@@ -8,8 +8,8 @@ use native.Mathlib.Omega.{arith}
 use lib.ListN.{length}
 use Rattle.layout.specs.Limits.{maxLevels}
 use Rattle.layout.specs.Bytes.{be32, bytes4, part, splice, block}
-use Rattle.layout.specs.Directory.{slotAt, typeOf, firstBlock, blocksOf, isFree, isFile, isDirectory, padded, nameOf, goodName, directory, dirs, freeSlot}
-use Rattle.layout.specs.Check.{attributesOk, fileOk, slotOk, check}
+use Rattle.layout.specs.Directory.{slotAt, typeOf, firstBlock, isFree, isFile, isDirectory, padded, nameOf, goodName, directory, dirs, freeSlot}
+use Rattle.layout.specs.Check.{noAttributes, attributesOk, fileOk, slotOk, check}
 use Rattle.layout.specs.Paths.{parts, pathOk, leading, lastPart, shallow, home}
 use Rattle.volume.specs.Entries.{entryBytes}
 use Rattle.volume.specs.Create.{createRefusal, createImage}
@@ -21,15 +21,14 @@ use Rattle.layout.proofs.Laws.Names.{padded-length, name-is, name-ok}
 use Rattle.layout.proofs.Laws.Lists.{In}
 use Rattle.layout.proofs.Laws.Frames.{same-beside, Same, before-next}
 use Rattle.layout.proofs.Laws.Trees.{sizeAt}
-use Rattle.layout.proofs.Laws.Sound.{heldAt, Sound, Entry, sound, check-zero}
+use Rattle.layout.proofs.Laws.Sound.{heldAt, own-held, second-held, Sound, Entry, Owner, sound, check-zero}
 use Rattle.layout.proofs.Laws.Slots.{slot-entry, right-dir, entry-high, entry-low}
-use Rattle.layout.proofs.Laws.Owners.{file-held, free-held, file-no-self, held-below, entry-elsewhere, tree-apart}
+use Rattle.layout.proofs.Laws.Owners.{blocksAt, file-held, none-held, none-second, entry-elsewhere, block-below, block-outside}
 use Rattle.layout.proofs.Laws.Visits.{dirBlocks}
-use Rattle.layout.proofs.Laws.Chains.{nth}
 use Rattle.layout.proofs.Laws.Changed.{OneSlot}
 use Rattle.layout.specs.Table.{next}
 use Rattle.layout.specs.Geometry.{blockCount, rootBlock}
-use Rattle.layout.proofs.Laws.Steps.{midway-start, midway-end, one-slot}
+use Rattle.layout.proofs.Laws.Steps.{midway-start, midway-own, one-slot}
 
 -- a good name in a free slot k of a directory d of the tree, in which no slot has that name
 module _ (s : List ℕ) (S : Sound s) (d : ℕ × ℕ) (di : In d (dirs s)) (k : ℕ) (k₁ : 1 ≤ k) (k₂ : k < 4 * sizeAt s (d .0) - 1) (free : typeOf s (slotAt (directory s (d .0)) k) ≡ 0)
@@ -68,7 +67,7 @@ module _ (s : List ℕ) (S : Sound s) (d : ℕ × ℕ) (di : In d (dirs s)) (k :
     field = entry-named name eighty type user group permissions 0 0 0 time flags s e fits
 
     slot-ok : slotOk done e ≡ true
-    unfolding slotOk fileOk attributesOk be32 bytes4
+    unfolding slotOk fileOk attributesOk noAttributes be32 bytes4
     slot-ok =
         rw (
           name-ok name good done e field,
@@ -89,20 +88,31 @@ module _ (s : List ℕ) (S : Sound s) (d : ℕ × ℕ) (di : In d (dirs s)) (k :
     no-dir = rw done-type (is-false (isDirectory type) (λ t. let a = within-split 0x20 0x5F type t in let b = within-split 0x60 0x9F type file in omega arith))
 
     held-none : heldAt s e ≡ 0
-    held-none = free-held (typeOf s e) (blocksOf s e) free
+    held-none = none-held s e (mine .aligned) (rw free)
 
     held-new : heldAt done e ≡ heldAt s e
     unfolding be32 bytes4
-    held-new = rw (done-type, entry-blocks name eighty type user group permissions 0 0 0 time flags s e fits) (file-held type 0 file ∙ sym held-none)
+    held-new =
+        own-held done e (mine .aligned) ∙ (rw (done-type, entry-blocks name eighty type user group permissions 0 0 0 time flags s e fits) (file-held type 0 file)) ∙ sym held-none
+
+    second-none : heldAt s (e + 28) ≡ 0
+    second-none = none-second s e (mine .aligned) (rw free)
+
+    second-new : heldAt done (e + 28) ≡ heldAt s (e + 28)
+    unfolding be32 bytes4
+    second-new =
+        second-held done e (mine .aligned) ∙ (rw (done-type, file, entry-attribute-size name eighty type user group permissions 0 0 0 time flags s e fits)) ∙ sym second-none
 
     pub created-sound : Sound done
     created-sound =
-        midway-end s S d di k k₁ k₂ s (firstBlock s e) (heldAt s e) (midway-start s S e mine no-self) done (length-splice s e p (omega (arith, long, fits))) outside
+        midway-own s S d di k k₁ k₂ s (firstBlock s e) (heldAt s e) (midway-start s S e (inl mine) no-self) done (length-splice s e p (omega (arith, long, fits))) outside
         (rw free) no-dir slot-ok (λ u j h g ne used q. none j h g used (sym (name-is name good done e field) ∙ q)) (λ pos. absurd (omega (arith, held-none))) held-new
+        second-new (λ pos. absurd (omega (arith, second-none)))
 
-    -- every other entry stays, with its blocks
+    -- every other entry stays, and every owner's blocks
     pub created-slot : OneSlot s (dirs s) done e
-    created-slot = one-slot s S d di k k₁ k₂ s (firstBlock s e) (heldAt s e) (midway-start s S e mine no-self) done (length-splice s e p (omega (arith, long, fits))) outside
+    created-slot =
+        one-slot s S d di k k₁ k₂ (firstBlock s) (heldAt s) e s (firstBlock s e) (heldAt s e) (midway-start s S e (inl mine) no-self) done (length-splice s e p (omega (arith, long, fits))) outside
 
     pub created-no-dir : isDirectory (typeOf done e) ≡ false
     created-no-dir = no-dir
@@ -110,17 +120,14 @@ module _ (s : List ℕ) (S : Sound s) (d : ℕ × ℕ) (di : In d (dirs s)) (k :
     pub created-name : nameOf done e ≡ name
     created-name = name-is name good done e field
 
-    module _ (a : ℕ) (A : Entry s a) (x : ℕ) (g : x < heldAt s a) where
-      abbrev q : ℕ
-      q = nth (next s) x (firstBlock s a)
-
+    module _ (a : ℕ) (A : Owner s a) (q : ℕ) (i : In q (blocksAt s a)) where
       pub created-next : next done q ≡ next s q
-      created-next = before-next s done (blockCount s) (outside 0 (512 * rootBlock (blockCount s)) (inl (omega (arith, entry-low s S e mine)))) q (omega (arith, held-below s S a A x g))
+      created-next = before-next s done (blockCount s) (outside 0 (512 * rootBlock (blockCount s)) (inl (omega (arith, entry-low s S e mine)))) q (omega (arith, block-below s S a A q i))
 
-      pub created-block : isFile (typeOf s a) ≡ true → block done q ≡ block s q
-      created-block f =
-          entry-elsewhere s S e mine s done refl (length-splice s e p (omega (arith, long, fits))) outside q (held-below s S a A x g)
-          (λ z. tree-apart s S a A x g (file-no-self s S a A f) (subst (λ (y : ℕ). In y (dirBlocks s)) z (mine .within-tree)))
+      pub created-block : ((x : ℕ × ℕ) → In x (dirs s) → a ≢ 512 * x .0) → block done q ≡ block s q
+      created-block apart =
+          entry-elsewhere s S e mine s done refl (length-splice s e p (omega (arith, long, fits))) outside q (block-below s S a A q i)
+          (λ z. block-outside s S a A apart q i (subst (λ (y : ℕ). In y (dirBlocks s)) z (mine .within-tree)))
 
 pub kept-create : (s path : List ℕ) (type user group permissions flags time : ℕ) → check s ≡ 0 → createRefusal s path type ≡ 0
     → check (createImage s path type user group permissions flags time) ≡ 0

@@ -17,7 +17,7 @@ use Rattle.layout.specs.Bytes.{be32, bytes4, bytes8, part, block, zeros, splice
 use Rattle.layout.specs.Geometry.{blockCount, tableBlocks, rootBlock}
 use Rattle.layout.specs.Table.{next, chain, freeBlocks}
 use Rattle.layout.specs.Directory.{slotAt, typeOf, firstBlock, sizeOf, blocksOf, isFree, isFile, isDirectory, padded, nameOf, goodName, directory, dirs, freeSlot}
-use Rattle.layout.specs.Check.{attributesOk, fileOk, directoryEntryOk, slotOk, check}
+use Rattle.layout.specs.Check.{noAttributes, fileOk, directoryEntryOk, slotOk, check}
 use Rattle.layout.specs.Paths.{parts, pathOk, leading, lastPart, shallow, home}
 use Rattle.volume.specs.Entries.{entryBytes, directoryMade, grown, blocksNamed}
 use Rattle.volume.specs.Views.{folderOf}
@@ -25,27 +25,27 @@ use Rattle.volume.specs.Create.{placeRefusal}
 use Rattle.volume.specs.Directories.{createDirectoryRefusal, newDirectoryBlocks, createDirectoryImage}
 use Rattle.volume.proofs.Laws.Entries.{entry-type, entry-first, entry-size, entry-blocks, entry-attribute, entry-attribute-size, entry-named, entry-length}
 use Rattle.volume.proofs.Laws.Places.{path-levels, path-name, place-is, place-home, place-free, place-new}
-use Rattle.volume.proofs.Laws.Taken.{taken-many, taken-far, taken-none, taken-midway, taken-chain}
+use Rattle.volume.proofs.Laws.Taken.{taken-many, taken-far, taken-none, taken-no-owner, taken-midway, taken-chain}
 use Rattle.volume.proofs.Laws.Data.{grown-zero}
 use Rattle.layout.proofs.Laws.Bytes.{part-same, length-splice, splice-first, be32-bytes4, getD-part, getD-zeros}
 use Rattle.layout.proofs.Laws.Tests.{and-split, require-zero, firstOf-zero, within-split, lt-or-gt}
 use Rattle.layout.proofs.Laws.Names.{padded-length, name-is, name-ok}
 use Rattle.layout.proofs.Laws.Lists.{In, getD-in}
-use Rattle.layout.proofs.Laws.Frames.{Same, same-then, same-beside, same-below, same-inside, same-be32, before-next, Agree, agree-block}
+use Rattle.layout.proofs.Laws.Frames.{Same, same-then, same-beside, same-below, same-inside, same-be32, before-next, Agree}
 use Rattle.layout.proofs.Laws.Counts.{occupied-most}
 use Rattle.layout.proofs.Laws.Entries.{same-type, same-field, same-name-field}
 use Rattle.layout.proofs.Laws.Chains.{nth, getD-chain, chain-agree, nth-agree, Chain, chain-differ}
 use Rattle.layout.proofs.Laws.Visits.{dirBlocks}
 use Rattle.layout.proofs.Laws.Trees.{sizeAt, Directory}
-use Rattle.layout.proofs.Laws.Sound.{heldAt, Sound, Entry, sound, check-zero}
+use Rattle.layout.proofs.Laws.Sound.{heldAt, Sound, Entry, Owner, sound, check-zero}
 use Rattle.layout.proofs.Laws.Slots.{slot-entry, right-dir, entry-high, entry-low}
 use Rattle.layout.proofs.Laws.Files.{joined-block}
-use Rattle.layout.proofs.Laws.Owners.{Fresh, free-fresh, entry-beside, held-used, held-below, held-above, tree-apart, file-no-self}
+use Rattle.layout.proofs.Laws.Owners.{blocksAt, Fresh, free-fresh, entry-beside, block-used}
 use Rattle.layout.proofs.Laws.Steps.{over-same, Midway, bytes-step}
 use Rattle.layout.proofs.Laws.Empties.{Empty, OneMore, staying-more, last-slot, directory-made, made-dirs}
 use Rattle.layout.proofs.Laws.Changed.{OneSlot}
 use Rattle.layout.proofs.Laws.Newcomers.{newcomer-untouched}
-use Rattle.volume.proofs.Laws.Frame.{blocks-not}
+use Rattle.volume.proofs.Laws.Unchanged.{value-kept, block-kept}
 use Rattle.volume.proofs.Laws.Table.{grown-next, grown-used}
 
 -- a free slot k of the directory b₀ of the tree, a good name that none has there, d blocks free
@@ -85,6 +85,9 @@ module _ (s : List ℕ) (S : Sound s) (b₀ j : ℕ) (i₀ : In (b₀, suc j) (d
     none₁ : Entry s (512 * b₁) → ⊥
     none₁ = taken-none s S d d₁ room
 
+    none₂ : Owner s (512 * b₁) → ⊥
+    none₂ = taken-no-owner s S d d₁ room
+
     abbrev P : ℕ → Type 0
     P = OneMore s (512 * b₁)
 
@@ -92,14 +95,14 @@ module _ (s : List ℕ) (S : Sound s) (b₀ j : ℕ) (i₀ : In (b₀, suc j) (d
     larger = grown s n 0 new
 
     -- the blocks are taken, as the chain of the new self entry
-    I₁ : Midway s (dirs s) P (512 * b₁) larger b₁ d
+    I₁ : Midway s (dirs s) P (firstBlock s) (heldAt s) (512 * b₁) larger b₁ d
     I₁ = taken-midway s S d d₁ room
 
     chained : chain (next larger) b₁ d ≡ new
     chained = taken-chain s S d d₁ room
 
     right₁ : Chain (next larger) n b₁ d
-    right₁ = rw (over-same (512 * b₁) b₁ (firstBlock s), over-same (512 * b₁) d (heldAt s)) at (I₁ .table .right (512 * b₁) (staying-more s S (512 * b₁) none₁ .owner))
+    right₁ = rw (over-same (512 * b₁) b₁ (firstBlock s), over-same (512 * b₁) d (heldAt s)) at (I₁ .table .right (512 * b₁) (staying-more s S (512 * b₁) none₂ .owner))
 
     abbrev B : ℕ → ℕ
     B x = nth (next larger) x b₁
@@ -150,9 +153,9 @@ module _ (s : List ℕ) (S : Sound s) (b₀ j : ℕ) (i₀ : In (b₀, suc j) (d
     fits₁ : 512 * b₁ + 128 ≤ length larger
     fits₁ = omega (arith, b₁-below, long-larger)
 
-    I₂ : Midway s (dirs s) P (512 * b₁) t₁ b₁ d
+    I₂ : Midway s (dirs s) P (firstBlock s) (heldAt s) (512 * b₁) t₁ b₁ d
     I₂ =
-        bytes-step s S (dirs s) P (512 * b₁) (staying-more s S (512 * b₁) none₁) larger b₁ d I₁ b₁ (F .above b₁ first-in) b₁-below (far b₁ first-in) (512 * b₁) p₁ (omega arith) (omega (arith, long₁))
+        bytes-step s S (dirs s) P (firstBlock s) (heldAt s) (512 * b₁) (staying-more s S (512 * b₁) none₂) larger b₁ d I₁ b₁ (F .above b₁ first-in) b₁-below (far b₁ first-in) (512 * b₁) p₁ (omega arith) (omega (arith, long₁))
 
     -- the end type
     abbrev last : ℕ
@@ -183,9 +186,9 @@ module _ (s : List ℕ) (S : Sound s) (b₀ j : ℕ) (i₀ : In (b₀, suc j) (d
     fits₂ : last + length ends ≤ length t₁
     fits₂ = omega (arith, last-is, F .below (B (d - 1)) last-in, I₂ .len, S .whole, one-byte)
 
-    I₃ : Midway s (dirs s) P (512 * b₁) made b₁ d
+    I₃ : Midway s (dirs s) P (firstBlock s) (heldAt s) (512 * b₁) made b₁ d
     I₃ =
-        bytes-step s S (dirs s) P (512 * b₁) (staying-more s S (512 * b₁) none₁) t₁ b₁ d I₂ (B (d - 1)) (F .above (B (d - 1)) last-in) (F .below (B (d - 1)) last-in)
+        bytes-step s S (dirs s) P (firstBlock s) (heldAt s) (512 * b₁) (staying-more s S (512 * b₁) none₂) t₁ b₁ d I₂ (B (d - 1)) (F .above (B (d - 1)) last-in) (F .below (B (d - 1)) last-in)
         (far (B (d - 1)) last-in) last ends (omega (arith, last-is)) (omega (arith, last-is, one-byte))
 
     -- the slot
@@ -364,7 +367,7 @@ module _ (s : List ℕ) (S : Sound s) (b₀ j : ℕ) (i₀ : In (b₀, suc j) (d
     e-size = entry-size name eighty type user group permissions b₁ 0 d time flags made e fits₃ ∙ be32-bytes4 0 (omega arith)
 
     e-ok : slotOk t′ e ≡ true
-    unfolding slotOk directoryEntryOk attributesOk
+    unfolding slotOk directoryEntryOk noAttributes
     e-ok =
         rw (
           name-ok name good t′ e e-field,
@@ -389,36 +392,22 @@ module _ (s : List ℕ) (S : Sound s) (b₀ j : ℕ) (i₀ : In (b₀, suc j) (d
 
     -- the files of all paths stay
     pub made-slot : OneSlot s (dirs s) t′ e
-    made-slot = last-slot s S b₀ j i₀ k k₁ k₂ (dirs s) (λ x i. i) P (512 * b₁) made b₁ d I₃ t′ len′ outside
+    made-slot = last-slot s S b₀ j i₀ k k₁ k₂ (dirs s) (λ x i. i) P (firstBlock s) (heldAt s) (512 * b₁) made b₁ d I₃ t′ len′ outside
 
-    module _ (a : ℕ) (A : Entry s a) (x : ℕ) (g : x < heldAt s a) where
-      abbrev q : ℕ
-      q = nth (next s) x (firstBlock s a)
+    -- the table's entries and the blocks of every owner stay
+    made-values : (y : ℕ) → y < 128 * tableBlocks n → (In y new → ⊥) → next t′ y ≡ next s y
+    made-values y h ne =
+        made-table y h ∙ grown-next n (S .least) new s 0 y (S .whole) (omega (arith, S .least)) (F .below) (F .above) h ne (λ pos. absurd (omega arith))
 
-      not-new : In q new → ⊥
-      not-new i = held-used s S a A x g (F .empty q i)
-
-      made-next : next t′ q ≡ next s q
-      made-next =
-          made-table q (omega (arith, held-below s S a A x g))
-          ∙ grown-next n (S .least) new s 0 q (S .whole) (omega (arith, S .least)) (F .below) (F .above) (omega (arith, held-below s S a A x g)) not-new (λ pos. absurd (omega arith))
-
-      -- a block that is neither taken nor the entry's stays
-      made-block : Agree s t′ (e / 512 ∷ blocksNamed new) → isFile (typeOf s a) ≡ true → block t′ q ≡ block s q
-      made-block G f = agree-block q G named-not
-        where
-          named-not : In q (e / 512 ∷ blocksNamed new) → ⊥
-          named-not (inl z) = tree-apart s S a A x g (file-no-self s S a A f) (subst (λ (y : ℕ). In y (dirBlocks s)) (sym z) (mine .within-tree))
-          named-not (inr m) = blocks-not n new (F .below) q (held-above s S a A x g) not-new m
+    not-taken : (a : ℕ) → Owner s a → (q : ℕ) → In q (blocksAt s a) → In q new → ⊥
+    not-taken a A q i m = block-used s S a A q i (F .empty q m)
 
     pub made-untouched : Agree s t′ (e / 512 ∷ blocksNamed new) → (other : List ℕ) → Untouched s t′ other
     made-untouched G other =
         newcomer-untouched s t′ S b₀ j i₀ k k₁ k₂ made-slot free (rw e-type dir) (rw e-first bare)
         (λ x h g ne used q. none x h g used (sym (name-is name good t′ e e-field) ∙ q))
-        (λ a A ne x g. made-next a A x g) (λ a A ne f x g. made-block a A x g G f) other
-
-    pub made-inserted : Inserted (firstBlock t′ e, j) (dirs s) (dirs t′)
-    made-inserted = rw e-first made-tree
+        (λ a A p r apart. value-kept s S e mine new t′ G (F .below) made-values a A apart (not-taken a A))
+        (λ a A p r apart. block-kept s S e mine new t′ G (F .below) made-values a A apart (not-taken a A)) other
 
     -- what the new entry shows, and the blocks in use
     pub made-dir : isDirectory (typeOf t′ e) ≡ true
@@ -455,6 +444,9 @@ module _ (s : List ℕ) (S : Sound s) (b₀ j : ℕ) (i₀ : In (b₀, suc j) (d
         ∙ same-be32 t₁ made 0 28 20 (same-below t₁ last ends fits₂ 0 28 (omega arith)) (omega arith) (omega arith)
         ∙ same-be32 larger t₁ 0 28 20 (same-below larger (512 * b₁) p₁ (omega (arith, long₁, fits₁)) 0 28 (omega arith)) (omega arith) (omega arith)
         ∙ g ∙ ap (λ (x : ℕ). be32 s 20 + x) many
+
+    pub made-inserted : Inserted (firstBlock t′ e, j) (dirs s) (dirs t′)
+    made-inserted = rw e-first made-tree
 
 pub kept-create-directory : (s path : List ℕ) (type user group permissions flags time d : ℕ) → check s ≡ 0 → createDirectoryRefusal s path type d ≡ 0
     → check (createDirectoryImage s path type user group permissions flags time d) ≡ 0

@@ -2,8 +2,8 @@
 use Prim.Native.Nat.{ℕ, suc, _+_, _-_, _*_, _/_, _≤_, _<_}
 use mathlib.Core.Path.{_≡_, refl, sym, ap, _∙_, subst}
 use mathlib.Core.Bool.{true, false, not}
-use mathlib.Core.List.{List, [], _∷_, _++_}
-use mathlib.Core.Logic.{_⊎_, inl, inr, ⊎-elim, _≢_}
+use mathlib.Core.List.{List, [], _∷_, _++_, append-nil}
+use mathlib.Core.Logic.{inl, inr, ⊎-elim, _≢_}
 use native.Mathlib.Omega.{arith}
 use lib.ListN.{length}
 use lib.Dec.{eqb}
@@ -14,11 +14,11 @@ use Rattle.layout.specs.Lists.{distinct}
 use Rattle.layout.specs.Bytes.{be32, zeros, splice, block}
 use Rattle.layout.specs.Geometry.{blockCount, tableBlocks, rootBlock}
 use Rattle.layout.specs.Table.{next}
-use Rattle.layout.specs.Directory.{slotAt, slots, typeOf, firstBlock, blocksOf, isFree, isFile, isDirectory, isEmpty, nameOf, directory, children, dirs, fileBlocks}
+use Rattle.layout.specs.Directory.{slotAt, slots, typeOf, firstBlock, blocksOf, isFree, isDirectory, isEmpty, nameOf, directory, children, dirs, fileBlocks, attributeBlocks}
 use Rattle.layout.specs.Check.{check}
 use Rattle.layout.specs.Paths.{parts, pathOk, leading, shallow, home, pathSlot, entryOf, directoryRefusal}
 use Rattle.volume.specs.Entries.{released, blocksNamed}
-use Rattle.volume.specs.Delete.{deleteAt}
+use Rattle.volume.specs.Delete.{allBlocks, deleteAt}
 use Rattle.volume.specs.Directories.{deleteDirectoryRefusal}
 use Rattle.volume.proofs.Laws.Release.{released-steps}
 use Rattle.volume.proofs.Laws.Delete.{zeroed-length, zeroed-outside, zeroed-type}
@@ -27,11 +27,11 @@ use Rattle.layout.proofs.Laws.Tests.{require-zero, firstOf-zero, within-split}
 use Rattle.layout.proofs.Laws.Lists.{In, every-in}
 use Rattle.layout.proofs.Laws.Frames.{same-be32, before-next, Agree, agree-block}
 use Rattle.layout.proofs.Laws.Trees.{sizeAt, Directory, childOk-split, length-directory, in-directory, same-dir}
-use Rattle.layout.proofs.Laws.Sound.{heldAt, Sound, Entry, sound, check-zero}
-use Rattle.layout.proofs.Laws.Slots.{slot-entry, slot-entry-in, slot-other, slots-in, children-in, right-dir, entry-high, entry-low, names-differ}
-use Rattle.layout.proofs.Laws.Owners.{file-no-self, held-above, held-below, held-used, tree-apart}
+use Rattle.layout.proofs.Laws.Sound.{heldAt, Sound, Entry, Owner, sound, check-zero}
+use Rattle.layout.proofs.Laws.Slots.{slot-ok, slot-entry, slot-entry-in, slot-other, slots-in, children-in, right-dir, entry-high, entry-low, names-differ}
+use Rattle.layout.proofs.Laws.Owners.{blocksAt, directory-slot-ok, directory-attributes, block-high, block-below, block-used, block-outside}
 use Rattle.layout.proofs.Laws.Visits.{blocksIn, dirBlocks}
-use Rattle.layout.proofs.Laws.Chains.{nth, chain-used, chain-distinct}
+use Rattle.layout.proofs.Laws.Chains.{chain-used, chain-distinct}
 use Rattle.layout.proofs.Laws.Changed.{OneSlot, blocks-stay, size-stays, type-stays, name-stays}
 use Rattle.volume.proofs.Laws.Frame.{blocks-not}
 use Rattle.volume.proofs.Laws.Table.{released-at, released-next, released-occupied}
@@ -42,7 +42,6 @@ use Rattle.layout.proofs.Laws.Goes.{gone-in, dir-kept, entry-ks}
 use Rattle.layout.proofs.Laws.Steps.{Midway}
 use Rattle.layout.proofs.Laws.Empties.{Empty, empty-leaf, last-slot, staying-less, midway-less, directory-removed, removed-dirs}
 use Rattle.layout.proofs.Laws.Paths.{path-named, path-home}
-use Rattle.layout.proofs.Laws.Files.{length-fileBlocks}
 use Rattle.layout.proofs.Laws.Newcomers.{newcomer-untouched}
 
 -- an empty directory, whose entry is slot k of the directory b₀
@@ -80,13 +79,22 @@ module _ (s : List ℕ) (S : Sound s) (b₀ j : ℕ) (i₀ : In (b₀, suc j) (d
     same-blocks : blocksOf s e₀ ≡ sizeAt s c
     same-blocks = sym (childOk-split s (blockCount s) b₀ e₀ (S .tree .local (b₀, suc j) i₀ .child e₀ (children-in s b₀ k k₁ k₂ was)) .1)
 
-    abbrev smaller : List ℕ
-    smaller = released s (blockCount s) (fileBlocks s e₀)
+    -- its blocks: it has no attributes
+    pub removed-attributes : attributeBlocks s (slotAt (directory s b₀) k) ≡ []
+    removed-attributes = directory-attributes s e₀ (directory-slot-ok s e₀ was (slot-ok s S (b₀, suc j) i₀ k k₁ k₂)) .1
 
-    released-all : (z : ℕ) × Midway s ks (Entry s) (512 * c) smaller z 0
-    unfolding fileBlocks
+    own-blocks : allBlocks s e₀ ≡ directory s c
+    unfolding allBlocks directory fileBlocks
+    own-blocks = rw removed-attributes (append-nil (fileBlocks s e₀) ∙ rw same-blocks)
+
+    abbrev smaller : List ℕ
+    smaller = released s (blockCount s) (allBlocks s e₀)
+
+    released-all : (z : ℕ) × Midway s ks (Owner s) (firstBlock s) (heldAt s) (512 * c) smaller z 0
+    unfolding directory
     released-all =
-        rw same-blocks (released-steps s S ks (Entry s) (512 * c) (staying-less s S b₀ j i₀ k k₁ k₂ was empty ks cut) (sizeAt s c) s c (midway-less s S b₀ j i₀ k k₁ k₂ was empty ks cut))
+        rw own-blocks
+        (released-steps s S ks (Owner s) (firstBlock s) (heldAt s) (512 * c) (staying-less s S b₀ j i₀ k k₁ k₂ was empty ks cut) (sizeAt s c) s c (midway-less s S b₀ j i₀ k k₁ k₂ was empty ks cut))
 
     room : e₀ + 128 ≤ length smaller
     room = omega (arith, entry-high s S e₀ (slot-entry s S (b₀, suc j) i₀ k (omega arith)), released-all .1 .len)
@@ -102,25 +110,20 @@ module _ (s : List ℕ) (S : Sound s) (b₀ j : ℕ) (i₀ : In (b₀, suc j) (d
     removed-tree =
         removed-dirs s S b₀ j i₀ k k₁ k₂ was empty ks cut smaller (released-all .0) (released-all .1) (deleteAt s e₀) (zeroed-length smaller e₀ room) (zeroed-outside smaller e₀ room) (zeroed-type smaller e₀ room)
 
-    -- its blocks
-    own-blocks : fileBlocks s e₀ ≡ directory s c
-    unfolding fileBlocks directory
-    own-blocks = rw same-blocks
-
     D : Directory s (blockCount s) c (right-dir s S (c, j) gone .0)
     D = right-dir s S (c, j) gone .1
 
-    within : (q : ℕ) → In q (fileBlocks s e₀) → q < blockCount s
+    within : (q : ℕ) → In q (allBlocks s e₀) → q < blockCount s
     within q i = let x = in-directory s c q (rw own-blocks at i) in rw (x .2) (D .chained .below (x .0) (x .1))
 
-    beyond : (q : ℕ) → In q (fileBlocks s e₀) → tableBlocks (blockCount s) < q
+    beyond : (q : ℕ) → In q (allBlocks s e₀) → tableBlocks (blockCount s) < q
     beyond q i = let x = in-directory s c q (rw own-blocks at i) in rw (x .2) (D .chained .above (x .0) (x .1))
 
-    once : distinct eqb (fileBlocks s e₀) ≡ true
+    once : distinct eqb (allBlocks s e₀) ≡ true
     unfolding directory
     once = rw own-blocks (chain-distinct (next s) (blockCount s) c (sizeAt s c) (D .chained) (S .least))
 
-    in-use : (q : ℕ) → In q (fileBlocks s e₀) → next s q ≢ 0
+    in-use : (q : ℕ) → In q (allBlocks s e₀) → next s q ≢ 0
     in-use q i = let y = in-directory s c q (rw own-blocks at i) in rw (y .2) (chain-used (next s) (blockCount s) c (sizeAt s c) (D .chained) (S .least) (y .0) (y .1))
 
     E₀ : Entry s e₀
@@ -130,8 +133,8 @@ module _ (s : List ℕ) (S : Sound s) (b₀ j : ℕ) (i₀ : In (b₀, suc j) (d
     pub removed-used : be32 s 20 ≡ blocksOf s e₀ + be32 (deleteAt s e₀) 20
     unfolding deleteAt
     removed-used =
-        let l = length-fileBlocks s e₀ in
-        let o = released-occupied (blockCount s) (S .least) (fileBlocks s e₀) s (S .whole) within beyond in-use once in
+        let l : length (allBlocks s e₀) ≡ blocksOf s e₀ = ap length own-blocks ∙ length-directory s c ∙ sym same-blocks in
+        let o = released-occupied (blockCount s) (S .least) (allBlocks s e₀) s (S .whole) within beyond in-use once in
         let u = released-all .1 .used in
         let w = S .used-is in
         let low = entry-low s S e₀ E₀ in
@@ -153,7 +156,7 @@ module _ (s : List ℕ) (S : Sound s) (b₀ j : ℕ) (i₀ : In (b₀, suc j) (d
 
     O : OneSlot s ks small e₀
     unfolding deleteAt
-    O = last-slot s S b₀ j i₀ k k₁ k₂ ks sub (Entry s) (512 * c) smaller (released-all .0) 0 (released-all .1) (deleteAt s e₀) (zeroed-length smaller e₀ room) (zeroed-outside smaller e₀ room)
+    O = last-slot s S b₀ j i₀ k k₁ k₂ ks sub (Owner s) (firstBlock s) (heldAt s) (512 * c) smaller (released-all .0) 0 (released-all .1) (deleteAt s e₀) (zeroed-length smaller e₀ room) (zeroed-outside smaller e₀ room)
 
     pub removed-type : typeOf (deleteAt s e₀) e₀ ≡ 0
     unfolding deleteAt
@@ -193,16 +196,13 @@ module _ (s : List ℕ) (S : Sound s) (b₀ j : ℕ) (i₀ : In (b₀, suc j) (d
     pub small-slot : OneSlot (deleteAt s e₀) (dirs (deleteAt s e₀)) s (slotAt (directory (deleteAt s e₀) b₀) k)
     small-slot = rw small-dir back-slot
 
-    -- the blocks of the entries that are left
-    module _ (a : ℕ) (A : Entry small a) (x : ℕ) (g : x < heldAt small a) where
-      abbrev q : ℕ
-      q = nth (next small) x (firstBlock small a)
-
+    -- the blocks of the owners that are left
+    module _ (a : ℕ) (A : Owner small a) (q : ℕ) (i : In q (blocksAt small a)) where
       count-same : blockCount small ≡ blockCount s
       count-same = ap (λ (y : ℕ). y / 512) (O .len)
 
       below-n : q < blockCount s
-      below-n = rw count-same at (held-below small removed-sound a A x g)
+      below-n = rw count-same at (block-below small removed-sound a A q i)
 
       table-kept : next small q ≡ next smaller q
       unfolding deleteAt
@@ -210,21 +210,21 @@ module _ (s : List ℕ) (S : Sound s) (b₀ j : ℕ) (i₀ : In (b₀, suc j) (d
           before-next smaller (splice smaller e₀ (zeros 128)) (blockCount s) (zeroed-outside smaller e₀ room 0 (512 * rootBlock (blockCount s)) (inl (omega (arith, entry-low s S e₀ E₀)))) q
           (let b = below-n in let m = S .least in omega arith)
 
-      not-freed : In q (fileBlocks s e₀) → ⊥
-      not-freed m = held-used small removed-sound a A x g (table-kept ∙ released-at (blockCount s) (S .least) (fileBlocks s e₀) s (S .whole) within beyond once q m)
+      not-freed : In q (allBlocks s e₀) → ⊥
+      not-freed m = block-used small removed-sound a A q i (table-kept ∙ released-at (blockCount s) (S .least) (allBlocks s e₀) s (S .whole) within beyond once q m)
 
       back-value : next s q ≡ next small q
-      back-value = sym (table-kept ∙ released-next (blockCount s) (S .least) (fileBlocks s e₀) s q (S .whole) within beyond (let b = below-n in let m = S .least in omega arith) not-freed)
+      back-value = sym (table-kept ∙ released-next (blockCount s) (S .least) (allBlocks s e₀) s q (S .whole) within beyond (let b = below-n in let m = S .least in omega arith) not-freed)
 
-      back-block : Agree s small (e₀ / 512 ∷ blocksNamed (fileBlocks s e₀)) → isFile (typeOf small a) ≡ true → block s q ≡ block small q
-      back-block G f = sym (agree-block q G named-not)
+      back-block : Agree s small (e₀ / 512 ∷ blocksNamed (allBlocks s e₀)) → ((x : ℕ × ℕ) → In x (dirs small) → a ≢ 512 * x .0) → block s q ≡ block small q
+      back-block G apart = sym (agree-block q G named-not)
         where
-          named-not : In q (e₀ / 512 ∷ blocksNamed (fileBlocks s e₀)) → ⊥
+          named-not : In q (e₀ / 512 ∷ blocksNamed (allBlocks s e₀)) → ⊥
           named-not (inl z) =
-              tree-apart small removed-sound a A x g (file-no-self small removed-sound a A f) (subst (λ (y : ℕ). In y (dirBlocks small)) (sym z) (subst (λ (y : ℕ). In (y / 512) (dirBlocks small)) (ap (λ (ds : List ℕ). slotAt ds k) small-dir)
+              block-outside small removed-sound a A apart q i (subst (λ (y : ℕ). In y (dirBlocks small)) (sym z) (subst (λ (y : ℕ). In (y / 512) (dirBlocks small)) (ap (λ (ds : List ℕ). slotAt ds k) small-dir)
               (slot-entry small removed-sound (b₀, suc j) small-in k (let w = small-size in omega arith) .within-tree)))
           named-not (inr m) =
-              blocks-not (blockCount s) (fileBlocks s e₀) within q (subst (λ (y : ℕ). tableBlocks y < q) count-same (held-above small removed-sound a A x g)) not-freed m
+              blocks-not (blockCount s) (allBlocks s e₀) within q (subst (λ (y : ℕ). tableBlocks y < q) count-same (block-high small removed-sound a A q i)) not-freed m
 
     pub back-new : (x : ℕ) → 1 ≤ x → x < 4 * sizeAt (deleteAt s e₀) b₀ - 1 → x ≢ k → typeOf (deleteAt s e₀) (slotAt (directory (deleteAt s e₀) b₀) x) ≢ 0
         → nameOf s (slotAt (directory (deleteAt s e₀) b₀) k) ≢ nameOf (deleteAt s e₀) (slotAt (directory (deleteAt s e₀) b₀) x)
@@ -240,10 +240,10 @@ module _ (s : List ℕ) (S : Sound s) (b₀ j : ℕ) (i₀ : In (b₀, suc j) (d
         (λ z. u (ap (typeOf small) p ∙ type ∙ z)) (ap (nameOf s) (sym p₀) ∙ q ∙ ap (nameOf small) p ∙ name)
 
     -- the file of every path is the one that was
-    pub back-untouched : Agree s (deleteAt s e₀) (e₀ / 512 ∷ blocksNamed (fileBlocks s e₀)) → (other : List ℕ) → Untouched (deleteAt s e₀) s other
+    pub back-untouched : Agree s (deleteAt s e₀) (e₀ / 512 ∷ blocksNamed (allBlocks s e₀)) → (other : List ℕ) → Untouched (deleteAt s e₀) s other
     back-untouched G other =
         newcomer-untouched small s removed-sound b₀ j small-in k k₁ (let w = small-size in omega arith) small-slot (rw small-dir removed-type) (rw small-dir was) (rw small-dir empty) back-new
-        (λ a A ne x g. back-value a A x g) (λ a A ne f x g. back-block a A x g G f) other
+        (λ a A p r apart q i. back-value a A q i) (λ a A p r apart q i. back-block a A q i G apart) other
 
     -- two directories do not begin at one block
     pub not-itself : b₀ ≢ firstBlock s (slotAt (directory s b₀) k)

@@ -1,5 +1,5 @@
 -- THE EFFECT OF A CHANGE OF A FILE: on what its own path shows a function of that alone, on what other paths show none, and how many blocks it takes and gives.
-use Prim.Native.Nat.{ℕ, _+_, _-_, _≤_, max}
+use Prim.Native.Nat.{ℕ, _+_, _-_, _/_, _≤_, max}
 use mathlib.Core.Path.{_≡_, refl, sym, ap, _∙_}
 use mathlib.Core.Bool.{true, false, _&&_}
 use mathlib.Core.List.{List, [], _∷_, _++_}
@@ -10,23 +10,26 @@ use Rattle.layout.specs.Limits.{maxLevels, maxData}
 use lib.Dec.{leb}
 use Rattle.layout.specs.Bytes.{be32, bytes4, bytes8, part, splice, zeros}
 use Rattle.layout.specs.Geometry.{blockCount, blocksFor}
-use Rattle.layout.specs.Table.{next, freeBlocks}
-use Rattle.layout.specs.Directory.{slotAt, typeOf, sizeOf, blocksOf, isFile, isDirectory, nameOf, goodName, directory, dirs, freeSlot, fileBlocks, content}
+use Rattle.layout.specs.Table.{next, chain, freeBlocks}
+use Rattle.layout.specs.Directory.{slotAt, typeOf, sizeOf, blocksOf, isFile, isDirectory, nameOf, goodName, directory, dirs, freeSlot, fileBlocks, content, attributeSize, attributeBlocks, attributes}
 use Rattle.layout.specs.Check.{check}
 use Rattle.layout.specs.Paths.{parts, pathOk, leading, lastPart, shallow, home, pathSlot, entryOf, fileRefusal}
 use Rattle.volume.specs.Entries.{entryBytes}
 use Rattle.volume.specs.Create.{createRefusal, createSlot, createImage, placeRefusal}
 use Rattle.volume.specs.Write.{newSize, needed, newBlocks, writeAt, writeRefusal}
 use Rattle.volume.specs.Delete.{deleteAt}
-use Rattle.volume.specs.Change.{Change, create, write, delete, createDirectory, deleteDirectory, refusal, after}
-use Rattle.volume.specs.Views.{just, fileOf, fileAt, folderAt, subject, ofFile, made, takes, gives}
-use Rattle.volume.proofs.Laws.Places.{At, file-at-path, WriteGiven, write-given, path-name, place-is, place-home, place-free, place-new, place-there}
-use Rattle.volume.proofs.Laws.Entries.{entry-length, entry-type, entry-size}
+use Rattle.volume.specs.Attributes.{setAttributesAt, clearAttributesAt, setAttributesRefusal}
+use Rattle.volume.specs.Change.{Change, create, write, delete, createDirectory, deleteDirectory, setAttributes, clearAttributes, refusal, after}
+use Rattle.volume.specs.Views.{just, fileOf, fileAt, folderAt, subject, ofFile, over, made, takes, gives}
+use Rattle.volume.proofs.Laws.Places.{At, file-at-path, WriteGiven, write-given, SetGiven, set-path, set-given, path-name, place-is, place-home, place-free, place-new, place-there}
+use Rattle.volume.proofs.Laws.Entries.{entry-length, entry-type, entry-size, entry-attribute-size}
 use Rattle.volume.proofs.Laws.Create.{created-slot, created-no-dir, created-name, created-sound}
-use Rattle.volume.proofs.Laws.Write.{Written, written-file, written-slot, written-used, written-sound}
+use Rattle.volume.proofs.Laws.Write.{Written, written-file, written-slot, written-used, written-attributes, written-sound}
 use Rattle.volume.proofs.Laws.Delete.{deleted-slot, deleted-type, deleted-used}
-use Rattle.volume.proofs.Laws.Content.{write-untouched, delete-untouched, create-untouched}
-use Rattle.volume.proofs.Laws.Views.{file-shown, other-shown, OneEntry, folder-shown, own-gone, own-slot, own-shown}
+use Rattle.volume.proofs.Laws.Fields.{EntryKept}
+use Rattle.volume.proofs.Laws.SetClear.{cleared-sound, cleared-slot, cleared-entry, cleared-content, cleared-none, cleared-used, set-sound, set-slot, set-entry, set-content, set-bytes, set-used}
+use Rattle.volume.proofs.Laws.Content.{write-untouched, delete-untouched, create-untouched, set-untouched, clear-untouched}
+use Rattle.volume.proofs.Laws.Views.{file-shown, other-shown, OneEntry, folder-shown, own-gone, own-slot, own-entry, own-shown}
 use Rattle.layout.proofs.Laws.Bytes.{part-part, part-same, length-splice}
 use Rattle.layout.proofs.Laws.Tests.{and-split, require-zero, firstOf-zero, true-not-false}
 use Rattle.layout.proofs.Laws.Lists.{In}
@@ -34,7 +37,7 @@ use Rattle.layout.proofs.Laws.Names.{padded-length}
 use Rattle.layout.proofs.Laws.Frames.{same-inside, same-below, same-be32}
 use Rattle.layout.proofs.Laws.Sound.{Sound, Entry, sound}
 use Rattle.layout.proofs.Laws.Slots.{slot-entry, entry-high, entry-low}
-use Rattle.layout.proofs.Laws.Files.{file-in, length-content}
+use Rattle.layout.proofs.Laws.Files.{file-in, length-content, length-attributes}
 use Rattle.layout.proofs.Laws.Owners.{file-no-dir}
 use Rattle.layout.proofs.Laws.Changed.{OneSlot}
 
@@ -109,14 +112,15 @@ module _ (s path : List ℕ) (ok : check s ≡ 0) (type user group permissions f
   was-none : isDirectory (typeOf s e) ≡ false
   was-none = rw (place-free s path (given .3) .2)
 
-  file-new : fileOf s′ e ≡ record { bytes = []; kind = type ∷ user ∷ group ∷ permissions ∷ []; created = bytes8 time; modified = bytes8 time; flags = bytes4 flags }
-  unfolding fileOf content entryBytes bytes4 bytes8 zeros be32
+  file-new : fileOf s′ e ≡ record { bytes = []; kind = type ∷ user ∷ group ∷ permissions ∷ []; created = bytes8 time; modified = bytes8 time; flags = bytes4 flags; attributes = [] }
+  unfolding fileOf content attributes attributeBlocks chain entryBytes bytes4 bytes8 zeros be32
   file-new =
       let z : e + 0 ≡ e = omega arith in
       let eighty = padded-length (lastPart (parts path)) good in
       let a : sizeOf s′ e ≡ 0 = entry-size (lastPart (parts path)) eighty type user group permissions 0 0 0 time flags s e high in
       let k : part s′ e 4 ≡ type ∷ user ∷ group ∷ permissions ∷ [] = rw z at (part-new 0 4 (omega arith)) in
-      rw (a, k, part-new 16 8 (omega arith), part-new 24 8 (omega arith), part-new 40 4 (omega arith))
+      let b : attributeSize s′ e ≡ 0 = entry-attribute-size (lastPart (parts path)) eighty type user group permissions 0 0 0 time flags s e high in
+      rw (a, b, k, part-new 16 8 (omega arith), part-new 24 8 (omega arith), part-new 40 4 (omega arith))
 
   -- where the path leads then
   pub create-slot-found : pathSlot isFile (createImage s path type user group permissions flags time) path ≡ createSlot s path
@@ -144,6 +148,14 @@ module _ (s path : List ℕ) (ok : check s ≡ 0) (type user group permissions f
         used = rw create-is (let h = same-be32 s s′ 0 28 20 (same-below s e p (omega (arith, long, high)) 0 28 (omega (arith, entry-low s S e E))) (omega arith) (omega arith) in omega arith);
         size = rw create-is (slots .len);
       }
+
+-- the file of the path, found where it was, with its size, blocks and content
+pub record OwnKept (s s′ path : List ℕ) : Type 0 where
+  pub slot : pathSlot isFile s′ path ≡ pathSlot isFile s path
+  pub entry : entryOf isFile s′ path ≡ entryOf isFile s path
+  pub size : sizeOf s′ (entryOf isFile s path) ≡ sizeOf s (entryOf isFile s path)
+  pub blocks : blocksOf s′ (entryOf isFile s path) ≡ blocksOf s (entryOf isFile s path)
+  pub contents : content s′ (entryOf isFile s path) ≡ content s (entryOf isFile s path)
 
 -- A FILE THAT IS THERE
 module _ (s path : List ℕ) (ok : check s ≡ 0) (q : fileRefusal s path ≡ 0) where
@@ -182,6 +194,13 @@ module _ (s path : List ℕ) (ok : check s ≡ 0) (q : fileRefusal s path ≡ 0)
   blocks-is : blocksOf s a ≡ blocksFor (sizeOf s a)
   blocks-is = file-in s T (home s path, A .level) (A .home-in) k (A .named .low) (A .named .high) (A .named .typed) .blocks
 
+  second-length : length (attributes s a) / 512 ≡ attributeSize s a
+  second-length = let l = length-attributes s T a (file-in s T (home s path, A .level) (A .home-in) k (A .named .low) (A .named .high) (A .named .typed)) in omega arith
+
+  pub attributes-blocks : length (attributes s (entryOf isFile s path)) / 512 ≡ attributeSize s (entryOf isFile s path)
+  unfolding entryOf
+  attributes-blocks = second-length
+
   one-entry : (s′ : List ℕ) → OneSlot s (dirs s) s′ a → isDirectory (typeOf s′ a) ≡ false → OneEntry s s′
   one-entry s′ O now = record { d = (home s path, A .level); di = A .home-in; k = k; k₁ = A .named .low; k₂ = A .named .high; only = O; was = no-dir-file; now = now }
 
@@ -195,12 +214,13 @@ module _ (s path : List ℕ) (ok : check s ≡ 0) (q : fileRefusal s path ≡ 0)
         own-shown s s′ path T (A .good) (A .short) (A .there) (A .level) (A .home-in) k (A .named .low) (A .named .high) O no-dir-file now S′ (rw type (A .named .typed)) (name ∙ A .named .named)
 
   -- DELETE
-  delete-count : be32 (deleteAt s a) 20 + blocksFor (length (content s a)) ≡ be32 s 20 + 0
+  delete-count : be32 (deleteAt s a) 20 + (blocksFor (length (content s a)) + length (attributes s a) / 512) ≡ be32 s 20 + 0
   delete-count =
       let u = deleted-used s T (home s path, A .level) (A .home-in) k (A .named .low) (A .named .high) (A .named .typed) in
       let l = bytes-length in
+      let m = second-length in
       let b = blocks-is in
-      rw l (omega arith)
+      rw (l, m) (omega arith)
 
   pub delete-effect : Effect s (delete path)
   unfolding after subject made takes gives entryOf fileOf
@@ -216,6 +236,121 @@ module _ (s path : List ℕ) (ok : check s ≡ 0) (q : fileRefusal s path ≡ 0)
         used = rw shown delete-count;
         size = O .len;
       }
+
+  -- the entry but for the two fields of the attributes
+  module _ (s′ : List ℕ) (O : OneSlot s (dirs s) s′ a) (S′ : Sound s′) (K : EntryKept s s′ a) (C : content s′ a ≡ content s a) where
+    kept-front : (i w : ℕ) → i + w ≤ 32 → part s′ (a + i) w ≡ part s (a + i) w
+    kept-front i w h =
+        let high = entry-high s T a F in
+        let l = O .len in
+        sym (part-part s′ a 32 i w (omega arith) h) ∙ ap (λ (x : List ℕ). part x i w) (K .front) ∙ part-part s a 32 i w (omega arith) h
+
+    kept-start : part s′ a 4 ≡ part s a 4
+    kept-start = let z : a + 0 ≡ a = omega arith in rw z at (kept-front 0 4 (omega arith))
+
+    kept-flags : part s′ (a + 40) 4 ≡ part s (a + 40) 4
+    kept-flags =
+        let high = entry-high s T a F in
+        let l = O .len in
+        let z : a + 40 + 0 ≡ a + 40 = omega arith in
+        rw z at (sym (part-part s′ (a + 40) 88 0 4 (omega arith) (omega arith)) ∙ ap (λ (x : List ℕ). part x 0 4) (K .back) ∙ part-part s (a + 40) 88 0 4 (omega arith) (omega arith))
+
+    own-kept : OwnKept s s′ path
+    unfolding entryOf
+    own-kept =
+        let d = A .home-in in
+        let N = A .named in
+        let now : isDirectory (typeOf s′ a) ≡ false = rw (K .type) no-dir-file in
+        record {
+          slot = own-slot s s′ path T (A .good) (A .short) (A .there) (A .level) d k (N .low) (N .high) O no-dir-file now S′ (rw (K .type) (N .typed)) (K .name ∙ N .named);
+          entry = own-entry s s′ path T (A .good) (A .short) (A .there) (A .level) d k (N .low) (N .high) O no-dir-file now S′ (rw (K .type) (N .typed)) (K .name ∙ N .named);
+          size = K .size;
+          blocks = K .blocks;
+          contents = C;
+        }
+
+    attributes-shown : (bytes : List ℕ) → attributes s′ a ≡ bytes
+        → fileAt s′ path ≡ over (fileAt s path) (λ f. record { bytes = f .bytes; kind = f .kind; created = f .created; modified = f .modified; flags = f .flags; attributes = bytes })
+    unfolding fileOf
+    attributes-shown bytes B =
+        rw (shown, there-still s′ O S′ (K .type) (K .name)) (rw (C, B, kept-start, kept-front 16 8 (omega arith), kept-front 24 8 (omega arith), kept-flags))
+
+  -- CLEAR
+  abbrev cleared : List ℕ
+  cleared = clearAttributesAt s a
+
+  clear-only : OneSlot s (dirs s) cleared a
+  clear-only = cleared-slot s T (home s path, A .level) (A .home-in) k (A .named .low) (A .named .high) (A .named .typed)
+
+  clear-rest : EntryKept s cleared a
+  clear-rest = cleared-entry s T (home s path, A .level) (A .home-in) k (A .named .low) (A .named .high) (A .named .typed)
+
+  clear-same : content cleared a ≡ content s a
+  clear-same = cleared-content s T (home s path, A .level) (A .home-in) k (A .named .low) (A .named .high) (A .named .typed) .contents
+
+  clear-right : Sound cleared
+  clear-right = cleared-sound s T (home s path, A .level) (A .home-in) k (A .named .low) (A .named .high) (A .named .typed)
+
+  clear-count : be32 cleared 20 + length (attributes s a) / 512 ≡ be32 s 20 + 0
+  clear-count =
+      let u = cleared-used s T (home s path, A .level) (A .home-in) k (A .named .low) (A .named .high) (A .named .typed) in
+      rw second-length (omega arith)
+
+  pub clear-kept : OwnKept s (clearAttributesAt s (entryOf isFile s path)) path
+  unfolding entryOf
+  clear-kept = own-kept cleared clear-only clear-right clear-rest clear-same
+
+  pub clear-effect : Effect s (clearAttributes path)
+  unfolding after subject made takes gives entryOf
+  clear-effect =
+      record {
+        own = attributes-shown cleared clear-only clear-right clear-rest clear-same [] (cleared-none s T (home s path, A .level) (A .home-in) k (A .named .low) (A .named .high) (A .named .typed) .1);
+        others = λ other ne. other-shown s cleared T (clear-only .len) other (λ g. clear-untouched s path other ok g ne q);
+        folders = folder-shown s cleared T (one-entry cleared clear-only (rw (clear-rest .type) no-dir-file));
+        used = rw shown (unfold fileOf in clear-count);
+        size = clear-only .len;
+      }
+
+  -- SET
+  module _ (bytes : List ℕ) (r : setAttributesRefusal s path (length bytes) ≡ 0) where
+    abbrev filled : List ℕ
+    filled = setAttributesAt s a bytes
+
+    R : SetGiven s a (length bytes)
+    unfolding entryOf
+    R = set-given s path (length bytes) r
+
+    set-only : OneSlot s (dirs s) filled a
+    set-only = set-slot s T (home s path, A .level) (A .home-in) k (A .named .low) (A .named .high) (A .named .typed) bytes R
+
+    set-rest : EntryKept s filled a
+    set-rest = set-entry s T (home s path, A .level) (A .home-in) k (A .named .low) (A .named .high) (A .named .typed) bytes R
+
+    set-same : content filled a ≡ content s a
+    set-same = set-content s T (home s path, A .level) (A .home-in) k (A .named .low) (A .named .high) (A .named .typed) bytes R .contents
+
+    set-right : Sound filled
+    set-right = set-sound s T (home s path, A .level) (A .home-in) k (A .named .low) (A .named .high) (A .named .typed) bytes R
+
+    set-count : be32 filled 20 + length (attributes s a) / 512 ≡ be32 s 20 + length bytes / 512
+    set-count =
+        let u = set-used s T (home s path, A .level) (A .home-in) k (A .named .low) (A .named .high) (A .named .typed) bytes R in
+        rw second-length (omega arith)
+
+    pub set-kept : OwnKept s (setAttributesAt s (entryOf isFile s path) bytes) path
+    unfolding entryOf
+    set-kept = own-kept filled set-only set-right set-rest set-same
+
+    pub set-effect : Effect s (setAttributes path bytes)
+    unfolding after subject made takes gives entryOf
+    set-effect =
+        record {
+          own = attributes-shown filled set-only set-right set-rest set-same bytes (set-bytes s T (home s path, A .level) (A .home-in) k (A .named .low) (A .named .high) (A .named .typed) bytes R);
+          others = λ other ne. other-shown s filled T (set-only .len) other (λ g. set-untouched s path other ok g ne bytes r);
+          folders = folder-shown s filled T (one-entry filled set-only (rw (set-rest .type) no-dir-file));
+          used = rw shown (unfold fileOf in set-count);
+          size = set-only .len;
+        }
 
 -- WRITE
 module _ (s path : List ℕ) (ok : check s ≡ 0) (offset : ℕ) (bytes : List ℕ) (time : ℕ) (r : writeRefusal s path offset (length bytes) ≡ 0) where
@@ -266,6 +401,10 @@ module _ (s path : List ℕ) (ok : check s ≡ 0) (offset : ℕ) (bytes : List �
   write-sound : Sound w
   write-sound = written-sound s (sound s ok) (home s path, write-A .level) (write-A .home-in) (pathSlot isFile s path) (write-A .named .low) (write-A .named .high) (write-A .named .typed) offset bytes time room
 
+  write-attributes : attributes w write-a ≡ attributes s write-a
+  write-attributes =
+      written-attributes s (sound s ok) (home s path, write-A .level) (write-A .home-in) (pathSlot isFile s path) (write-A .named .low) (write-A .named .high) (write-A .named .typed) offset bytes time room .bytes
+
   pub written-blocks : fileBlocks (writeAt s (entryOf isFile s path) offset bytes time) (entryOf isFile s path) ≡ fileBlocks s (entryOf isFile s path) ++ newBlocks s (entryOf isFile s path) offset (length bytes)
   unfolding entryOf
   written-blocks = W .blocks
@@ -274,7 +413,7 @@ module _ (s path : List ℕ) (ok : check s ≡ 0) (offset : ℕ) (bytes : List �
   unfolding after subject made takes gives entryOf
   write-effect =
       record {
-        own = rw (shown s path ok write-q, there-still s path ok write-q w O write-sound (W .type) (W .name)) (unfold fileOf in rw (W .contents, W .kind, W .created, W .modified, write-flags));
+        own = rw (shown s path ok write-q, there-still s path ok write-q w O write-sound (W .type) (W .name)) (unfold fileOf in rw (W .contents, W .kind, W .created, W .modified, write-flags, write-attributes));
         others = λ other ne. other-shown s w (sound s ok) (O .len) other (λ g. write-untouched s path other ok g ne offset bytes time r);
         folders = folder-shown s w (sound s ok) (one-entry s path ok write-q w O (rw (W .type) (no-dir-file s path ok write-q)));
         used = rw (shown s path ok write-q) (unfold fileOf in write-count);
@@ -289,3 +428,5 @@ effect s (write path offset bytes time) f ok r = write-effect s path ok offset b
 effect s (delete path) f ok r = delete-effect s path ok r
 effect s (createDirectory path type user group permissions flags time d) f ok r = absurd (true-not-false f refl)
 effect s (deleteDirectory path) f ok r = absurd (true-not-false f refl)
+effect s (setAttributes path bytes) f ok r = set-effect s path ok (set-path s path (length bytes) r) bytes r
+effect s (clearAttributes path) f ok r = clear-effect s path ok r

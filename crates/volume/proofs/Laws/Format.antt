@@ -29,7 +29,7 @@ use Rattle.layout.proofs.Laws.Counts.{occupied-front}
 use Rattle.layout.specs.Walks.Shapes.{Shape}
 use Rattle.layout.proofs.Walks.Stages.{stage1-shape}
 use Rattle.layout.proofs.Laws.Trees.{sizeAt, Directory}
-use Rattle.layout.proofs.Laws.Sound.{heldAt, Facts, Sound, check-zero}
+use Rattle.layout.proofs.Laws.Sound.{heldAt, own-held, Facts, Sound, check-zero}
 use Rattle.layout.proofs.Laws.Empties.{Empty}
 use Rattle.layout.proofs.Laws.Roots.{root-tree, root-table}
 use Rattle.layout.proofs.Laws.Lists.{length-interval, getD-interval}
@@ -286,7 +286,7 @@ module _ (n d : ℕ) (uuid name : List ℕ) (time : ℕ) (n₁ : 3 ≤ n) (n₂ 
     root-first = self-block
 
     root-held : heldAt done (512 * rootBlock n) ≡ d
-    root-held = rw self-type self-blocks
+    root-held = own-held done (512 * rootBlock n) (omega arith) ∙ (rw self-type self-blocks)
 
     table : Table n (λ a. a ≡ 512 * rootBlock n) (next done) (firstBlock done) (heldAt done)
     table =

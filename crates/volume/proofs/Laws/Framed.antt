@@ -2,8 +2,8 @@
 use Prim.Native.Nat.{ℕ, _+_, _-_, _*_, _/_, _%_, _≤_, _<_, max}
 use mathlib.Core.Path.{_≡_, refl, _∙_, subst}
 use mathlib.Core.Bool.{Bool, true, _&&_}
-use mathlib.Core.List.{List, [], _∷_, _++_}
-use mathlib.Core.Logic.{_⊎_, inl, inr, ⊎-elim}
+use mathlib.Core.List.{List, [], _∷_, _++_, append-nil}
+use mathlib.Core.Logic.{inl, inr, ⊎-elim}
 use native.Mathlib.Omega.{arith}
 use borrow.Author.Tests.{leb-true}
 use lib.ListN.{length, getD, take, length-append, length-take}
@@ -13,18 +13,22 @@ use Rattle.layout.specs.Lists.{has, lastOr, within}
 use Rattle.layout.specs.Bytes.{splice, bytes4, bytes8, zeros}
 use Rattle.layout.specs.Geometry.{blockCount, blocksFor}
 use Rattle.layout.specs.Table.{next, freeBlocks}
-use Rattle.layout.specs.Directory.{slotAt, typeOf, firstBlock, sizeOf, blocksOf, isFile, isDirectory, directory, fileBlocks, freeSlot, goodName}
+use Rattle.layout.specs.Directory.{slotAt, typeOf, firstBlock, sizeOf, blocksOf, isFile, isDirectory, directory, fileBlocks, attributeBlocks, freeSlot, goodName}
 use Rattle.layout.specs.Check.{check}
-use Rattle.layout.specs.Paths.{parts, pathOk, leading, lastPart, shallow, home, pathSlot, entryOf, fileRefusal, directoryRefusal}
+use Rattle.layout.specs.Paths.{parts, pathOk, leading, lastPart, shallow, home, pathSlot, entryOf, directoryRefusal}
 use Rattle.volume.specs.Entries.{entryBytes, directoryMade, released, grown, entriesNamed, blocksNamed}
 use Rattle.volume.specs.Create.{place, placeRefusal, createRefusal, createImage, createNamed}
 use Rattle.volume.specs.Write.{put, written, changedEntries, newSize, needed, newBlocks, setFile, writeAt, writeRefusal, writeNamed}
-use Rattle.volume.specs.Delete.{deleteAt, deleteNamed}
+use Rattle.volume.specs.Delete.{allBlocks, deleteAt, deleteNamed}
+use Rattle.volume.specs.Attributes.{newAttributes, setAttributesNamed, clearAttributesNamed}
 use Rattle.volume.specs.Directories.{createDirectoryRefusal, newDirectoryBlocks, createDirectoryImage, createDirectoryNamed, deleteDirectoryRefusal}
-use Rattle.volume.specs.Change.{Change, create, write, delete, createDirectory, deleteDirectory, refusal, after, named}
+use Rattle.volume.specs.Change.{Change, create, write, delete, createDirectory, deleteDirectory, setAttributes, clearAttributes, refusal, after, named}
 use Rattle.volume.proofs.Laws.Entries.{entry-length}
 use Rattle.volume.proofs.Laws.Frame.{entries-low, blocks-in, blocks-below, changed-first, changed-below, written-in, taken-written, released-agree, grown-agree, put-agree}
-use Rattle.volume.proofs.Laws.Places.{At, file-at-path, directory-at-path, WriteGiven, write-given, path-levels, path-name, place-is, place-home, place-free}
+use Rattle.volume.proofs.Laws.Places.{At, file-at-path, directory-at-path, WriteGiven, write-given, SetGiven, set-path, set-given, path-levels, path-name, place-is, place-home, place-free}
+use Rattle.volume.proofs.Laws.Unchanged.{Bounded, slot-agree, entry-bounded}
+use Rattle.volume.proofs.Laws.Delete.{deleted-bounded}
+use Rattle.volume.proofs.Laws.SetClear.{cleared-bounded, set-bounded}
 use Rattle.volume.proofs.Laws.Space.{new-fresh, new-length, all-below, last-below}
 use Rattle.layout.proofs.Laws.Bytes.{length-bytes4, length-bytes8, length-zeros}
 use Rattle.layout.proofs.Laws.Tests.{and-split, require-zero, firstOf-zero, within-split}
@@ -34,9 +38,9 @@ use Rattle.layout.proofs.Laws.Chains.{Chain, in-chain}
 use Rattle.layout.proofs.Laws.Frames.{Agree, agree-more, agree-then, splice-agree}
 use Rattle.layout.proofs.Laws.Trees.{childOk-split, directoryOk-split}
 use Rattle.layout.proofs.Laws.Sound.{Sound, Entry, sound}
-use Rattle.layout.proofs.Laws.Slots.{slot-entry, children-in}
+use Rattle.layout.proofs.Laws.Slots.{slot-ok, slot-entry, children-in}
 use Rattle.layout.proofs.Laws.Files.{Slot, entry-slot, file-in, length-fileBlocks}
-use Rattle.layout.proofs.Laws.Owners.{Fresh, free-fresh, file-below}
+use Rattle.layout.proofs.Laws.Owners.{directory-slot-ok, directory-attributes, Fresh, free-fresh}
 
 pub record Framed (s : List ℕ) (c : Change) : Type 0 where
   pub agree : Agree s (after s c) (named s c)
@@ -54,9 +58,6 @@ module _ (s : List ℕ) (S : Sound s) where
     slot : Slot s e
     slot = entry-slot s S e E
 
-    slot-agree : (t : List ℕ) (at : ℕ) (p : List ℕ) → length t ≡ 512 * n → e ≤ at → at + length p ≤ e + 128 → Agree t (splice t at p) (e / 512 ∷ [])
-    slot-agree t at p len low high = splice-agree t (e / 512) at p (omega (arith, slot .inside, slot .aligned)) (omega arith) (omega (arith, slot .aligned))
-
     -- the entry is written, and its block is named first
     framed-by : (c : Change) (ns : List ℕ) → named s c ≡ e / 512 ∷ ns → Agree s (after s c) (e / 512 ∷ ns) → ((b : ℕ) → In b ns → b < n) → Framed s c
     framed-by c ns q a f =
@@ -67,16 +68,8 @@ module _ (s : List ℕ) (S : Sound s) where
           listed = rw q (in-has-eqb (e / 512) (e / 512 ∷ ns) (inl refl));
         }
 
-    -- a chain is freed, and the entry zeroed
-    freed-framed : (c : Change) → named s c ≡ e / 512 ∷ blocksNamed (fileBlocks s e) → after s c ≡ deleteAt s e → ((x : ℕ) → In x (fileBlocks s e) → x < n) → Framed s c
-    unfolding deleteAt
-    freed-framed c q r below =
-        let a = released-agree n (S .least) (fileBlocks s e) s (S .whole) below in
-        let l = length-zeros 128 in
-        framed-by c (blocksNamed (fileBlocks s e)) q
-        (rw r (agree-then a (slot-agree (released s n (fileBlocks s e)) e (zeros 128) (a .size ∙ S .whole) (omega arith) (omega arith)) (λ x m. inr m)
-        (in-single (e / 512) (e / 512 ∷ blocksNamed (fileBlocks s e)) (inl refl))))
-        (blocks-below n (fileBlocks s e) below (S .least))
+    bounded-framed : (c : Change) (ns : List ℕ) → named s c ≡ e / 512 ∷ ns → Bounded s (after s c) (e / 512 ∷ ns) → Framed s c
+    bounded-framed c ns q B = framed-by c ns q (B .agree) (λ b i. B .inside b (inr i))
 
   -- where a path's entry stands
   pub at-entry : (type : ℕ → Bool) (path : List ℕ) → At type s path → Entry s (entryOf type s path)
@@ -97,17 +90,37 @@ module _ (s : List ℕ) (S : Sound s) where
       let l = entry-length (lastPart (parts path)) (padded-length (lastPart (parts path)) good) type user group permissions 0 0 0 time flags in
       let E = place-entry path (h .1) (h .0) in
       framed-by (place s path) E (create path type user group permissions flags time) [] refl
-      (slot-agree (place s path) E s (place s path) (entryBytes type user group permissions 0 0 0 time flags (lastPart (parts path))) (S .whole) (omega arith) (omega arith)) (λ b i. absurd i)
+      (slot-agree s S (place s path) E s (place s path) (entryBytes type user group permissions 0 0 0 time flags (lastPart (parts path))) (S .whole) (omega arith) (omega arith)) (λ b i. absurd i)
 
-  delete-framed : (path : List ℕ) → fileRefusal s path ≡ 0 → Framed s (delete path)
-  unfolding after named deleteNamed
-  delete-framed path r =
-      let A = file-at-path s path r in
-      let E = at-entry isFile path A in
-      freed-framed (entryOf isFile s path) E (delete path) refl refl (file-below s S (entryOf isFile s path) E (typed A))
-    where
-      typed : At isFile s path → isFile (typeOf s (entryOf isFile s path)) ≡ true
-      typed A = unfold entryOf in A .named .typed
+  -- the calls on a file
+  module _ (path : List ℕ) (A : At isFile s path) where
+    abbrev d : ℕ × ℕ
+    d = (home s path, A .level)
+
+    abbrev k : ℕ
+    k = pathSlot isFile s path
+
+    delete-framed : Framed s (delete path)
+    unfolding after named deleteNamed entryOf
+    delete-framed =
+        let N = A .named in
+        bounded-framed (entryOf isFile s path) (at-entry isFile path A) (delete path) (blocksNamed (allBlocks s (entryOf isFile s path))) refl
+        (deleted-bounded s S d (A .home-in) k (N .low) (N .high) (N .typed))
+
+    clear-framed : Framed s (clearAttributes path)
+    unfolding after named clearAttributesNamed entryOf
+    clear-framed =
+        let N = A .named in
+        bounded-framed (entryOf isFile s path) (at-entry isFile path A) (clearAttributes path) (blocksNamed (attributeBlocks s (entryOf isFile s path))) refl
+        (cleared-bounded s S d (A .home-in) k (N .low) (N .high) (N .typed))
+
+    set-framed : (bytes : List ℕ) → SetGiven s (entryOf isFile s path) (length bytes) → Framed s (setAttributes path bytes)
+    unfolding after named setAttributesNamed entryOf
+    set-framed bytes R =
+        let N = A .named in
+        bounded-framed (entryOf isFile s path) (at-entry isFile path A) (setAttributes path bytes)
+        (blocksNamed (attributeBlocks s (entryOf isFile s path) ++ newAttributes s (entryOf isFile s path) (length bytes))) refl
+        (set-bounded s S d (A .home-in) k (N .low) (N .high) (N .typed) bytes R)
 
   -- the blocks of a directory, by its entry
   pub child-chain : (path : List ℕ) → At isDirectory s path → Chain (next s) n (firstBlock s (entryOf isDirectory s path)) (blocksOf s (entryOf isDirectory s path))
@@ -126,11 +139,25 @@ module _ (s : List ℕ) (S : Sound s) where
       let r = in-chain (next s) (firstBlock s (entryOf isDirectory s path)) (blocksOf s (entryOf isDirectory s path)) x i in
       rw (r .2) (child-chain path A .below (r .0) (r .1))
 
+  -- it has no attributes
+  pub own-only : (path : List ℕ) → At isDirectory s path → allBlocks s (entryOf isDirectory s path) ≡ fileBlocks s (entryOf isDirectory s path)
+  unfolding allBlocks entryOf
+  own-only path A =
+      let N = A .named in
+      let e : ℕ = slotAt (directory s (home s path)) (pathSlot isDirectory s path) in
+      rw (directory-attributes s e (directory-slot-ok s e (N .typed) (slot-ok s S (home s path, A .level) (A .home-in) (pathSlot isDirectory s path) (N .low) (N .high))) .1)
+      (append-nil (fileBlocks s e))
+
   delete-directory-framed : (path : List ℕ) → deleteDirectoryRefusal s path ≡ 0 → Framed s (deleteDirectory path)
-  unfolding after named deleteNamed deleteDirectoryRefusal
+  unfolding after named deleteAt deleteNamed deleteDirectoryRefusal
   delete-directory-framed path r =
       let A = directory-at-path s path (firstOf-zero (directoryRefusal s path) _ r .0) in
-      freed-framed (entryOf isDirectory s path) (at-entry isDirectory path A) (deleteDirectory path) refl refl (child-below path A)
+      let e : ℕ = entryOf isDirectory s path in
+      let E = at-entry isDirectory path A in
+      let bs : List ℕ = allBlocks s e in
+      let below : (x : ℕ) → In x bs → x < n = λ x i. child-below path A x (rw (own-only path A) at i) in
+      bounded-framed e E (deleteDirectory path) (blocksNamed bs) refl
+      (entry-bounded s S e E (released s n bs) bs (released-agree n (S .least) bs s (S .whole) below) below e (zeros 128) (omega arith) (omega (arith, length-zeros 128)))
 
   module _ (path : List ℕ) (type user group permissions flags time d : ℕ) (r : createDirectoryRefusal s path type d ≡ 0) where
     record CreateDirectoryGiven : Type 0 where
@@ -198,7 +225,7 @@ module _ (s : List ℕ) (S : Sound s) where
         let p₂ : List ℕ = entryBytes type user group permissions b₁ 0 d time flags name in
         let l₃ = entry-length name eighty type user group permissions b₁ 0 d time flags in
         framed-by e E (createDirectory path type user group permissions flags time d) rest refl
-        (agree-then c (slot-agree e E made e p₂ (c .size ∙ S .whole) (omega arith) (omega arith)) (λ x i. i) (in-single (e / 512) ns (inl refl)))
+        (agree-then c (slot-agree s S e E made e p₂ (c .size ∙ S .whole) (omega arith) (omega arith)) (λ x i. i) (in-single (e / 512) ns (inl refl)))
         (blocks-below n new (fresh-taken .below) (S .least))
 
   module _ (path : List ℕ) (offset : ℕ) (bytes : List ℕ) (time : ℕ) (r : writeRefusal s path offset (length bytes) ≡ 0) where
@@ -263,9 +290,9 @@ module _ (s : List ℕ) (S : Sound s) where
         (λ x i. inr (⊎-elim (λ j. in-left x holds entries (new-written x j)) (λ j. in-right x holds entries j) (in-append x new entries i))) in
         let b : Agree larger filled ns = agree-more (put-agree n (S .least) (old ++ new) larger offset bytes (a .size ∙ S .whole) inside) (λ x i. inr (in-left x holds entries i)) in
         let c : Agree s filled ns = agree-then a b (λ x i. i) (λ x i. i) in
-        let d : Agree s again ns = agree-then c (slot-agree entry E filled (entry + 4) p (c .size ∙ S .whole) (omega arith) (omega arith)) (λ x i. i) first in
+        let d : Agree s again ns = agree-then c (slot-agree s S entry E filled (entry + 4) p (c .size ∙ S .whole) (omega arith) (omega arith)) (λ x i. i) first in
         framed-by entry E (write path offset bytes time) (holds ++ entries) refl
-        (agree-then d (slot-agree entry E again (entry + 24) (bytes8 time) (d .size ∙ S .whole) (omega arith) (omega arith)) (λ x i. i) first)
+        (agree-then d (slot-agree s S entry E again (entry + 24) (bytes8 time) (d .size ∙ S .whole) (omega arith) (omega arith)) (λ x i. i) first)
         (λ x i. ⊎-elim (λ j. inside x (written-in (old ++ new) offset (length bytes) x j))
         (λ j. omega (arith, entries-low n (changedEntries (lastOr 0 old) new) (changed-below n (lastOr 0 old) new before new-below) x j, S .least)) (in-append x holds entries i))
 
@@ -273,6 +300,8 @@ pub frame : (s : List ℕ) (c : Change) → check s ≡ 0 → refusal s c ≡ 0 
 unfolding refusal
 frame s (create path type user group permissions flags time) ok r = create-framed s (sound s ok) path type user group permissions flags time r
 frame s (write path offset bytes time) ok r = write-framed s (sound s ok) path offset bytes time r
-frame s (delete path) ok r = delete-framed s (sound s ok) path r
+frame s (delete path) ok r = delete-framed s (sound s ok) path (file-at-path s path r)
 frame s (createDirectory path type user group permissions flags time d) ok r = create-directory-framed s (sound s ok) path type user group permissions flags time d r
 frame s (deleteDirectory path) ok r = delete-directory-framed s (sound s ok) path r
+frame s (setAttributes path bytes) ok r = set-framed s (sound s ok) path (file-at-path s path (set-path s path (length bytes) r)) bytes (set-given s path (length bytes) r)
+frame s (clearAttributes path) ok r = clear-framed s (sound s ok) path (file-at-path s path r)

@@ -1,5 +1,5 @@
 -- Where a new entry goes, by the path of an accepted call: a free slot of a directory of the tree, and no slot of that directory has the name.
-use Prim.Native.Nat.{ℕ, suc, _-_, _*_, _≤_, _<_}
+use Prim.Native.Nat.{ℕ, suc, _-_, _*_, _/_, _%_, _≤_, _<_}
 use mathlib.Core.Path.{_≡_, refl, sym, ap}
 use mathlib.Core.Bool.{Bool, true, not, _&&_}
 use mathlib.Core.List.{List, [], _∷_}
@@ -8,13 +8,14 @@ use native.Mathlib.Omega.{arith}
 use lib.ListN.{length}
 use lib.Dec.{eqb, leb}
 use borrow.Author.Tests.{eqb-true, eqb-false, not-true, ne-eqb, leb-true, le-leb}
-use Rattle.layout.specs.Limits.{maxLevels, maxData}
+use Rattle.layout.specs.Limits.{maxLevels, maxData, maxAttributes}
 use Rattle.layout.specs.Lists.{every}
 use Rattle.layout.specs.Directory.{slotAt, typeOf, sizeOf, isUsed, isFile, isDirectory, nameOf, goodName, freeSlot, slotOf, directory, dirs}
 use Rattle.layout.specs.Paths.{parts, pathOk, leading, lastPart, shallow, home, pathSlot, entryOf, fileRefusal, directoryRefusal}
 use Rattle.layout.specs.Geometry.{blockCount}
 use Rattle.layout.specs.Table.{next, freeBlocks}
 use Rattle.volume.specs.Write.{needed, writeAtRefusal, writeRefusal}
+use Rattle.volume.specs.Attributes.{emptied, setAttributesRefusal}
 use Rattle.volume.specs.Create.{placeRefusal, place, createSlot}
 use Rattle.layout.proofs.Laws.Tests.{and-split, require-zero, firstOf-zero}
 use Rattle.layout.proofs.Laws.Lists.{In}
@@ -130,3 +131,29 @@ write-given s path offset count r =
     let g = require-zero (leb offset (sizeOf s (entryOf isFile s path))) 11 _ (y .1) in
     let h = require-zero (leb (needed s (entryOf isFile s path) offset count) (length (freeBlocks (next s) (blockCount s)))) 13 _ (g .1) in
     record { there = file-at-path s path (y .0); few = leb-true _ _ (and-split (leb count maxData) (pathOk path) (x .0) .0); within-size = leb-true _ _ (g .0); room = leb-true _ _ (h .0) }
+
+-- what an accepted set has, of the file whose entry is at e
+pub record SetGiven (s : List ℕ) (e count : ℕ) : Type 0 where
+  pub some : 1 ≤ count
+  pub blocks : count % 512 ≡ 0
+  pub few : count ≤ 512 * maxAttributes
+  pub room : count / 512 ≤ length (freeBlocks (next (emptied s e)) (blockCount s))
+
+module _ (s path : List ℕ) (count : ℕ) (r : setAttributesRefusal s path count ≡ 0) where
+  pub set-path : fileRefusal s path ≡ 0
+  unfolding setAttributesRefusal
+  set-path =
+      let a = require-zero (pathOk path && (leb 1 count && eqb (count % 512) 0)) 8 _ r in
+      let b = require-zero (leb count (512 * maxAttributes)) 19 _ (a .1) in
+      firstOf-zero (fileRefusal s path) _ (b .1) .0
+
+  pub set-given : SetGiven s (entryOf isFile s path) count
+  unfolding setAttributesRefusal
+  set-given =
+      let a = require-zero (pathOk path && (leb 1 count && eqb (count % 512) 0)) 8 _ r in
+      let p = and-split (pathOk path) _ (a .0) in
+      let q = and-split (leb 1 count) _ (p .1) in
+      let b = require-zero (leb count (512 * maxAttributes)) 19 _ (a .1) in
+      let c = firstOf-zero (fileRefusal s path) _ (b .1) in
+      let d = require-zero (leb (count / 512) (length (freeBlocks (next (emptied s (entryOf isFile s path))) (blockCount s)))) 13 _ (c .1) in
+      record { some = leb-true _ _ (q .0); blocks = eqb-true _ _ (q .1); few = leb-true _ _ (b .0); room = leb-true _ _ (d .0) }

@@ -1,5 +1,5 @@
 -- Space: the blocks that a write takes, and the refusal for want of room.
-use Prim.Native.Nat.{ℕ, zero, suc, _≤_, _<_, _+_, _-_}
+use Prim.Native.Nat.{ℕ, zero, suc, _≤_, _<_, _+_}
 use mathlib.Core.List.{_++_, List}
 use mathlib.Core.Logic.{⊎-elim, _≢_}
 use mathlib.Core.Path.{ap, _≡_, refl, _∙_}
@@ -67,6 +67,17 @@ module _ (s : List ℕ) (S : Sound s) (e : ℕ) (E : Entry s e) (file : isFile (
   unfolding newSize needed
   all-size renewed room = omega (arith, new-length s e offset count room)
 
+-- a path is never refused with 14
+never-14 : (t u v : Bool) → require t 9 (require u 17 (require v 10 0)) ≢ 14
+never-14 false u v e = omega arith
+never-14 true false v e = omega arith
+never-14 true true false e = omega arith
+never-14 true true true e = omega arith
+
+pub file-never : (s path : List ℕ) → fileRefusal s path ≢ 14
+unfolding fileRefusal
+file-never s path = never-14 (pathOk path) (shallow (leading (parts path))) (not (eqb (pathSlot isFile s path) 0))
+
 -- when a write is refused with 14
 module _ (s path : List ℕ) (offset count : ℕ) where
   abbrev free : ℕ
@@ -75,13 +86,6 @@ module _ (s path : List ℕ) (offset count : ℕ) where
   abbrev wanted : ℕ
   wanted = needed s (entryOf isFile s path) offset count
 
-  -- the tests in order
-  never-14 : (t u v : Bool) → require t 9 (require u 17 (require v 10 0)) ≢ 14
-  never-14 false u v e = omega arith
-  never-14 true false v e = omega arith
-  never-14 true true false e = omega arith
-  never-14 true true true e = omega arith
-
   only-14 : (t : Bool) (k : ℕ) (v w : Bool) → k ≢ 14 → require t 9 (firstOf k (require v 12 (require w 14 0))) ≡ 14 → (t ≡ true) × (k ≡ 0) × (v ≡ true) × (w ≡ false)
   only-14 false k v w ne e = absurd (omega arith)
   only-14 true (suc k) v w ne e = absurd (ne e)
@@ -89,14 +93,10 @@ module _ (s path : List ℕ) (offset count : ℕ) where
   only-14 true zero true true ne e = absurd (omega arith)
   only-14 true zero true false ne e = (refl, refl, refl, refl)
 
-  file-never : fileRefusal s path ≢ 14
-  unfolding fileRefusal
-  file-never = never-14 (pathOk path) (shallow (leading (parts path))) (not (eqb (pathSlot isFile s path) 0))
-
   pub refused-14 : writeRefusal s path offset count ≡ 14 → NoRoom s path offset count
   unfolding writeRefusal writeAtRefusal
   refused-14 r =
-      let a = only-14 (leb count maxData && pathOk path) (fileRefusal s path) (leb offset (sizeOf s (entryOf isFile s path))) (leb wanted free) file-never r in
+      let a = only-14 (leb count maxData && pathOk path) (fileRefusal s path) (leb offset (sizeOf s (entryOf isFile s path))) (leb wanted free) (file-never s path) r in
       record { few = leb-true _ _ (and-split (leb count maxData) (pathOk path) (a .0) .0); there = a .1; within-size = leb-true _ _ (a .2); lacking = leb-false _ _ (a .3) }
 
   pub lacking-14 : NoRoom s path offset count → writeRefusal s path offset count ≡ 14

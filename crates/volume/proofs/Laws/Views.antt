@@ -12,7 +12,7 @@ use Rattle.layout.specs.Claims.{Untouched, Reached}
 use Rattle.layout.specs.Limits.{maxLevels}
 use Rattle.layout.specs.Lists.{same}
 use Rattle.layout.specs.Bytes.{be32, part}
-use Rattle.layout.specs.Directory.{slotAt, typeOf, blocksOf, isFile, isDirectory, nameOf, directory, dirs, slotOf, content}
+use Rattle.layout.specs.Directory.{slotAt, typeOf, blocksOf, isFile, isDirectory, nameOf, directory, dirs, slotOf, content, attributes}
 use Rattle.layout.specs.Paths.{parts, pathOk, leading, lastPart, shallow, home, pathSlot, entryOf, fileRefusal, directoryRefusal}
 use Rattle.volume.specs.Views.{File, Maybe, nothing, just, fileOf, folderOf, fileAt, folderAt}
 use Rattle.volume.proofs.Laws.Places.{path-levels}
@@ -35,9 +35,9 @@ module _ (s s′ : List ℕ) (e : ℕ) (high : e + 128 ≤ length s) (len : leng
   pub start-of : part s′ e 4 ≡ part s e 4
   start-of = let z : e + 0 ≡ e = omega arith in rw z at (part-of 0 4 (omega arith))
 
-  pub same-file-of : content s′ e ≡ content s e → fileOf s′ e ≡ fileOf s e
+  pub same-file-of : content s′ e ≡ content s e → attributes s′ e ≡ attributes s e → fileOf s′ e ≡ fileOf s e
   unfolding fileOf
-  same-file-of p = rw (p, start-of, part-of 16 8 (omega arith), part-of 24 8 (omega arith), part-of 40 4 (omega arith))
+  same-file-of p q = rw (p, q, start-of, part-of 16 8 (omega arith), part-of 24 8 (omega arith), part-of 40 4 (omega arith))
 
   pub same-folder-of : folderOf s′ e ≡ folderOf s e
   unfolding folderOf
@@ -83,7 +83,7 @@ other-shown s s′ S len other U = go (pathOk other) refl (shallow (leading (par
     go true q true v (no ne) =
         let r : Reached s other = (v, ne) in
         let e : ℕ = entryOf isFile s other in
-        let same = same-file-of s s′ (entryOf isFile s other) (entry-high s S (entryOf isFile s other) (reached-entry s S other r)) len (U q .bytes r) (U q .contents r) in
+        let same = same-file-of s s′ (entryOf isFile s other) (entry-high s S (entryOf isFile s other) (reached-entry s S other r)) len (U q .bytes r) (U q .contents r) (U q .second r .bytes) in
         rw (q, v, U q .slot v, U q .entry r, ne-eqb (pathSlot isFile s other) 0 ne, same)
 
 -- ONE ENTRY that is no directory's, before or after, changes

@@ -3,44 +3,46 @@
 use Prim.Native.Nat.{ℕ, zero, suc, _+_, _-_, _*_, _≤_, _<_, _/_, max}
 use mathlib.Core.Path.{_≡_, refl, sym, ap, _∙_, subst}
 use mathlib.Core.Bool.{true, false, not, _&&_, or-true}
-use mathlib.Core.List.{List, _∷_, _++_, []}
+use mathlib.Core.List.{List, _++_}
 use mathlib.Core.Logic.{_⊎_, inl, inr, ⊎-elim, _≢_}
 use native.Mathlib.Omega.{arith}
 use native.Mathlib.Nat.{eq-or-lt-of-le}
 use borrow.Author.Tests.{eq-eqb, ne-eqb, eqb-false, not-true, leb-true}
-use lib.ListN.{length, getD, take, drop, length-take, List·getD-eq-default}
+use lib.ListN.{length, getD, take, List·getD-eq-default}
 use lib.Dec.{eqb, leb}
 use lib.Seq.{take-append-le}
 use Rattle.layout.specs.Lists.{iff, lastOr, distinct, joined}
 use Rattle.layout.specs.Bytes.{be32, bytes8, part, splice, zeros, block}
 use Rattle.layout.specs.Geometry.{blockCount, tableBlocks, blocksFor, rootBlock}
-use Rattle.layout.specs.Table.{next, chain, freeBlocks, tableBlockOf}
+use Rattle.layout.specs.Table.{next, chain, freeBlocks}
 use Rattle.layout.specs.Directory.{slotAt, typeOf, firstBlock, sizeOf, blocksOf, isFree, isFile, isDirectory, nameOf, nameOk, directory, dirs, fileBlocks, content}
 use Rattle.layout.specs.Limits.{maxData, maxLevels}
 use Rattle.layout.specs.Paths.{parts, pathOk, leading, shallow, home, pathSlot, entryOf, fileRefusal}
-use Rattle.layout.specs.Check.{attributesOk, fileOk, slotOk, check}
+use Rattle.layout.specs.Check.{noAttributes, attributesOk, fileOk, slotOk, check}
 use Rattle.volume.specs.Entries.{grown, entriesNamed}
 use Rattle.volume.specs.Write.{newSize, needed, newBlocks, put, setFile, writeAt, writeAtRefusal, writeRefusal, changedEntries}
-use Rattle.volume.proofs.Laws.Growth.{grown-steps}
+use Rattle.volume.proofs.Laws.Growth.{grown-steps, put-steps}
 use Rattle.volume.proofs.Laws.Space.{new-fresh, new-length, all-above, all-below, last-below, all-length, all-size}
-use Rattle.volume.proofs.Laws.Data.{put-outside, joined-put, grown-zero}
+use Rattle.volume.proofs.Laws.Data.{put-outside, joined-put, grown-zero, put-next}
 use Rattle.volume.proofs.Laws.Table.{grown-next, grown-used}
 use Rattle.volume.proofs.Laws.Entries.{set-file-length, set-file-same, set-file-created, set-file-modified, set-file-first, set-file-size, set-file-blocks}
-use Rattle.volume.proofs.Laws.Frame.{entries-low, changed-below, grown-agree, grown-length, written-in, put-agree}
-use Rattle.layout.proofs.Laws.Bytes.{splice-nil, splice-cut}
-use Rattle.layout.proofs.Laws.Tests.{and-split, and-join, is-false, lt-or-ge, within-split, require-zero, firstOf-zero}
+use Rattle.volume.proofs.Laws.Frame.{entries-low, changed-below, grown-agree, grown-length}
+use Rattle.layout.proofs.Laws.Bytes.{splice-cut}
+use Rattle.layout.proofs.Laws.Tests.{and-split, and-join, is-false, within-split, require-zero, firstOf-zero}
 use Rattle.layout.proofs.Laws.Lists.{In, in-append, joined-append, last-in, joined-same}
-use Rattle.layout.proofs.Laws.Frames.{Same, same-then, same-inner, same-byte, same-be32, same-part, before-next, Agree, agree-block, agree-next}
+use Rattle.layout.proofs.Laws.Frames.{Same, same-then, same-inner, same-byte, same-be32, same-part, before-next, Agree, agree-block}
 use Rattle.layout.proofs.Laws.Chains.{nth, Chain, getD-chain, in-chain, chain-agree, chain-distinct, chain-last, chain-start}
 use Rattle.layout.proofs.Laws.Counts.{chain-most, occupied-most, occupied-same}
 use Rattle.layout.proofs.Laws.Visits.{dirBlocks}
 use Rattle.layout.proofs.Laws.Trees.{sizeAt}
-use Rattle.layout.proofs.Laws.Sound.{heldAt, Sound, Entry, sound, check-zero}
+use Rattle.layout.proofs.Laws.Sound.{heldAt, own-held, second-held, second-first, Sound, Entry, Owner, sound, check-zero}
 use Rattle.layout.proofs.Laws.Slots.{slot-entry, entry-high, entry-low, names-differ}
 use Rattle.layout.proofs.Laws.Files.{file-in, file-right, length-fileBlocks, length-blocks}
-use Rattle.layout.proofs.Laws.Owners.{free-count, tree-apart, file-held, file-used-type, file-no-self, held-above, held-below, held-used, file-holds, file-above, file-below, file-used, entry-elsewhere, Fresh, file-apart}
+use Rattle.layout.proofs.Laws.Owners.{free-count, blocksAt, file-held, file-used-type, file-no-self, file-holds, file-blocks, second, second-blocks, second-no-self, file-above, file-below, file-used, entry-elsewhere, Fresh, block-high, block-below, block-used, block-apart, block-outside}
 use Rattle.layout.proofs.Laws.Changed.{OneSlot}
-use Rattle.layout.proofs.Laws.Steps.{over-same, Midway, Staying, staying, midway-start, dir-apart, midway-end, one-slot, bytes-step}
+use Rattle.layout.proofs.Laws.Steps.{over-same, Midway, Staying, staying, midway-start, dir-apart, midway-own, one-slot}
+use Rattle.layout.specs.Claims.{SameAttributes}
+use Rattle.layout.proofs.Laws.Others.{same-attributes}
 use Rattle.layout.proofs.Laws.Paths.{path-named, path-home}
 
 -- what an accepted write makes of the entry at e, and of its file
@@ -71,22 +73,8 @@ module _ (s : List ℕ) (S : Sound s) (d : ℕ × ℕ) (di : In d (dirs s)) (k :
   no-self : (x : ℕ × ℕ) → In x (dirs s) → 512 * x .0 ≢ e
   no-self x i q = file-no-self s S e mine file x i (sym q)
 
-  St : Staying s (dirs s) (Entry s) e
-  St = staying s S e mine no-self
-
-  -- the data, in blocks of the chain
-  put-midway : (bs : List ℕ) (t : List ℕ) (b c offset : ℕ) (bytes : List ℕ) → Midway s (dirs s) (Entry s) e t b c
-      → ((q : ℕ) → In q bs → (tableBlocks n < q) × (q < n) × (In q (dirBlocks s) → ⊥)) → Midway s (dirs s) (Entry s) e (put t bs offset bytes) b c
-  unfolding put
-  put-midway [] t b c offset bytes I f = I
-  put-midway (q ∷ bs) t b c offset bytes I f =
-      put-midway bs (splice t (512 * q + offset) (take (512 - offset) bytes)) b c (offset - 512) (drop (512 - offset) bytes) (here (lt-or-ge offset 512)) (λ x i. f x (inr i))
-    where
-      here : (offset < 512) ⊎ (512 ≤ offset) → Midway s (dirs s) (Entry s) e (splice t (512 * q + offset) (take (512 - offset) bytes)) b c
-      here (inl h) =
-          let w = f q (inl refl) in
-          bytes-step s S (dirs s) (Entry s) e St t b c I q (w .0) (w .1) (w .2) (512 * q + offset) (take (512 - offset) bytes) (omega arith) (omega (arith, length-take (512 - offset) bytes))
-      here (inr h) = let z : 512 - offset ≡ 0 = omega arith in rw (z, splice-nil) I
+  St : Staying s (dirs s) (Owner s) (firstBlock s) (heldAt s) e
+  St = staying s S e (inl mine) no-self
 
   module _ (offset : ℕ) (bytes : List ℕ) (time : ℕ) (room : needed s e offset (length bytes) ≤ length (freeBlocks (next s) n)) where
     abbrev old : List ℕ
@@ -139,24 +127,24 @@ module _ (s : List ℕ) (S : Sound s) (d : ℕ × ℕ) (di : In d (dirs s)) (k :
     size-is = all-size s S e mine file offset (length bytes) (file-in s S d di k k₁ k₂ file .blocks) room
 
     -- the steps: blocks are taken to the end of the chain, and the data is put
-    at-start : Midway s (dirs s) (Entry s) e s (firstBlock s e) (blocksOf s e)
-    at-start = rw (file-holds s S e mine file) at (midway-start s S e mine no-self)
+    at-start : Midway s (dirs s) (Owner s) (firstBlock s) (heldAt s) e s (firstBlock s e) (blocksOf s e)
+    at-start = subst (λ (x : ℕ). Midway s (dirs s) (Owner s) (firstBlock s) (heldAt s) e s (firstBlock s e) x) (file-holds s S e mine file) (midway-start s S e (inl mine) no-self)
 
-    grow : (z : ℕ) × Midway s (dirs s) (Entry s) e larger z c × (chain (next larger) z c ≡ old ++ new)
+    grow : (z : ℕ) × Midway s (dirs s) (Owner s) (firstBlock s) (heldAt s) e larger z c × (chain (next larger) z c ≡ old ++ new)
     unfolding fileBlocks
-    grow = grown-steps s S (dirs s) (Entry s) e St new s (firstBlock s e) (blocksOf s e) last at-start (chain-last (next s) (firstBlock s e) (blocksOf s e)) fresh
+    grow = grown-steps s S (dirs s) (Owner s) (firstBlock s) (heldAt s) e St new s (firstBlock s e) (blocksOf s e) last at-start (chain-last (next s) (firstBlock s e) (blocksOf s e)) fresh
 
     larger-chain : Chain (next larger) n (grow .0) c
-    larger-chain = rw (over-same e (grow .0) (firstBlock s), over-same e c (heldAt s)) at (grow .1 .table .right e mine)
+    larger-chain = rw (over-same e (grow .0) (firstBlock s), over-same e c (heldAt s)) at (grow .1 .table .right e (inl mine))
 
     -- not the directory's
     all-far : (q : ℕ) → In q (old ++ new) → In q (dirBlocks s) → ⊥
     all-far q i m =
         let r = in-chain (next larger) (grow .0) c q (rw (← grow .2) at i) in
-        dir-apart s S (dirs s) (Entry s) e St larger (grow .0) c (grow .1) q m (r .0) (r .1) (r .2)
+        dir-apart s S (dirs s) (Owner s) (firstBlock s) (heldAt s) e St larger (grow .0) c (grow .1) q m (r .0) (r .1) (r .2)
 
-    filled : Midway s (dirs s) (Entry s) e full (grow .0) c
-    filled = put-midway (old ++ new) larger (grow .0) c offset bytes (grow .1) (λ q i. (above q i, below q i, all-far q i))
+    filled : Midway s (dirs s) (Owner s) (firstBlock s) (heldAt s) e full (grow .0) c
+    filled = put-steps s S (dirs s) (Owner s) (firstBlock s) (heldAt s) e St (old ++ new) larger (grow .0) c offset bytes (grow .1) (λ q i. (above q i, below q i, all-far q i))
 
     pub few : c ≤ n
     few = chain-most (next larger) n (grow .0) c larger-chain (S .least)
@@ -226,7 +214,7 @@ module _ (s : List ℕ) (S : Sound s) (d : ℕ × ℕ) (di : In d (dirs s)) (k :
         go (suc x) q = rw (ne-eqb first 0 (λ o. omega (arith, first-is (omega arith), larger-chain .above 0 (omega arith))), ne-eqb size 0 (λ o. omega (arith, size-is)))
 
     slot-ok : slotOk done e ≡ true
-    unfolding slotOk fileOk nameOk attributesOk
+    unfolding slotOk fileOk nameOk attributesOk noAttributes
     slot-ok =
         let w = file-right s S d di k k₁ k₂ file in
         let a = and-split (nameOk s e) _ w in
@@ -247,8 +235,11 @@ module _ (s : List ℕ) (S : Sound s) (d : ℕ × ℕ) (di : In d (dirs s)) (k :
     pub written-sound : Sound (writeAt s e offset bytes time)
     written-sound =
         rw write-is
-        (midway-end s S d di k k₁ k₂ full (grow .0) c filled done (set-file-length full e first size c time fits) outside no-dir (rw type-done no-dir) slot-ok
-        (λ u j h g ne uj q. names-differ s S d di j k h k₁ g k₂ ne uj used (sym q ∙ name-done)) (λ pos. first-done ∙ first-is pos) (rw (type-done, blocks-done) (file-held (typeOf s e) c file)))
+        (midway-own s S d di k k₁ k₂ full (grow .0) c filled done (set-file-length full e first size c time fits) outside no-dir (rw type-done no-dir) slot-ok
+        (λ u j h g ne uj q. names-differ s S d di j k h k₁ g k₂ ne uj used (sym q ∙ name-done)) (λ pos. first-done ∙ first-is pos)
+        (own-held done e (mine .aligned) ∙ (rw (type-done, blocks-done) (file-held (typeOf s e) c file)))
+        (rw (second-held done e (mine .aligned), second-held s e (mine .aligned), type-done, attribute-done 36 (omega arith) (omega arith)))
+        (λ pos. rw (second-first done e, second-first s e) (attribute-done 32 (omega arith) (omega arith))))
 
     -- the others stay
     taken-agree : Agree s larger (new ++ entriesNamed (changedEntries last new))
@@ -264,49 +255,47 @@ module _ (s : List ℕ) (S : Sound s) (d : ℕ × ℕ) (di : In d (dirs s)) (k :
 
     -- the table is written by growing alone
     full-next : (y : ℕ) → y < 128 * tableBlocks n → next full y ≡ next larger y
-    full-next y h = agree-next y (put-agree n (S .least) (old ++ new) larger offset bytes larger-length below)
-        (λ i. omega (arith, above (tableBlockOf y) (written-in (old ++ new) offset (length bytes) (tableBlockOf y) i)))
+    full-next = put-next n (S .least) (old ++ new) larger offset bytes larger-length below above
 
-    -- block x of another entry
-    module _ (j : ℕ) (h : Entry s j) (ne : j ≢ e) (x : ℕ) (g : x < heldAt s j) where
-      abbrev q : ℕ
-      q = nth (next s) x (firstBlock s j)
-
+    -- the blocks of another owner
+    module _ (a : ℕ) (A : Owner s a) (ne : a ≢ e) (q : ℕ) (i : In q (blocksAt s a)) where
       not-old : In q old → ⊥
-      not-old = file-apart s S e mine file j h ne x g
+      not-old m = block-apart s S e (inl mine) a A ne q i (rw (file-blocks s S e mine file) m)
 
       not-new : In q new → ⊥
-      not-new i = held-used s S j h x g (fresh .empty q i)
+      not-new m = block-used s S a A q i (fresh .empty q m)
 
       next-kept : next full q ≡ next s q
       next-kept =
-          full-next q (omega (arith, held-below s S j h x g))
-          ∙ grown-next n (S .least) new s last q (S .whole) last-small (fresh .below) (fresh .above) (omega (arith, held-below s S j h x g)) not-new
+          full-next q (omega (arith, block-below s S a A q i))
+          ∙ grown-next n (S .least) new s last q (S .whole) last-small (fresh .below) (fresh .above) (omega (arith, block-below s S a A q i)) not-new
           (λ pos o. not-old (subst (λ (z : ℕ). In z old) (sym o) (last-old pos)))
 
       data-kept : block full q ≡ block s q
       data-kept =
-          put-outside n (S .least) q (old ++ new) larger offset bytes larger-length below (λ i. ⊎-elim not-old not-new (in-append q old new i))
-          ∙ larger-block q (held-above s S j h x g) not-new
+          put-outside n (S .least) q (old ++ new) larger offset bytes larger-length below (λ m. ⊎-elim not-old not-new (in-append q old new m))
+          ∙ larger-block q (block-high s S a A q i) not-new
 
-    -- the table's entries and the data of every other entry's blocks, when the entry is set again
-    pub written-next : (a : ℕ) → Entry s a → a ≢ e → (x : ℕ) → x < heldAt s a → next (writeAt s e offset bytes time) (nth (next s) x (firstBlock s a)) ≡ next s (nth (next s) x (firstBlock s a))
-    written-next a A ne x g =
-        rw write-is (before-next full done n (outside 0 (512 * rootBlock n) (inl (omega (arith, entry-low s S e mine)))) (nth (next s) x (firstBlock s a)) (omega (arith, held-below s S a A x g)) ∙ next-kept a A ne x g)
+      pub written-next : next (writeAt s e offset bytes time) q ≡ next s q
+      written-next = rw write-is (before-next full done n (outside 0 (512 * rootBlock n) (inl (omega (arith, entry-low s S e mine)))) q (omega (arith, block-below s S a A q i)) ∙ next-kept)
 
-    pub written-block : (a : ℕ) → Entry s a → a ≢ e → isFile (typeOf s a) ≡ true → (x : ℕ) → x < heldAt s a
-        → block (writeAt s e offset bytes time) (nth (next s) x (firstBlock s a)) ≡ block s (nth (next s) x (firstBlock s a))
-    written-block a A ne f x g =
-        rw write-is (entry-elsewhere s S e mine full done (filled .len) (set-file-length full e first size c time fits) outside (nth (next s) x (firstBlock s a)) (held-below s S a A x g)
-        (λ z. tree-apart s S a A x g (file-no-self s S a A f) (subst (λ (y : ℕ). In y (dirBlocks s)) z (mine .within-tree))) ∙ data-kept a A ne x g)
+      pub written-block : ((x : ℕ × ℕ) → In x (dirs s) → a ≢ 512 * x .0) → block (writeAt s e offset bytes time) q ≡ block s q
+      written-block apart =
+          rw write-is (entry-elsewhere s S e mine full done (filled .len) (set-file-length full e first size c time fits) outside q (block-below s S a A q i)
+          (λ z. block-outside s S a A apart q i (subst (λ (y : ℕ). In y (dirBlocks s)) z (mine .within-tree))) ∙ data-kept)
 
-    -- only this slot of the directories differs
-    pub written-slot : OneSlot s (dirs s) (writeAt s e offset bytes time) e
-    written-slot = rw write-is (one-slot s S d di k k₁ k₂ full (grow .0) c filled done (set-file-length full e first size c time fits) outside)
+    -- the file's attributes stay
+    pub written-attributes : SameAttributes s (writeAt s e offset bytes time) e
+    written-attributes =
+        same-attributes s (writeAt s e offset bytes time) e (mine .aligned) file (rw write-is type-done) (rw write-is (attribute-done 32 (omega arith) (omega arith)))
+        (rw write-is (attribute-done 36 (omega arith) (omega arith)))
+        (λ q i. written-next (e + 28) (second s S e mine file) (λ z. omega arith) q (rw (second-blocks s S e mine file) i))
+        (λ q i. written-block (e + 28) (second s S e mine file) (λ z. omega arith) q (rw (second-blocks s S e mine file) i) (second-no-self s S e mine file))
 
     -- as many blocks more are in use as it takes
     pub written-used : be32 (writeAt s e offset bytes time) 20 ≡ be32 s 20 + needed s e offset (length bytes)
     written-used =
+        let few-used = occupied-most (next larger) n in
         let l = new-length s e offset (length bytes) room in
         let free = free-count s S in
         let f = S .free-is in
@@ -316,6 +305,10 @@ module _ (s : List ℕ) (S : Sound s) (d : ℕ × ℕ) (di : In d (dirs s)) (k :
         let g = grown-used n (S .least) new s last (S .whole) last-small (fresh .below) (omega (arith, occupied-most (next s) n)) in
         rw write-is (same-be32 full done 0 28 20 (outside 0 28 (inl (omega (arith, entry-low s S e mine)))) (omega arith) (omega arith)
         ∙ filled .used ∙ occupied-same (next larger) (next full) n (λ y h. ap (λ (z : ℕ). eqb z 0) (full-next y (omega arith))) ∙ sym w ∙ g ∙ ap (λ (z : ℕ). be32 s 20 + z) l)
+
+    -- only this slot of the directories differs
+    pub written-slot : OneSlot s (dirs s) (writeAt s e offset bytes time) e
+    written-slot = rw write-is (one-slot s S d di k k₁ k₂ (firstBlock s) (heldAt s) e full (grow .0) c filled done (set-file-length full e first size c time fits) outside)
 
     -- the file is as written
     done-next : (y : ℕ) → y < 128 * tableBlocks n → next done y ≡ next larger y

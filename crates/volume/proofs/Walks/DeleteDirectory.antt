@@ -2,25 +2,28 @@
 use Prim.Native.Nat.{ℕ, suc, _-_, _*_}
 use mathlib.Core.Path.{_≡_, sym}
 use mathlib.Core.Bool.{true, false, not}
-use mathlib.Core.List.{List}
+use mathlib.Core.List.{List, [], append-nil}
 use lib.ListN.{length}
 use lib.Dec.{eqb}
 use borrow.Author.Tests.{eqb-false, not-true}
 use Rattle.layout.specs.Limits.{maxLevels}
 use Rattle.layout.specs.Refusals.{require}
 use Rattle.layout.specs.Geometry.{blockCount}
-use Rattle.layout.specs.Table.{next, chainOk}
-use Rattle.layout.specs.Directory.{firstBlock, blocksOf, isDirectory, isEmpty, dirs}
+use Rattle.layout.specs.Table.{next, chain, chainOk}
+use Rattle.layout.specs.Directory.{slotAt, firstBlock, blocksOf, attributeSize, isDirectory, isEmpty, directory, dirs, fileBlocks, attributeBlocks}
 use Rattle.layout.specs.Check.{check}
 use Rattle.layout.specs.Paths.{parts, pathOk, leading, shallow, home, pathSlot, entryOf, directoryRefusal}
 use Rattle.layout.specs.Walks.Looks.{Located}
 use Rattle.layout.specs.Walks.Shapes.{DirectoryAt}
 use Rattle.volume.specs.Directories.{deleteDirectoryRefusal}
+use Rattle.volume.specs.Delete.{allBlocks}
 use Rattle.volume.specs.Walks.Drops.{Droppable}
 use Rattle.layout.proofs.Laws.Tests.{require-zero, firstOf-zero, firstOf-refused}
 use Rattle.layout.proofs.Laws.Lists.{In}
-use Rattle.layout.proofs.Laws.Chains.{chainOk-join}
+use Rattle.layout.proofs.Laws.Chains.{Chain, chainOk-join, chain-distinct}
 use Rattle.layout.proofs.Laws.Sound.{sound}
+use Rattle.layout.proofs.Laws.Slots.{slot-ok}
+use Rattle.layout.proofs.Laws.Owners.{directory-slot-ok, directory-attributes}
 use Rattle.layout.proofs.Laws.Goes.{gone-in}
 use Rattle.layout.proofs.Laws.Paths.{path-named, path-home}
 use Rattle.layout.proofs.Walks.Homes.{sound-directory}
@@ -53,15 +56,32 @@ module _ (s path : List ℕ) where
           gone-in s s (sound s ok) (home s path) (maxLevels - suc (length (leading (parts path)))) i (pathSlot isDirectory s path) (N .low) (N .high) (N .typed),
         )
 
+    child-right : check s ≡ 0 → Chain (next s) (blockCount s) (firstBlock s (entryOf isDirectory s path)) (blocksOf s (entryOf isDirectory s path))
+    child-right ok = child-chain s (sound s ok) path (directory-at-path s path z)
+
     child-chained : check s ≡ 0 → chainOk (next s) (blockCount s) (firstBlock s (entryOf isDirectory s path)) (blocksOf s (entryOf isDirectory s path)) ≡ true
-    child-chained ok = chainOk-join (next s) (blockCount s) _ _ (child-chain s (sound s ok) path (directory-at-path s path z))
+    child-chained ok = chainOk-join (next s) (blockCount s) _ _ (child-right ok)
+
+    -- it has no attributes
+    child-attributes : check s ≡ 0 → (attributeSize s (entryOf isDirectory s path) ≡ 0) × (attributeBlocks s (entryOf isDirectory s path) ≡ [])
+    unfolding entryOf
+    child-attributes ok =
+        let A = directory-at-path s path z in
+        let e : ℕ = slotAt (directory s (home s path)) (pathSlot isDirectory s path) in
+        let N = A .named in
+        directory-attributes s e (directory-slot-ok s e (N .typed) (slot-ok s (sound s ok) (home s path, A .level) (A .home-in) (pathSlot isDirectory s path) (N .low) (N .high)))
+
+    child-all : check s ≡ 0 → allBlocks s (entryOf isDirectory s path) ≡ chain (next s) (firstBlock s (entryOf isDirectory s path)) (blocksOf s (entryOf isDirectory s path))
+    unfolding allBlocks fileBlocks
+    child-all ok = rw (child-attributes ok .1) (append-nil _)
 
     module _ {slot b first size blocks : ℕ} (l : Located isDirectory s path slot b first size blocks) where
       pub child-at : check s ≡ 0 → DirectoryAt s (blockCount s) first (blocksOf s (512 * first))
       child-at ok = let i = child-in ok in rw (l .start) (sound-directory s ok (firstBlock s (entryOf isDirectory s path), i .0) (i .1))
 
-      pub child-droppable : check s ≡ 0 → Droppable s b first blocks
-      child-droppable ok = droppable l ok (child-chained ok)
+      pub child-droppable : check s ≡ 0 → Droppable s b slot first blocks
+      unfolding chainOk
+      child-droppable ok = droppable l ok (child-chained ok) (rw (child-attributes ok .0)) (rw (child-all ok) (chain-distinct (next s) (blockCount s) _ _ (child-right ok) (sound s ok .least)))
 
       pub child-used : false ≡ isEmpty s first → 18 ≡ deleteDirectoryRefusal s path
       unfolding deleteDirectoryRefusal

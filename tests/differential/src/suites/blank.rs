@@ -1,5 +1,6 @@
-//! Freed blocks are blank. What a file or a folder held is looked for in the
-//! library's image, at every place, before its delete and after it.
+//! Freed blocks are blank. What a file, a folder or attributes held is looked
+//! for in the library's image, at every place, before a change that frees it and
+//! after it.
 
 use crate::arguments::changes;
 use crate::images::{self, Fill};
@@ -9,7 +10,9 @@ use crate::rng::Rng;
 use crate::tester::Tester;
 use crate::tree::{files, folders, Item};
 use reference::layout::*;
-use reference::worked::{create, delete, delete_directory, write};
+use reference::worked::{
+    clear_attributes, create, delete, delete_directory, set_attributes, write,
+};
 use reference::{Change, State};
 use std::collections::HashSet;
 
@@ -29,6 +32,15 @@ pub fn run(rng: &mut Rng, _: u64, t: &mut Tester) {
             t.report.about(format!("n {n}, delete of a folder"));
             blanked(t, image, &delete_directory(&path));
         }
+        if let Some((path, image, blocks)) = marked_attributes(rng, &image) {
+            t.report.about(format!("n {n}, attributes of {blocks} blocks"));
+            let count = rng.between(1, blocks);
+            let change = match rng.below(3) {
+                0 => clear_attributes(&path),
+                _ => set_attributes(&path, &rng.bytes(BLOCK * count)),
+            };
+            blanked(t, image, &change);
+        }
     }
     written(rng, t, image);
 }
@@ -44,7 +56,7 @@ fn any(rng: &mut Rng, items: Vec<Item>) -> Option<Item> {
     (!items.is_empty()).then(|| rng.pick(&items))
 }
 
-/// An image and its secret: pieces of bytes that a delete must leave nowhere.
+/// An image and its secret: pieces of bytes that must be left nowhere.
 struct Marked {
     image: Vec<u8>,
     secret: HashSet<[u8; PIECE]>,
@@ -65,12 +77,26 @@ fn pieces(bytes: &[u8]) -> impl Iterator<Item = [u8; PIECE]> + '_ {
     bytes.windows(PIECE).map(|piece| piece.try_into().unwrap())
 }
 
-/// A file with blocks: all their bytes are secret, also those behind its end.
+/// All bytes of some blocks.
+fn places(blocks: &[usize]) -> Vec<std::ops::Range<usize>> {
+    blocks.iter().map(|&b| b * BLOCK..(b + 1) * BLOCK).collect()
+}
+
+/// A file with blocks: all their bytes are secret, also those behind its end
+/// and those of its attributes.
 fn a_marked_file(rng: &mut Rng, image: &[u8]) -> Option<(Vec<u8>, Marked)> {
-    let with_blocks = files(image).into_iter().filter(|file| file.blocks > 0).collect();
-    let file = any(rng, with_blocks)?;
-    let places: Vec<_> = file.chain(image).iter().map(|&b| b * BLOCK..(b + 1) * BLOCK).collect();
-    Some((file.path.clone(), mark(rng, image, &places)))
+    let with_blocks = |file: &Item| file.blocks + file.attribute_size > 0;
+    let file = any(rng, files(image).into_iter().filter(with_blocks).collect())?;
+    let blocks = [file.chain(image), file.attributes(image)].concat();
+    Some((file.path.clone(), mark(rng, image, &places(&blocks))))
+}
+
+/// A file's attributes, and how many blocks they have.
+fn marked_attributes(rng: &mut Rng, image: &[u8]) -> Option<(Vec<u8>, Marked, usize)> {
+    let with_attributes = |file: &Item| file.attribute_size > 0;
+    let file = any(rng, files(image).into_iter().filter(with_attributes).collect())?;
+    let blocks = file.attributes(image);
+    Some((file.path.clone(), mark(rng, image, &places(&blocks)), blocks.len()))
 }
 
 /// A folder that is made empty: what its slots hold behind their types is secret.
@@ -87,7 +113,8 @@ fn found(image: &[u8], secret: &HashSet<[u8; PIECE]>) -> usize {
     pieces(image).filter(|piece| secret.contains(piece)).count()
 }
 
-/// Makes a delete and looks for the secret; undo brings all of it back.
+/// Makes a change that frees the secret's blocks, and looks for it; undo brings
+/// all of it back.
 fn blanked(t: &mut Tester, marked: Marked, change: &Change) {
     let Marked { image, secret } = marked;
     let journal = reference::start(journals::room_for_all(&image)).unwrap();
@@ -100,7 +127,7 @@ fn blanked(t: &mut Tester, marked: Marked, change: &Change) {
         State { image: pair.image.content().to_vec(), journal: pair.journal.content().to_vec() };
     t.undo_in(&mut pair, &after);
     let back = pair.troubles(&before).into_iter().flatten().next();
-    t.report.agree("as before the delete", back, None);
+    t.report.agree("as before the change", back, None);
 }
 
 /// The secret was there and is gone; what was free has its bytes still.
@@ -117,14 +144,17 @@ fn gone(t: &mut Tester, pair: &Pair, before: &[u8], secret: &HashSet<[u8; PIECE]
     }
 }
 
-/// A file made, written and deleted by the library itself, other changes between.
+/// A file made, written, given attributes and deleted by the library itself,
+/// other changes between.
 fn written(rng: &mut Rng, t: &mut Tester, image: Vec<u8>) {
     let (path, len) = (b"/\x01secret", rng.between(PIECE, MAX_DATA));
     let data = rng.bytes(len);
+    let blocks = rng.between(1, MAX_ATTRIBUTE_BLOCKS);
+    let attributes = rng.bytes(BLOCK * blocks);
     let journal = reference::start(4 * journals::room_for_all(&image) + 60_000).unwrap();
     let mut state = State { image, journal };
     let mut pair = t.lend_pair(&state);
-    let mut steps = vec![create(path), write(path, 0, &data)];
+    let mut steps = vec![create(path), write(path, 0, &data), set_attributes(path, &attributes)];
     steps.extend(changes(rng, &state.image));
     steps.push(delete(path));
     t.report.about("a file written and deleted, other changes between");
@@ -134,7 +164,7 @@ fn written(rng: &mut Rng, t: &mut Tester, image: Vec<u8>) {
             state = applied.state;
         }
     }
-    let secret: HashSet<_> = pieces(&data).collect();
+    let secret: HashSet<_> = pieces(&data).chain(pieces(&attributes)).collect();
     t.report.agree("pieces left", found(pair.image.content(), &secret), 0);
 }
 

@@ -34,6 +34,15 @@ pub fn numbers(_: &mut Rng, _: u64, t: &mut Tester) {
         (write(b"/SN10", 0, b"z"), 10),
         (write(b"/SN1", 0, &[1; 4096]), 0),
         (write(b"/SN1", 0, &[1; 4097]), 9),
+        (set_attributes(b"/A", &[b'p'; 512]), 0),
+        (set_attributes(b"/A", &[b'q'; 1024]), 0),
+        (set_attributes(b"/A", &[b'q'; 1025]), 9),
+        (set_attributes(b"/A", &[]), 9),
+        (set_attributes(b"/A", &[b'q'; 4096]), 14),
+        (set_attributes(b"/A", &[b'q'; 4608]), 20),
+        (clear_attributes(b"/A"), 0),
+        (clear_attributes(b"/A"), 0),
+        (set_attributes(b"/A", &[b'p'; 512]), 0),
         (delete(b"/A"), 0),
     ] {
         let got = t.change(&state, &change);
@@ -61,6 +70,7 @@ pub fn edges(rng: &mut Rng, _: u64, t: &mut Tester) {
     most_records(rng, t);
     largest_record(rng, t);
     widest_writes(rng, t);
+    widest_set(rng, t);
     widest_delete(rng, t);
     largest_file(rng, t);
     let most = 512 * MAX_BLOCKS;
@@ -84,6 +94,8 @@ fn every_journaled_call(t: &mut Tester, state: &State) {
     t.change(state, &delete(&path));
     t.change(state, &create_directory(b"/\x01new\x02", 2));
     t.change(state, &delete_directory(b"/\x01new\x02"));
+    t.change(state, &set_attributes(&path, &[9; 1024]));
+    t.change(state, &clear_attributes(&path));
     t.undo(state);
 }
 
@@ -183,14 +195,54 @@ fn widest_writes(rng: &mut Rng, t: &mut Tester) {
     }
 }
 
+/// The set that names the most blocks: eight old ones and eight new ones, with
+/// entries in as many table blocks. Then the clear, and a delete.
+fn widest_set(rng: &mut Rng, t: &mut Tester) {
+    let mut image = build(rng, MAX_BLOCKS, 2, Fill::Empty);
+    let slots = slot_offsets(&image, root(&image));
+    let mut pool = free_blocks(&image);
+    rng.shuffle(&mut pool);
+    let in_table = |table| pool.iter().copied().find(|&b| table_block_of(b) == table);
+    let old: Vec<usize> = (30..38).filter_map(in_table).collect();
+    let free: Vec<usize> = (20..28).filter_map(in_table).collect();
+    pool.retain(|b| !old.contains(b) && !free.contains(b));
+    put_file(rng, &mut image, slots[1], b"small", 0, &mut vec![]);
+    link(&mut image, &old);
+    put_number(&mut image, slots[1] + slot::ATTRIBUTE_BLOCK, old[0] as u32);
+    put_number(&mut image, slots[1] + slot::ATTRIBUTE_SIZE, 8);
+    let size = pool.len() * BLOCK;
+    put_file(rng, &mut image, slots[2], b"large", size, &mut pool);
+    put_header(&mut image);
+    let state = State { image, journal: reference::start(100_000).unwrap() };
+    for (change, blocks) in [
+        (set_attributes(b"/small", &rng.bytes(4096)), 1 + 1 + 16 + 16),
+        (set_attributes(b"/small", &rng.bytes(512)), 1 + 1 + 9 + 9),
+        (clear_attributes(b"/small"), 1 + 1 + 8 + 8),
+        (delete(b"/small"), 1 + 1 + 8 + 8),
+    ] {
+        t.report.about(format!("a change of {blocks} blocks"));
+        t.change(&state, &change);
+        let after = reference::apply(&state, &change).unwrap();
+        t.report.agree("record", after.record, 4 + 516 * blocks);
+        t.read_attributes(&after.state.image, b"/small", &[5; 5000]);
+        t.undo(&after.state);
+    }
+}
+
 /// The delete that names the most blocks, of the largest file that there can
-/// be, with a journal that its record just fits into and just does not.
+/// be, attributes among them, with a journal that its record just fits into and
+/// just does not.
 fn widest_delete(rng: &mut Rng, t: &mut Tester) {
     let mut image = build(rng, MAX_BLOCKS, 1, Fill::Empty);
     let slots = slot_offsets(&image, root(&image));
     let mut pool = free_blocks(&image);
     rng.shuffle(&mut pool);
-    put_file(rng, &mut image, slots[2], b"all", pool.len() * BLOCK, &mut pool);
+    let attributes = rng.below(9);
+    let size = (pool.len() - attributes) * BLOCK;
+    put_file(rng, &mut image, slots[2], b"all", size, &mut pool);
+    link(&mut image, &pool);
+    put_number(&mut image, slots[2] + slot::ATTRIBUTE_BLOCK, pool.first().map_or(0, |&b| b as u32));
+    put_number(&mut image, slots[2] + slot::ATTRIBUTE_SIZE, attributes as u32);
     put_header(&mut image);
     // Directory block, block 0, the file's blocks, and the table blocks but for
     // the first four, whose entries are those of header, table and root.

@@ -10,7 +10,7 @@ use crate::tree::{folders, items, Item};
 use crate::{damage, journals};
 use reference::layout::*;
 use reference::path::Want;
-use reference::{Change, Delete, DeleteDirectory, State, Write};
+use reference::{Change, ClearAttributes, Delete, DeleteDirectory, SetAttributes, State, Write};
 
 pub fn all(rng: &mut Rng, _: u64, t: &mut Tester) {
     format(rng, t);
@@ -20,6 +20,8 @@ pub fn all(rng: &mut Rng, _: u64, t: &mut Tester) {
     deletes(rng, t);
     directory_creates(rng, t);
     directory_deletes(rng, t);
+    sets(rng, t);
+    clears(rng, t);
     undos(rng, t);
 }
 
@@ -296,6 +298,54 @@ fn deletes(rng: &mut Rng, t: &mut Tester) {
         let journal = journal_for(rng, &reasons, &image, 1);
         let path = path_for(rng, &reasons, &image, Want::File, reasons.contains(&9));
         let change = Change::Delete(Delete { path });
+        let stage = maybe_damage(rng, &reasons, &mut image);
+        compare(t, &State { image, journal }, &change, lowest(&reasons, stage));
+    }
+}
+
+fn sets(rng: &mut Rng, t: &mut Tester) {
+    for reasons in subsets(&[1, 8, 9, 20, 17, 10, 14, 15]) {
+        t.report.about(format!("set of attributes, reasons {reasons:?}"));
+        let (mut image, path, data) = set_for(rng, &reasons);
+        let journal = journal_for(rng, &reasons, &image, 1);
+        let change = Change::SetAttributes(SetAttributes { path, data });
+        let stage = maybe_damage(rng, &reasons, &mut image);
+        compare(t, &State { image, journal }, &change, lowest(&reasons, stage));
+    }
+}
+
+/// An image, and the path and the data of a set. With 14 the free blocks and
+/// those of the old attributes are fewer than may be needed.
+fn set_for(rng: &mut Rng, reasons: &[u32]) -> (Vec<u8>, Vec<u8>, Vec<u8>) {
+    let bad_data = reasons.contains(&9) && rng.once_in(2);
+    let bad_path = reasons.contains(&9) && !bad_data;
+    loop {
+        let image = image_for(rng, reasons);
+        let path = path_for(rng, reasons, &image, Want::File, bad_path);
+        let most = free_blocks(&image).len() + attribute_blocks(&image, &path);
+        let count = match (reasons.contains(&20), reasons.contains(&14)) {
+            (true, _) => rng.pick(&[9, 10, 16, 129, 256]),
+            (_, true) if most >= MAX_ATTRIBUTE_BLOCKS => continue,
+            (_, true) => rng.between(most + 1, MAX_ATTRIBUTE_BLOCKS),
+            _ => rng.between(1, MAX_ATTRIBUTE_BLOCKS),
+        };
+        let mut data = whole_blocks(rng, count);
+        match (bad_data, reasons.contains(&20)) {
+            (true, true) => data.truncate(BLOCK * count - rng.between(1, BLOCK - 1)),
+            (true, false) => data = bad_attributes(rng),
+            _ => {}
+        }
+        return (image, path, data);
+    }
+}
+
+fn clears(rng: &mut Rng, t: &mut Tester) {
+    for reasons in subsets(&[1, 8, 9, 17, 10, 15]) {
+        t.report.about(format!("clear of attributes, reasons {reasons:?}"));
+        let mut image = image_for(rng, &reasons);
+        let journal = journal_for(rng, &reasons, &image, 1);
+        let path = path_for(rng, &reasons, &image, Want::File, reasons.contains(&9));
+        let change = Change::ClearAttributes(ClearAttributes { path });
         let stage = maybe_damage(rng, &reasons, &mut image);
         compare(t, &State { image, journal }, &change, lowest(&reasons, stage));
     }

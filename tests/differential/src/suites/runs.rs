@@ -25,15 +25,18 @@ pub struct Mix {
     delete: usize,
     /// Creates of folders, and deletes.
     folder: usize,
+    /// Sets of attributes, and clears.
+    attributes: usize,
     undo: usize,
     look: usize,
 }
 
-pub const MIXES: [Mix; 4] = [
-    Mix { create: 3, write: 8, delete: 2, folder: 3, undo: 3, look: 4 },
-    Mix { create: 2, write: 12, delete: 1, folder: 1, undo: 1, look: 2 },
-    Mix { create: 4, write: 4, delete: 5, folder: 9, undo: 2, look: 2 },
-    Mix { create: 3, write: 6, delete: 3, folder: 4, undo: 9, look: 1 },
+pub const MIXES: [Mix; 5] = [
+    Mix { create: 3, write: 8, delete: 2, folder: 3, attributes: 3, undo: 3, look: 4 },
+    Mix { create: 2, write: 12, delete: 1, folder: 1, attributes: 1, undo: 1, look: 2 },
+    Mix { create: 4, write: 4, delete: 5, folder: 9, attributes: 2, undo: 2, look: 2 },
+    Mix { create: 3, write: 6, delete: 3, folder: 4, attributes: 4, undo: 9, look: 1 },
+    Mix { create: 3, write: 3, delete: 3, folder: 1, attributes: 12, undo: 4, look: 5 },
 ];
 
 pub fn run(rng: &mut Rng, round: u64, t: &mut Tester) {
@@ -107,7 +110,8 @@ fn play(rng: &mut Rng, t: &mut Tester, image: Vec<u8>, length: usize, mix: &Mix,
 pub fn any_call(rng: &mut Rng, replay: &Replay, mix: &Mix) -> Call {
     let image = &replay.replayed().image;
     let folders = mix.create + mix.write + mix.delete;
-    let looks = folders + mix.folder + mix.undo;
+    let attributes = folders + mix.folder;
+    let looks = attributes + mix.attributes + mix.undo;
     let pick = rng.below(looks + mix.look);
     if pick < mix.create {
         Call::Change(any_create(rng, image))
@@ -115,12 +119,19 @@ pub fn any_call(rng: &mut Rng, replay: &Replay, mix: &Mix) -> Call {
         Call::Change(any_write(rng, image))
     } else if pick < folders {
         Call::Change(any_delete(rng, image))
-    } else if pick < folders + mix.folder {
+    } else if pick < attributes {
         let made = rng.below(5) < 3;
         Call::Change(if made {
             any_create_directory(rng, image)
         } else {
             any_delete_directory(rng, image)
+        })
+    } else if pick < attributes + mix.attributes {
+        let set = rng.below(3) < 2;
+        Call::Change(if set {
+            any_set_attributes(rng, image)
+        } else {
+            any_clear_attributes(rng, image)
         })
     } else if pick < looks {
         Call::Undo
@@ -132,9 +143,13 @@ pub fn any_call(rng: &mut Rng, replay: &Replay, mix: &Mix) -> Call {
 fn any_look(rng: &mut Rng, image: &[u8]) -> Call {
     let path = any_path(rng, image, Want::File);
     let size = size_of(image, &path);
-    match rng.below(4) {
+    match rng.below(5) {
         0 => Call::Check,
         1 => Call::Lookup { path },
+        3 => {
+            let buffer = any_attributes_buffer(rng, attribute_blocks(image, &path));
+            Call::ReadAttributes { path, buffer }
+        }
         2 => {
             let buffer = any_buffer(rng, size);
             Call::Read { path, offset: any_offset(rng, size), buffer }
@@ -152,11 +167,14 @@ fn brief(call: &Call) -> String {
         Call::Change(Delete(d)) => format!("delete of a path of {} bytes", d.path.len()),
         Call::Change(CreateDirectory(c)) => format!("new directory of {} blocks", c.blocks),
         Call::Change(DeleteDirectory(_)) => "delete of a directory".into(),
+        Call::Change(SetAttributes(s)) => format!("set of {} bytes of attributes", s.data.len()),
+        Call::Change(ClearAttributes(_)) => "clear of attributes".into(),
         Call::Undo => "undo".into(),
         Call::Check => "check".into(),
         Call::Lookup { .. } => "lookup".into(),
         Call::Read { offset, buffer, .. } => format!("read of {} bytes at {offset}", buffer.len()),
         Call::LookInPlace { index, .. } => format!("look in place at {index}"),
+        Call::ReadAttributes { buffer, .. } => format!("read attributes into {}", buffer.len()),
     }
 }
 
@@ -231,12 +249,14 @@ fn look_with_library(image: &Lent, call: &Call) -> (Entry, Answer, Vec<Option<St
             (Entry::Lookup, answer, vec![lent.trouble("path", path), zeros])
         }
         Call::Read { path, offset, buffer } => {
-            let (lent, mut lent_buffer) = (Lent::new(path, 5), Lent::new(buffer, 6));
-            let got = library::read(image, &lent, *offset, &mut lent_buffer);
-            let after = lent_buffer.content().to_vec();
-            let troubles = vec![lent.trouble("path", path), lent_buffer.trouble("buffer", &after)];
-            let answer = Answer::Read { number: got.number, count: got.count, buffer: after };
+            let fill = |path: &Lent, into: &mut Lent| library::read(image, path, *offset, into);
+            let (answer, troubles) = fill_with_library(path, buffer, fill);
             (Entry::Read, answer, troubles)
+        }
+        Call::ReadAttributes { path, buffer } => {
+            let fill = |path: &Lent, into: &mut Lent| library::read_attributes(image, path, into);
+            let (answer, troubles) = fill_with_library(path, buffer, fill);
+            (Entry::ReadAttributes, answer, troubles)
         }
         Call::LookInPlace { path, index } => {
             let lent = Lent::new(path, 8);
@@ -247,6 +267,19 @@ fn look_with_library(image: &Lent, call: &Call) -> (Entry, Answer, Vec<Option<St
         }
         Call::Change(_) | Call::Undo => unreachable!("not a look"),
     }
+}
+
+/// The answer of a call that fills a buffer.
+fn fill_with_library(
+    path: &[u8],
+    buffer: &[u8],
+    fill: impl FnOnce(&Lent, &mut Lent) -> ffi::Filled,
+) -> (Answer, Vec<Option<String>>) {
+    let (lent, mut lent_buffer) = (Lent::new(path, 5), Lent::new(buffer, 6));
+    let got = fill(&lent, &mut lent_buffer);
+    let after = lent_buffer.content().to_vec();
+    let troubles = vec![lent.trouble("path", path), lent_buffer.trouble("buffer", &after)];
+    (Answer::Read { number: got.number, count: got.count, buffer: after }, troubles)
 }
 
 /// The answer of lookup, and whether a refusal comes without zeros.

@@ -156,7 +156,7 @@ fn spoil(rng: &mut Rng, script: &mut Script) {
     let (any, last) = (rng.pick(&script.items), script.items[script.items.len() - 1]);
     let end = script.bytes.len();
     match rng.below(5) {
-        0 => script.bytes[any] = rng.pick(&[0, 11, 255]),
+        0 => script.bytes[any] = rng.pick(&[0, 14, 255]),
         1 => script.bytes.truncate(rng.between(last + 1, end - 1)),
         2 => script.bytes.extend(vec![8; rng.between(1, HEADER - 1)]),
         3 => put_number(&mut script.bytes, last + PATH_LENGTH, (end - last) as u32),
@@ -210,6 +210,9 @@ fn item_of(rng: &mut Rng, call: &Call) -> Vec<u8> {
             (9, &c.entry.path, &[])
         }
         Call::Change(Change::DeleteDirectory(d)) => (10, &d.path, &[]),
+        Call::Change(Change::SetAttributes(s)) => (11, &s.path, &s.data),
+        Call::Change(Change::ClearAttributes(c)) => (12, &c.path, &[]),
+        Call::ReadAttributes { path, buffer } => (13, path, buffer),
     };
     header[0] = op;
     put_number(&mut header, PATH_LENGTH, path.len() as u32);
@@ -226,7 +229,7 @@ fn put_given(header: &mut [u8], c: &Create) {
 
 fn answer_size(call: &Call) -> usize {
     match call {
-        Call::Read { buffer, .. } => 16 + buffer.len(),
+        Call::Read { buffer, .. } | Call::ReadAttributes { buffer, .. } => 16 + buffer.len(),
         Call::LookInPlace { .. } => 528,
         _ => 16,
     }

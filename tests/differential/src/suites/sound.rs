@@ -5,8 +5,9 @@ use crate::rng::Rng;
 use crate::tester::Tester;
 use crate::tree::{files, folders};
 use crate::{images, journals};
+use reference::layout::{free_blocks, BLOCK, MAX_ATTRIBUTE_BLOCKS};
 use reference::path::Want;
-use reference::{Change, State, Write};
+use reference::{Change, SetAttributes, State, Write};
 
 pub fn format(rng: &mut Rng, _: u64, t: &mut Tester) {
     let n = match rng.below(6) {
@@ -65,6 +66,8 @@ fn look_once(rng: &mut Rng, t: &mut Tester, image: &[u8]) {
     let buffer = any_buffer(rng, size);
     let index = any_index(rng, size);
     t.look(image, &path, offset, &buffer, index);
+    let blocks = attribute_blocks(image, &path);
+    t.read_attributes(image, &path, &any_attributes_buffer(rng, blocks));
 }
 
 /// Every file from end to end.
@@ -76,6 +79,11 @@ fn look_at_all(rng: &mut Rng, t: &mut Tester, image: &[u8]) {
         t.read(image, &file.path, 0, &rng.bytes(file.size as usize + 5));
         for index in 0..u64::from(file.blocks + 1).min(10) {
             t.look_in_place(image, &file.path, index);
+        }
+        let blocks = file.attribute_size as usize;
+        for room in [blocks, blocks + 1, blocks.saturating_sub(1)] {
+            let more = rng.pick(&[0, 1, 511]);
+            t.read_attributes(image, &file.path, &rng.bytes(BLOCK * room + more));
         }
     }
 }
@@ -96,9 +104,9 @@ fn exact_room(rng: &mut Rng, t: &mut Tester, image: &[u8]) {
     exact_blocks(rng, t, image);
 }
 
-/// Writes that need just all free blocks, and one more.
+/// Writes and sets of attributes that need just all free blocks, and one more.
 fn exact_blocks(rng: &mut Rng, t: &mut Tester, image: &[u8]) {
-    let free = reference::layout::free_blocks(image).len();
+    let free = free_blocks(image).len();
     let file = match any_file(rng, image) {
         Some(file) if free <= 7 => file,
         _ => return,
@@ -111,6 +119,14 @@ fn exact_blocks(rng: &mut Rng, t: &mut Tester, image: &[u8]) {
             let path = file.path.clone();
             let write = Write { path, offset: u64::from(file.size), data, time: any_time(rng) };
             let number = t.change(&state, &Change::Write(write));
+            t.report.agree("plan", number, expected);
+        }
+        // The old attributes' blocks count as free.
+        let blocks = free + file.attribute_size as usize + more;
+        if (1..=MAX_ATTRIBUTE_BLOCKS).contains(&blocks) {
+            let (path, data) = (file.path.clone(), whole_blocks(rng, blocks));
+            let set = SetAttributes { path, data };
+            let number = t.change(&state, &Change::SetAttributes(set));
             t.report.agree("plan", number, expected);
         }
     }

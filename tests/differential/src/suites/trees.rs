@@ -21,6 +21,7 @@ pub fn levels(rng: &mut Rng, round: u64, t: &mut Tester) {
         make(t, &mut state, &create_directory(&paths[level], rng.between(1, 2) as u32), 0);
         make(t, &mut state, &create(&file_in(&paths[level])), 0);
         make(t, &mut state, &write(&file_in(&paths[level]), 0, &[level as u8; 9]), 0);
+        make(t, &mut state, &set_attributes(&file_in(&paths[level]), &[level as u8; 512]), 0);
     }
     for (level, path) in paths.iter().enumerate() {
         // In a call for a directory the file's name counts as one.
@@ -31,6 +32,8 @@ pub fn levels(rng: &mut Rng, round: u64, t: &mut Tester) {
         make(t, &mut state, &create_directory(&file_in(path), 1), if deepest { 17 } else { 11 });
         make(t, &mut state, &write(path, 0, b"no file"), 10);
         make(t, &mut state, &delete(path), 10);
+        make(t, &mut state, &set_attributes(path, &[1; 512]), 10);
+        make(t, &mut state, &clear_attributes(path), 10);
         make(t, &mut state, &delete_directory(&file_in(path)), if deepest { 17 } else { 10 });
         make(t, &mut state, &delete_directory(path), 18);
     }
@@ -68,6 +71,9 @@ fn past_the_last(t: &mut Tester, state: &mut State, last: &[u8], depth: usize) {
         t.lookup(&state.image, &path);
         make(t, state, &write(&path, 0, b"z"), file);
         make(t, state, &delete(&path), file);
+        make(t, state, &set_attributes(&path, &[1; 512]), file);
+        make(t, state, &set_attributes(&path, &[1; 4608]), 20);
+        make(t, state, &clear_attributes(&path), file);
         make(t, state, &delete_directory(&path), folder);
         if more > 1 {
             make(t, state, &create(&path), file);
@@ -164,7 +170,19 @@ fn spoil_slot(rng: &mut Rng, sound: &[u8], image: &mut [u8], at: usize, earlier:
         (_, 3 | 4, Some(other)) => {
             image[name..at + SLOT].copy_from_slice(&sound[other + slot::NAME..other + SLOT]);
         }
-        _ => image[at + slot::ATTRIBUTE_BLOCK + rng.below(8)] = rng.nonzero_byte(),
+        _ => spoil_attributes(rng, image, at),
+    }
+}
+
+/// Fields that no file and no folder may have.
+fn spoil_attributes(rng: &mut Rng, image: &mut [u8], at: usize) {
+    let (block, size) = (at + slot::ATTRIBUTE_BLOCK, at + slot::ATTRIBUTE_SIZE);
+    match (number(image, size), rng.below(3)) {
+        (0, 0) => image[block + rng.below(4)] = rng.nonzero_byte(),
+        (0, 1) => image[size + rng.below(4)] = rng.nonzero_byte(),
+        (_, 0) => put_number(image, block, 0),
+        (_, 1) => put_number(image, size, 0),
+        _ => put_number(image, size, rng.pick(&[9, 256, 0x0100_0001, u32::MAX])),
     }
 }
 

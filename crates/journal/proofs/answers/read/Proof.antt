@@ -1,11 +1,10 @@
 use mathlib.Core.Path.{_∙_, sym}
 use native.Mathlib.Omega.{arith}
-use Rattle.journal.specs.Run.{lookAnswer}
 use borrow.Author.Needs.{needs}
 use Rattle.journal.proofs.answers.read.Statement.{statement}
 use Rattle.journal.proofs.answers.read.Tie as tie
 use Rattle.journal.proofs.Walks.Scripts.{length-data}
-use Rattle.journal.proofs.Walks.Encoding.{read-small, read-written}
+use Rattle.journal.proofs.Walks.Encoding.{filled-length, read-small, read-written}
 
 add-get32 : tie.Need-add-get32
 add-get32 c = search needs
@@ -39,7 +38,7 @@ filled-numbers-requires c κs =
     let p = c .before .before .before .before .before .before .before .before .before .pre in
     omega (
       arith,
-      read-small (read-into .last .1 .1 .1 .0) _ _ _ _ (read-into .result) (read-into .ensures),
+      read-small (a .image .now) (a .script .now) (a .at) (read-into .last .1 .1 .1 .0) (read-into .result) (read-into .ensures),
       length-data (a .script .now) (a .at)
           (p .0),
       get32 .ensures,
@@ -52,7 +51,6 @@ same-length : tie.Need-same-length
 same-length c = search needs
 
 returns : tie.Need-returns
-unfolding lookAnswer
 returns c =
     let put-numbers = c .before .before .put-numbers in
     let filled-numbers = c .before .before .before .filled-numbers in
@@ -60,8 +58,8 @@ returns c =
     let get32 = c .before .before .before .before .before .before .before .before .before .get32 in
     let a = c .before .before .before .before .before .before .before .before .before .before .before .before .before .args in
     let p = c .before .before .before .before .before .before .before .before .before .before .before .before .before .pre in
-    let l = length-data (a .script .now) (a .at) (p .0) ∙ sym (get32 .ensures) in
-    read-written (a .part .now) (read-into .last .1 .1 .1 .0) _ _ _ _ _ (get32 .result) (read-into .result) _ _ _ _ (read-into .ensures) l
+    let l = filled-length (a .image .now) (a .script .now) (a .at) ∙ length-data (a .script .now) (a .at) (p .0) ∙ sym (get32 .ensures) in
+    read-written (a .part .now) (read-into .last .1 .1 .1 .0) _ _ (get32 .result) (read-into .result) _ _ _ _ (read-into .ensures) l
     (p .1 ∙ rw (get32 .ensures)) (omega arith) (filled-numbers .ensures) (put-numbers .ensures)
 
 pub read-spec : {M : Type 1} → statement M

@@ -72,7 +72,17 @@ returns-4 c = rw (ne-eqb _ 5 (c .before .before .before .if1 .left), ne-eqb _ 6 
 
 returns-5 : tie.Need-returns-5
 unfolding changeAt
-returns-5 c = rw (ne-eqb _ 5 (c .before .before .before .if1 .left), ne-eqb _ 6 (c .before .before .if2 .left), ne-eqb _ 9 (c .before .if3 .left), ne-eqb _ 10 (c .if4 .left))
+returns-5 c = rw (ne-eqb _ 5 (c .before .before .before .before .if1 .left), ne-eqb _ 6 (c .before .before .before .if2 .left), ne-eqb _ 9 (c .before .before .if3 .left), ne-eqb _ 10 (c .before .if4 .left), c .if5 .taken)
+
+returns-6 : tie.Need-returns-6
+unfolding changeAt
+returns-6 c =
+    rw (ne-eqb _ 5 (c .before .before .before .before .before .if1 .left), ne-eqb _ 6 (c .before .before .before .before .if2 .left), ne-eqb _ 9 (c .before .before .before .if3 .left), ne-eqb _ 10 (c .before .before .if4 .left), ne-eqb _ 11 (c .before .if5 .left), c .if6 .taken)
+
+returns-7 : tie.Need-returns-7
+unfolding changeAt
+returns-7 c =
+    rw (ne-eqb _ 5 (c .before .before .before .before .before .if1 .left), ne-eqb _ 6 (c .before .before .before .before .if2 .left), ne-eqb _ 9 (c .before .before .before .if3 .left), ne-eqb _ 10 (c .before .before .if4 .left), ne-eqb _ 11 (c .before .if5 .left), ne-eqb _ 12 (c .if6 .left))
 
 pub change-of-spec : {M : Type 1} → statement M
 change-of-spec =
@@ -98,4 +108,6 @@ change-of-spec =
     directory-of-requires
     returns-3
     returns-4
-    returns-5)
+    returns-5
+    returns-6
+    returns-7)

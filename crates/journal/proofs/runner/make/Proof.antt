@@ -1,13 +1,19 @@
+use mathlib.Core.Path.{sym, _∙_}
+use Rattle.journal.proofs.Walks.Making.{look-made}
 use borrow.Author.Needs.{needs}
 use Rattle.journal.proofs.runner.make.Statement.{statement}
 use Rattle.journal.proofs.runner.make.Tie as tie
-use Rattle.journal.proofs.Walks.Making.{look-made}
 
-shared-slice-read-if1 : tie.Need-shared-slice-read-if1
-shared-slice-read-if1 c = search needs
+shared-slice-read-is-look : tie.Need-shared-slice-read-is-look
+shared-slice-read-is-look c = search needs
+
+is-look-requires : tie.Need-is-look-requires
+is-look-requires c κs = search needs
 
 look-requires : tie.Need-look-requires
-look-requires c κs = search needs
+look-requires c κs =
+    let p = c .before .before .before .before .before .before .before .before .before .pre in
+    (p .0, p .1, sym (c .before .before .before .is-look .ensures) ∙ c .before .before .if1 .taken)
 
 same-length : tie.Need-same-length
 same-length c = search needs
@@ -17,13 +23,18 @@ same-length-2 c = search needs
 
 returns : tie.Need-returns
 returns c =
-    let look = c .before .before .look in
+    let is-look = c .before .before .before .before .before .before .is-look in
     let if1 = c .before .before .before .before .before .if1 in
-    let p = c .before .before .before .before .before .before .before .before .before .before .before .pre in
-    look-made _ _ _ _ _ (p .1) (if1 .taken) (look .ensures)
+    let look = c .before .before .look in
+    let p = c .before .before .before .before .before .before .before .before .before .before .before .before .pre in
+    look-made _ _ _ _ _ (p .1) (sym (is-look .ensures) ∙ if1 .taken) (look .ensures)
 
 change-requires : tie.Need-change-requires
-change-requires c κs = search needs
+change-requires c κs =
+    let p = c .before .before .before .before .before .before .before .before .before .before .pre in
+    let is-look = c .before .before .before .before .is-look in
+    let if1 = c .before .before .before .if1 in
+    (p .0, sym (is-look .ensures) ∙ if1 .left)
 
 same-length-3 : tie.Need-same-length-3
 same-length-3 c = search needs
@@ -41,7 +52,8 @@ pub make-spec : {M : Type 1} → statement M
 make-spec =
     tie.close
     (tie.spec
-    shared-slice-read-if1
+    shared-slice-read-is-look
+    is-look-requires
     look-requires
     same-length
     same-length-2

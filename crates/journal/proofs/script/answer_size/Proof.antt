@@ -1,13 +1,16 @@
 use mathlib.Core.Path.{sym, _∙_, ap}
 use Prim.Native.Nat.{ℕ, _+_}
 use borrow.Author.Tests.{ne-eqb}
+use Rattle.journal.proofs.Walks.Scripts.{size-read, size-look-in-place, size-plain}
 use borrow.Author.Needs.{needs}
 use Rattle.journal.proofs.script.answer_size.Statement.{statement}
 use Rattle.journal.proofs.script.answer_size.Tie as tie
-use Rattle.journal.proofs.Walks.Scripts.{size-read, size-look-in-place, size-plain}
 
-shared-slice-read-if1 : tie.Need-shared-slice-read-if1
-shared-slice-read-if1 c = search needs
+shared-slice-read-fills : tie.Need-shared-slice-read-fills
+shared-slice-read-fills c = search needs
+
+fills-requires : tie.Need-fills-requires
+fills-requires c κs = search needs
 
 add-get32 : tie.Need-add-get32
 add-get32 c = search needs
@@ -23,27 +26,36 @@ add-result c = search needs
 
 returns : tie.Need-returns
 returns c =
-    let a = c .before .before .before .before .args in
-    let p = c .before .before .before .before .pre in
-    ap (λ (x : ℕ). 16 + x) (c .get32 .ensures) ∙ sym (size-read (a .script .now) (a .at) (p) (c .before .if1 .taken))
+    let get32 = c .get32 in
+    let a = c .before .before .before .before .before .args in
+    let p = c .before .before .before .before .before .pre in
+    let fills = c .before .before .fills in
+    let if1 = c .before .if1 in
+    ap (λ (x : ℕ). 16 + x) (get32 .ensures) ∙ sym (size-read (a .script .now) (a .at) (p) (sym (fills .ensures) ∙ if1 .taken))
 
 shared-slice-read-if2 : tie.Need-shared-slice-read-if2
 shared-slice-read-if2 c = search needs
 
 returns-2 : tie.Need-returns-2
-returns-2 c = let a = c .before .before .before .before .before .args in sym (size-look-in-place (a .script .now) (a .at) (c .if2 .taken))
+returns-2 c =
+    let a = c .before .before .before .before .before .before .args in
+    let if2 = c .if2 in
+    sym (size-look-in-place (a .script .now) (a .at) (if2 .taken))
 
 returns-3 : tie.Need-returns-3
 returns-3 c =
+    let a = c .before .before .before .before .before .before .args in
+    let fills = c .before .before .before .fills in
     let if1 = c .before .before .if1 in
-    let a = c .before .before .before .before .before .args in
-    sym (size-plain (a .script .now) (a .at) (ne-eqb _ _ (if1 .left)) (ne-eqb _ _ (c .if2 .left)))
+    let if2 = c .if2 in
+    sym (size-plain (a .script .now) (a .at) (sym (fills .ensures) ∙ if1 .left) (ne-eqb _ _ (if2 .left)))
 
 pub answer-size-spec : {M : Type 1} → statement M
 answer-size-spec =
     tie.close
     (tie.spec
-    shared-slice-read-if1
+    shared-slice-read-fills
+    fills-requires
     add-get32
     get32-requires
     cast-result

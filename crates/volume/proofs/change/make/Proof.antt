@@ -39,6 +39,20 @@ delete-directory-requires : tie.Need-delete-directory-requires
 unfolding refusal
 delete-directory-requires c κs = let p = c .before .before .before .before .before .before .pre in (p .0, rw (c .before .enum-told2 .given .1) at (p .1))
 
+enum-told-3 : tie.Need-enum-told-3
+enum-told-3 c = search needs
+
+set-attributes-requires : tie.Need-set-attributes-requires
+unfolding refusal
+set-attributes-requires c κs = let p = c .before .before .before .before .before .before .pre in (p .0, rw (c .before .enum-told3 .given .1) at (p .1))
+
+enum-told-4 : tie.Need-enum-told-4
+enum-told-4 c = search needs
+
+clear-attributes-requires : tie.Need-clear-attributes-requires
+unfolding refusal
+clear-attributes-requires c κs = let p = c .before .before .before .before .before .before .pre in (p .0, rw (c .before .enum-told4 .given .1) at (p .1))
+
 same-length : tie.Need-same-length
 same-length c = search needs
 
@@ -74,6 +88,20 @@ returns-5 : tie.Need-returns-5
 unfolding after slotGiven
 returns-5 c = rw (c .before .before .before .before .enum-told2 .given .1) (refl, c .before .before .delete-directory .ensures)
 
+same-length-6 : tie.Need-same-length-6
+same-length-6 c = search needs
+
+returns-6 : tie.Need-returns-6
+unfolding after slotGiven
+returns-6 c = rw (c .before .before .before .before .enum-told3 .given .1) (refl, c .before .before .set-attributes .ensures)
+
+same-length-7 : tie.Need-same-length-7
+same-length-7 c = search needs
+
+returns-7 : tie.Need-returns-7
+unfolding after slotGiven
+returns-7 c = rw (c .before .before .before .before .enum-told4 .given .1) (refl, c .before .before .clear-attributes .ensures)
+
 pub make-spec : {M : Type 1} → statement M
 make-spec =
     tie.close
@@ -88,6 +116,10 @@ make-spec =
     create-directory-requires
     enum-told-2
     delete-directory-requires
+    enum-told-3
+    set-attributes-requires
+    enum-told-4
+    clear-attributes-requires
     same-length
     returns
     same-length-2
@@ -97,4 +129,8 @@ make-spec =
     same-length-4
     returns-4
     same-length-5
-    returns-5)
+    returns-5
+    same-length-6
+    returns-6
+    same-length-7
+    returns-7)

@@ -38,6 +38,20 @@ delete-directory-named-requires : tie.Need-delete-directory-named-requires
 unfolding refusal
 delete-directory-named-requires c κs = let p = c .before .before .before .before .before .before .before .pre in (p .0, rw (c .before .enum-told2 .given .1) at (p .1), p .2)
 
+enum-told-3 : tie.Need-enum-told-3
+enum-told-3 c = search needs
+
+set-attributes-named-requires : tie.Need-set-attributes-named-requires
+unfolding refusal
+set-attributes-named-requires c κs = let p = c .before .before .before .before .before .before .before .pre in (p .0, rw (c .before .enum-told3 .given .1) at (p .1), p .2)
+
+enum-told-4 : tie.Need-enum-told-4
+enum-told-4 c = search needs
+
+clear-attributes-named-requires : tie.Need-clear-attributes-named-requires
+unfolding refusal
+clear-attributes-named-requires c κs = let p = c .before .before .before .before .before .before .before .pre in (p .0, rw (c .before .enum-told4 .given .1) at (p .1), p .2)
+
 same-length : tie.Need-same-length
 same-length c = search needs
 
@@ -73,6 +87,20 @@ returns-5 : tie.Need-returns-5
 unfolding named
 returns-5 c = rw (c .before .before .before .before .enum-told2 .given .1) (c .before .before .delete-directory-named .ensures)
 
+same-length-6 : tie.Need-same-length-6
+same-length-6 c = search needs
+
+returns-6 : tie.Need-returns-6
+unfolding named
+returns-6 c = rw (c .before .before .before .before .enum-told3 .given .1) (c .before .before .set-attributes-named .ensures)
+
+same-length-7 : tie.Need-same-length-7
+same-length-7 c = search needs
+
+returns-7 : tie.Need-returns-7
+unfolding named
+returns-7 c = rw (c .before .before .before .before .enum-told4 .given .1) (c .before .before .clear-attributes-named .ensures)
+
 pub mark-named-spec : {M : Type 1} → statement M
 mark-named-spec =
     tie.close
@@ -87,6 +115,10 @@ mark-named-spec =
     create-directory-named-requires
     enum-told-2
     delete-directory-named-requires
+    enum-told-3
+    set-attributes-named-requires
+    enum-told-4
+    clear-attributes-named-requires
     same-length
     returns
     same-length-2
@@ -96,4 +128,8 @@ mark-named-spec =
     same-length-4
     returns-4
     same-length-5
-    returns-5)
+    returns-5
+    same-length-6
+    returns-6
+    same-length-7
+    returns-7)

@@ -33,6 +33,18 @@ enum-told-2 c = search needs
 delete-directory-refusal-requires : tie.Need-delete-directory-refusal-requires
 delete-directory-refusal-requires c κs = search needs
 
+enum-told-3 : tie.Need-enum-told-3
+enum-told-3 c = search needs
+
+set-attributes-refusal-requires : tie.Need-set-attributes-refusal-requires
+set-attributes-refusal-requires c κs = search needs
+
+enum-told-4 : tie.Need-enum-told-4
+enum-told-4 c = search needs
+
+delete-refusal-requires-2 : tie.Need-delete-refusal-requires-2
+delete-refusal-requires-2 c κs = search needs
+
 returns : tie.Need-returns
 unfolding refusal
 returns c = rw (c .before .before .what .given .1) (c .create-refusal .ensures)
@@ -53,6 +65,14 @@ returns-5 : tie.Need-returns-5
 unfolding refusal
 returns-5 c = rw (c .before .enum-told2 .given .1) (c .delete-directory-refusal .ensures)
 
+returns-6 : tie.Need-returns-6
+unfolding refusal
+returns-6 c = rw (c .before .enum-told3 .given .1) (c .set-attributes-refusal .ensures)
+
+returns-7 : tie.Need-returns-7
+unfolding refusal
+returns-7 c = rw (c .before .enum-told4 .given .1) (c .delete-refusal2 .ensures)
+
 pub refusal-spec : {M : Type 1} → statement M
 refusal-spec =
     tie.close
@@ -67,8 +87,14 @@ refusal-spec =
     create-directory-refusal-requires
     enum-told-2
     delete-directory-refusal-requires
+    enum-told-3
+    set-attributes-refusal-requires
+    enum-told-4
+    delete-refusal-requires-2
     returns
     returns-2
     returns-3
     returns-4
-    returns-5)
+    returns-5
+    returns-6
+    returns-7)
