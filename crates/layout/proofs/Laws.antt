@@ -28,3 +28,4 @@ pub mod Roots
 pub mod Looks
 pub mod Ways
 pub mod Newcomers
+pub mod Inside

@@ -1,12 +1,12 @@
 -- The words of the theorems about images: what a reader must believe to read them.
 use Prim.Native.Nat.{ℕ, _<_}
 use mathlib.Core.Path.{_≡_}
-use mathlib.Core.Bool.{true}
-use mathlib.Core.List.{List, _∷_, _++_}
+use mathlib.Core.Bool.{Bool, true, false, _&&_}
+use mathlib.Core.List.{List, [], _∷_, _++_}
 use mathlib.Core.Logic.{_≢_}
 use lib.ListN.{length, getD}
 use lib.Dec.{eqb}
-use Rattle.layout.specs.Lists.{has}
+use Rattle.layout.specs.Lists.{has, same}
 use Rattle.layout.specs.Bytes.{part}
 use Rattle.layout.specs.Geometry.{blockCount}
 use Rattle.layout.specs.Table.{next}
@@ -44,3 +44,12 @@ pub record Inserted {A : Type 0} (one : A) (less more : List A) : Type 0 where
   pub back : List A
   pub less-is : less ≡ front ++ back
   pub more-is : more ≡ front ++ (one ∷ back)
+
+-- a path is inside another whose parts its own parts begin with
+abbrev pub beginsWith : List (List ℕ) → List (List ℕ) → Bool
+beginsWith ps [] = true
+beginsWith [] (q ∷ qs) = false
+beginsWith (p ∷ ps) (q ∷ qs) = same p q && beginsWith ps qs
+
+unfoldable pub isInside : List ℕ → List ℕ → Bool
+isInside path outer = beginsWith (parts path) (parts outer)

@@ -5,3 +5,4 @@ pub mod Further
 pub mod Script
 pub mod Tree
 pub mod Attributes
+pub mod Orders

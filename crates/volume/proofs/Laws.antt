@@ -28,3 +28,6 @@ pub mod Folders
 pub mod Effects
 pub mod Acts
 pub mod Shown
+pub mod Alike
+pub mod Orders
+pub mod Inside

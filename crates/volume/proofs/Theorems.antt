@@ -24,8 +24,8 @@ use Rattle.volume.specs.Write.{needed, newBlocks}
 use Rattle.volume.specs.Delete.{allBlocks}
 use Rattle.volume.specs.Attributes.{emptied}
 use Rattle.volume.specs.Change.{Change, create, write, createDirectory, deleteDirectory, setAttributes, clearAttributes, refusal, after, named, slotGiven}
-use Rattle.volume.specs.Claims.{NoRoom, NoRoomForSet, Blanked}
-use Rattle.volume.specs.Views.{File, nothing, just, fileOf, fileAt, folderAt, subject, made, madeFolder, takes, gives, givesFolder}
+use Rattle.volume.specs.Claims.{NoRoom, NoRoomForSet, Blanked, Apart}
+use Rattle.volume.specs.Views.{File, nothing, just, fileOf, fileAt, folderAt, SameFiles, subject, made, madeFolder, takes, gives, givesFolder}
 use Rattle.volume.proofs.Laws.Framed.{frame}
 use Rattle.volume.proofs.Laws.Blank.{blank}
 use Rattle.volume.proofs.Laws.Format.{sound-format}
@@ -36,7 +36,10 @@ use Rattle.volume.proofs.Laws.Room.{set-refused-14, set-lacking-14, set
 use Rattle.volume.proofs.Laws.Views.{file-shown}
 use Rattle.volume.proofs.Laws.Effects.{create-slot-found, written-blocks, set-kept, clear-kept}
 use Rattle.volume.proofs.Laws.Acts.{acts, others-untouched, create-directory-found, create-directory-empty, create-directory-tree, delete-directory-tree}
-use Rattle.volume.proofs.Laws.Shown.{read-shown, attributes-read, look-shown, not-shown, splice-long, lookup-kept, read-kept, look-kept, attributes-kept, own-lookup, own-read, own-look, file-owner, chains-apart, directory-apart, directory-owner, write-path}
+use Rattle.volume.proofs.Laws.Shown.{read-shown, attributes-read, look-shown, not-shown, splice-long, lookup-kept, own-lookup, own-read, own-look, file-owner, chains-apart, directory-apart, directory-owner, write-path}
+use Rattle.volume.proofs.Laws.Alike.{lookup-alike, read-alike, look-alike, attributes-alike}
+use Rattle.volume.proofs.Laws.Orders as orders
+use Rattle.volume.proofs.Laws.Inside as inside
 use Rattle.layout.proofs.Laws.Looks.{look-empty as empty-refused, look-empty-only as refused-empty}
 use Rattle.layout.proofs.Laws.Sound.{sound}
 use Rattle.layout.proofs.Laws.Lists.{In, has-eqb-in, false-has}
@@ -149,13 +152,24 @@ module _ (s : List ℕ) (ok : check s ≡ 0) where
       others-lookup = lookup-kept s (after s c) other ok change-sound (others-untouched s c other ok r ne)
 
       pub others-read : (offset : ℕ) (buffer : List ℕ) → read (after s c) other offset buffer ≡ read s other offset buffer
-      others-read = read-kept s (after s c) other ok change-sound (others-untouched s c other ok r ne)
+      others-read = read-alike (after s c) s other change-sound ok other-files
 
       pub others-look : (i : ℕ) → lookInPlace (after s c) other i ≡ lookInPlace s other i
-      others-look = look-kept s (after s c) other ok change-sound (others-untouched s c other ok r ne)
+      others-look = look-alike (after s c) s other change-sound ok other-files
 
       pub others-attributes : (buffer : List ℕ) → readAttributes (after s c) other buffer ≡ readAttributes s other buffer
-      others-attributes = attributes-kept s (after s c) other ok change-sound (others-untouched s c other ok r ne)
+      others-attributes = attributes-alike (after s c) s other change-sound ok other-files
+
+  -- Two changes c and d of any kinds, on different paths, in either order (L13). If both, one right after the other, are accepted in both orders, then
+  -- after either order every path shows the same file or directory, or nothing, and as many blocks are free (SameFiles); slots and block numbers may
+  -- differ.
+  module _ (c d : Change) (c-first : refusal s c ≡ 0) (d-second : refusal (after s c) d ≡ 0) (d-first : refusal s d ≡ 0) (c-second : refusal (after s d) c ≡ 0) (different : subject c ≢ subject d) where
+    pub either-order : SameFiles (after (after s c) d) (after (after s d) c)
+    either-order = orders.either-order s ok c d c-first d-second d-first c-second different
+
+    -- L13 asks also that neither path is inside the other (Apart). That need not be asked: it follows.
+    pub accepted-apart : Apart (subject c) (subject d)
+    accepted-apart = inside.accepted-apart s ok c d c-first d-second d-first c-second different
 
   -- An accepted write.
   module _ (path : List ℕ) (offset : ℕ) (bytes : List ℕ) (time : ℕ) (r : refusal s (write path offset bytes time) ≡ 0) where
@@ -301,3 +315,17 @@ module _ (s : List ℕ) (ok : check s ≡ 0) where
     pub clear-look : (i : ℕ) → lookInPlace cleared path i ≡ lookInPlace s path i
     unfolding after
     clear-look = own-look s cleared path ok (change-sound (clearAttributes path) r) found-clear (clear-kept s path ok found-clear)
+
+-- Two sound images that show the same answer the same at every path: look up, but for the slot; read; look in place; read attributes.
+module _ (s s′ : List ℕ) (ok : check s ≡ 0) (ok′ : check s′ ≡ 0) (same : SameFiles s s′) (path : List ℕ) where
+  pub same-lookup : (lookup s path .number ≡ lookup s′ path .number) × (lookup s path .size ≡ lookup s′ path .size) × (lookup s path .blocks ≡ lookup s′ path .blocks)
+  same-lookup = lookup-alike s s′ path ok ok′ (same .files path)
+
+  pub same-read : (offset : ℕ) (buffer : List ℕ) → read s path offset buffer ≡ read s′ path offset buffer
+  same-read = read-alike s s′ path ok ok′ (same .files path)
+
+  pub same-look : (i : ℕ) → lookInPlace s path i ≡ lookInPlace s′ path i
+  same-look = look-alike s s′ path ok ok′ (same .files path)
+
+  pub same-attributes : (buffer : List ℕ) → readAttributes s path buffer ≡ readAttributes s′ path buffer
+  same-attributes = attributes-alike s s′ path ok ok′ (same .files path)

@@ -1,6 +1,7 @@
 -- The words of the theorems about changes that are no views: what a reader must believe to read them.
 use Prim.Native.Nat.{ℕ, _+_, _*_, _/_, _%_, _≤_, _<_}
 use mathlib.Core.Path.{_≡_}
+use mathlib.Core.Bool.{false}
 use mathlib.Core.List.{List}
 use mathlib.Core.Logic.{_≢_}
 use lib.ListN.{length}
@@ -10,6 +11,7 @@ use Rattle.layout.specs.Geometry.{blockCount}
 use Rattle.layout.specs.Table.{next, freeBlocks}
 use Rattle.layout.specs.Directory.{sizeOf, isFile, attributeBlocks}
 use Rattle.layout.specs.Paths.{entryOf, fileRefusal}
+use Rattle.layout.specs.Claims.{isInside}
 use Rattle.volume.specs.Write.{needed}
 
 -- 14 of a set of attributes: "A set first frees the old chain, whose blocks count as free"
@@ -32,3 +34,9 @@ pub record NoRoom (s path : List ℕ) (offset count : ℕ) : Type 0 where
   pub there : fileRefusal s path ≡ 0
   pub within-size : offset ≤ sizeOf s (entryOf isFile s path)
   pub lacking : length (freeBlocks (next s) (blockCount s)) < needed s (entryOf isFile s path) offset count
+
+-- L13, "on different paths, neither inside the other"
+pub record Apart (path other : List ℕ) : Type 0 where
+  pub differ : path ≢ other
+  pub outside : isInside path other ≡ false
+  pub around : isInside other path ≡ false

@@ -1,10 +1,11 @@
 -- Views: what a path shows of an image, apart from where it lies in it, and what a change makes of what its own path shows.
 use Prim.Native.Nat.{ℕ, _+_, _-_, _/_, max}
+use mathlib.Core.Path.{_≡_}
 use mathlib.Core.List.{List, [], _∷_}
 use mathlib.Core.Bool.{Bool, true, false}
 use lib.ListN.{length}
 use Rattle.layout.specs.Refusals.{accept}
-use Rattle.layout.specs.Bytes.{bytes4, bytes8, part, splice}
+use Rattle.layout.specs.Bytes.{be32, bytes4, bytes8, part, splice}
 use Rattle.layout.specs.Geometry.{blocksFor}
 use Rattle.layout.specs.Directory.{blocksOf, isFile, isDirectory, content, attributes}
 use Rattle.layout.specs.Paths.{entryOf, fileRefusal, directoryRefusal}
@@ -44,6 +45,13 @@ fileAt s path = accept (fileRefusal s path) (just (fileOf s (entryOf isFile s pa
 
 unfoldable pub folderAt : List ℕ → List ℕ → Maybe Folder
 folderAt s path = accept (directoryRefusal s path) (just (folderOf s (entryOf isDirectory s path))) nothing
+
+-- L13, "the same paths exist with the same bytes, times and other given fields, and the free count is the same": every path shows the same file or
+-- directory of s and of s′, or nothing of both, and as many blocks are free. Slots and block numbers may differ.
+pub record SameFiles (s s′ : List ℕ) : Type 0 where
+  pub files : (path : List ℕ) → fileAt s path ≡ fileAt s′ path
+  pub folders : (path : List ℕ) → folderAt s path ≡ folderAt s′ path
+  pub free : be32 s 24 ≡ be32 s′ 24
 
 -- the path that a change is about
 unfoldable pub subject : Change → List ℕ

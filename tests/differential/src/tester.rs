@@ -219,7 +219,7 @@ impl Tester {
         pair: &mut Pair,
         change: &Change,
     ) -> (Entry, ffi::Created, Vec<Option<String>>) {
-        let path = self.lend(path_of(change));
+        let path = self.lend(change.path());
         let mut troubles = Vec::new();
         let (entry, got) = match change {
             Change::Create(c) => (Entry::Create, pair.create(&path, c)),
@@ -244,21 +244,8 @@ impl Tester {
                 (Entry::ClearAttributes, without_slot(pair.clear_attributes(&path)))
             }
         };
-        troubles.push(path.trouble("path", path_of(change)));
+        troubles.push(path.trouble("path", change.path()));
         (entry, got, troubles)
-    }
-}
-
-/// The path that a change brings.
-pub fn path_of(change: &Change) -> &[u8] {
-    match change {
-        Change::Create(c) => &c.path,
-        Change::Write(w) => &w.path,
-        Change::Delete(d) => &d.path,
-        Change::CreateDirectory(c) => &c.entry.path,
-        Change::DeleteDirectory(d) => &d.path,
-        Change::SetAttributes(s) => &s.path,
-        Change::ClearAttributes(c) => &c.path,
     }
 }
 

@@ -12,6 +12,7 @@ pub mod listing;
 pub mod path;
 pub mod replay;
 pub mod table;
+pub mod views;
 pub mod volume;
 pub mod worked;
 

@@ -75,6 +75,21 @@ pub enum Change {
     ClearAttributes(ClearAttributes),
 }
 
+impl Change {
+    /// The path that the change brings.
+    pub fn path(&self) -> &[u8] {
+        match self {
+            Change::Create(c) => &c.path,
+            Change::Write(w) => &w.path,
+            Change::Delete(d) => &d.path,
+            Change::CreateDirectory(c) => &c.entry.path,
+            Change::DeleteDirectory(d) => &d.path,
+            Change::SetAttributes(s) => &s.path,
+            Change::ClearAttributes(c) => &c.path,
+        }
+    }
+}
+
 /// An image after a change, and what the journal and the caller need of it.
 pub struct Changed {
     pub image: Vec<u8>,
@@ -376,14 +391,14 @@ fn blank(image: &mut [u8], blocks: &[usize]) {
 }
 
 /// A file's bytes: its blocks in chain order, cut at its size.
-fn content(image: &[u8], file: &Entry) -> Vec<u8> {
+pub(crate) fn content(image: &[u8], file: &Entry) -> Vec<u8> {
     let mut bytes = bytes_of(image, &file.chain(image));
     bytes.truncate(file.size as usize);
     bytes
 }
 
 /// All bytes of some blocks, in their order.
-fn bytes_of(image: &[u8], blocks: &[usize]) -> Vec<u8> {
+pub(crate) fn bytes_of(image: &[u8], blocks: &[usize]) -> Vec<u8> {
     blocks.iter().flat_map(|&b| &image[b * BLOCK..(b + 1) * BLOCK]).copied().collect()
 }
 

@@ -28,11 +28,11 @@ module _ (s path : List ℕ) (r : fileRefusal s path ≡ 0) where
   unfolding fileRefusal
   good-given = require-zero (pathOk path) 8 _ r .0
 
-  pub short-given : shallow (leading (parts path)) ≡ true
+  short-given : shallow (leading (parts path)) ≡ true
   unfolding fileRefusal
   short-given = require-zero (shallow (leading (parts path))) 16 _ (require-zero (pathOk path) 8 _ r .1) .0
 
-  pub file-given : pathSlot isFile s path ≢ 0
+  file-given : pathSlot isFile s path ≢ 0
   unfolding fileRefusal
   file-given =
       let a = require-zero (pathOk path) 8 _ r in
@@ -55,9 +55,6 @@ module _ (s path : List ℕ) (ok : lookupRefusal s path ≡ 0) where
   pub lookup-path : fileRefusal s path ≡ 0
   unfolding lookupRefusal
   lookup-path = firstOf-zero (check s) (fileRefusal s path) ok .1
-
-  pub lookup-given : pathSlot isFile s path ≢ 0
-  lookup-given = file-given s path lookup-path
 
   pub lookup-file : File s (entryOf isFile s path)
   lookup-file = path-file s path lookup-path lookup-sound

@@ -2,7 +2,7 @@
 use Prim.Native.Nat.{ℕ, zero, suc, _≤_, _<_, _+_, _-_}
 use mathlib.Core.Bool.{true, not, _&&_, and-assoc, false≢true}
 use mathlib.Core.List.{List, [], _∷_, _++_}
-use mathlib.Core.Logic.{_≢_}
+use mathlib.Core.Logic.{_⊎_, inl, inr, ⊎-elim, _≢_}
 use mathlib.Core.Path.{_≡_, refl, sym, ap}
 use native.Mathlib.Nat.{le-of-suc-le-suc, not-suc-le-zero}
 use native.Mathlib.Omega.{arith}
@@ -14,7 +14,7 @@ use Rattle.layout.specs.Lists.{within, every, same}
 use Rattle.layout.specs.Directory.{nameByte, goodName, unpadded, nameOf, nameOk, padded}
 use Rattle.layout.specs.Bytes.{part, zeros}
 use Rattle.layout.proofs.Laws.Lists.{getD-in, every-in}
-use Rattle.layout.proofs.Laws.Tests.{and-split, and-join, within-split, eqb-self, true-not-false}
+use Rattle.layout.proofs.Laws.Tests.{and-split, and-join, within-split, eqb-self, true-or-false, true-not-false}
 use Rattle.layout.proofs.Laws.Bytes.{length-zeros}
 
 pub same-eq : (x y : List ℕ) → same x y ≡ true → x ≡ y
@@ -30,6 +30,9 @@ same-eq (x ∷ xs) (y ∷ ys) e =
 pub same-refl : (x : List ℕ) → same x x ≡ true
 same-refl [] = refl
 same-refl (x ∷ xs) = and-join (eqb-self x) (same-refl xs)
+
+pub same-or-not : (x y : List ℕ) → (x ≡ y) ⊎ (x ≢ y)
+same-or-not x y = ⊎-elim (λ t. inl (same-eq x y t)) (λ f. inr (λ q. true-not-false {a = same x y} (rw q (same-refl y)) f)) (true-or-false (same x y))
 
 -- against two strings one after the other
 pub same-append : (s a b : List ℕ) → length a ≤ length s → same s (a ++ b) ≡ same (take (length a) s) a && same (drop (length a) s) b

@@ -7,7 +7,7 @@ use mathlib.Core.List.{List, [], _∷_}
 use mathlib.Core.Logic.{_⊎_, inl, inr, ⊎-elim, _≢_}
 use native.Mathlib.Omega.{arith}
 use native.Mathlib.Decide.{ℕ-discrete}
-use borrow.Author.Tests.{le-ltb, eq-eqb, leb-true}
+use borrow.Author.Tests.{eq-eqb, leb-true}
 use lib.ListN.{length, getD, take}
 use lib.Dec.{eqb}
 use Rattle.layout.specs.Limits.{maxLevels}
@@ -16,12 +16,11 @@ use Rattle.layout.specs.Bytes.{be32, part, block}
 use Rattle.layout.specs.Geometry.{blockCount, rootBlock}
 use Rattle.layout.specs.Table.{next}
 use Rattle.layout.specs.Directory.{slotAt, slots, typeOf, firstBlock, sizeOf, blocksOf, attributeBlock, attributeSize, isFile, isDirectory, nameOf, slotOf, directory, rootOf, dirs, fileBlocks, content, attributeBlocks, attributes}
-use Rattle.layout.specs.Looks.{lookInPlace, extentOf, lookupRefusal, readRefusal, read, lookup, readAttributes}
+use Rattle.layout.specs.Looks.{lookupRefusal, lookup}
 use Rattle.layout.specs.Check.{check}
 use Rattle.layout.proofs.Laws.Bytes.{be32-part}
-use Rattle.layout.proofs.Laws.Looks.{look-content, lookup-given, lookup-path, short-given}
 use Rattle.layout.specs.Paths.{fileRefusal, pathOk, parts, leading, lastPart, shallow, childOf, resolve, home, pathSlot, entryOf}
-use Rattle.layout.proofs.Laws.Tests.{and-join, true-not-false, lt-or-ge}
+use Rattle.layout.proofs.Laws.Tests.{and-join, true-not-false}
 use Rattle.layout.proofs.Laws.Lists.{In, joined-same}
 use Rattle.layout.proofs.Laws.Joins.{select-agree}
 use Rattle.layout.proofs.Laws.Names.{same-refl}
@@ -322,48 +321,4 @@ module _ (s s′ other : List ℕ) (ok : check s ≡ 0) (ok′ : check s′ ≡ 
       go false q w v z = rw (ok, ok′, q)
       go true q false v z = rw (ok, ok′, q, v)
       go true q true v (no ne) = rw (ok, ok′, U .slot v, U .entry (v, ne), field (v, ne) 8 (omega arith), field (v, ne) 12 (omega arith))
-      go true q true v (yes z) = rw (ok, ok′, q, v, U .slot v, eq-eqb (pathSlot isFile s other) 0 z)
-
-  pub read-stays : (offset : ℕ) (buffer : List ℕ) → read s′ other offset buffer ≡ read s other offset buffer
-  unfolding read readRefusal lookupRefusal fileRefusal
-  read-stays offset buffer = go (pathOk other) refl (shallow (leading (parts other))) refl (ℕ-discrete (pathSlot isFile s other) 0)
-    where
-      go : (g : Bool) → pathOk other ≡ g → (w : Bool) → shallow (leading (parts other)) ≡ w → Dec (pathSlot isFile s other ≡ 0) → read s′ other offset buffer ≡ read s other offset buffer
-      go false q w v z = rw (ok, ok′, q)
-      go true q false v z = rw (ok, ok′, q, v)
-      go true q true v (no ne) = rw (ok, ok′, U .slot v, U .entry (v, ne), field (v, ne) 8 (omega arith), U .contents (v, ne))
-      go true q true v (yes z) = rw (ok, ok′, q, v, U .slot v, eq-eqb (pathSlot isFile s other) 0 z)
-
-  refusal-stays : lookupRefusal s′ other ≡ lookupRefusal s other
-  unfolding lookupRefusal fileRefusal
-  refusal-stays = go (shallow (leading (parts other))) refl
-    where
-      go : (w : Bool) → shallow (leading (parts other)) ≡ w → lookupRefusal s′ other ≡ lookupRefusal s other
-      go true v = rw (ok, ok′, U .slot v)
-      go false v = rw (ok, ok′, v)
-
-  pub look-stays : (i : ℕ) → lookInPlace s′ other i ≡ lookInPlace s other i
-  unfolding lookInPlace extentOf
-  look-stays i = go (lookupRefusal s other) refl (lt-or-ge i (blocksOf s (entryOf isFile s other)))
-    where
-      go : (r : ℕ) → lookupRefusal s other ≡ r → (i < blocksOf s (entryOf isFile s other)) ⊎ (blocksOf s (entryOf isFile s other) ≤ i) → lookInPlace s′ other i ≡ lookInPlace s other i
-      go (suc r) q o = rw (refusal-stays, q)
-      go zero q (inl h) =
-          let ne : Reached s other = (short-given s other (lookup-path s other q), lookup-given s other q) in
-          let e : blocksOf s′ (entryOf isFile s′ other) ≡ blocksOf s (entryOf isFile s other) = rw (U .entry ne) (field ne 12 (omega arith)) in
-          look-content s′ other i (refusal-stays ∙ q) (omega arith) ∙ rw (U .entry ne, field ne 8 (omega arith), U .contents ne) (sym (look-content s other i q h))
-      go zero q (inr h) =
-          let ne : Reached s other = (short-given s other (lookup-path s other q), lookup-given s other q) in
-          let e : blocksOf s′ (entryOf isFile s′ other) ≡ blocksOf s (entryOf isFile s other) = rw (U .entry ne) (field ne 12 (omega arith)) in
-          rw (refusal-stays, q, e, le-ltb i (blocksOf s (entryOf isFile s other)) h)
-
-  -- and of its attributes
-  pub attributes-stay : (buffer : List ℕ) → readAttributes s′ other buffer ≡ readAttributes s other buffer
-  unfolding readAttributes lookupRefusal fileRefusal
-  attributes-stay buffer = go (pathOk other) refl (shallow (leading (parts other))) refl (ℕ-discrete (pathSlot isFile s other) 0)
-    where
-      go : (g : Bool) → pathOk other ≡ g → (w : Bool) → shallow (leading (parts other)) ≡ w → Dec (pathSlot isFile s other ≡ 0) → readAttributes s′ other buffer ≡ readAttributes s other buffer
-      go false q w v z = rw (ok, ok′, q)
-      go true q false v z = rw (ok, ok′, q, v)
-      go true q true v (no ne) = let same = U .second (v, ne) in rw (ok, ok′, U .slot v, U .entry (v, ne), same .size, same .bytes)
       go true q true v (yes z) = rw (ok, ok′, q, v, U .slot v, eq-eqb (pathSlot isFile s other) 0 z)

@@ -30,10 +30,10 @@ use Rattle.layout.proofs.Laws.Trees.{same-slot-place}
 use Rattle.layout.proofs.Laws.Sound.{Sound, Entry, Owner}
 use Rattle.layout.proofs.Laws.Owners.{blocksAt, one-owner, second, second-apart, file-blocks, second-blocks, file-no-self, second-no-self, self-entry, self-first, self-size}
 use Rattle.layout.proofs.Laws.Ways.{same-home, same-path}
-use Rattle.layout.proofs.Laws.Others.{lookup-stays, read-stays, look-stays, attributes-stay}
+use Rattle.layout.proofs.Laws.Others.{lookup-stays}
 
 -- a file that is shown is the one shown
-abbrev fileIn : File → Maybe File → File
+abbrev pub fileIn : File → Maybe File → File
 fileIn d nothing = d
 fileIn d (just x) = x
 
@@ -100,7 +100,7 @@ write-path s path ok offset count r =
     let l = content-length s path ok q in
     (q, omega arith)
 
--- OTHER PATHS: every answer about them stays
+-- OTHER PATHS: look up answers the same, the slot too
 module _ (s s′ other : List ℕ) (ok : check s ≡ 0) (ok′ : check s′ ≡ 0) (U : pathOk other ≡ true → Untouched s s′ other) where
   pub lookup-kept : lookup s′ other ≡ lookup s other
   unfolding lookup lookupRefusal fileRefusal
@@ -108,30 +108,6 @@ module _ (s s′ other : List ℕ) (ok : check s ≡ 0) (ok′ : check s′ ≡ 
     where
       go : (t : Bool) → pathOk other ≡ t → lookup s′ other ≡ lookup s other
       go true e = lookup-stays s s′ other ok ok′ (U e)
-      go false e = rw (ok, ok′, e)
-
-  pub read-kept : (offset : ℕ) (buffer : List ℕ) → read s′ other offset buffer ≡ read s other offset buffer
-  unfolding read readRefusal lookupRefusal fileRefusal
-  read-kept offset buffer = go (pathOk other) refl
-    where
-      go : (t : Bool) → pathOk other ≡ t → read s′ other offset buffer ≡ read s other offset buffer
-      go true e = read-stays s s′ other ok ok′ (U e) offset buffer
-      go false e = rw (ok, ok′, e)
-
-  pub look-kept : (i : ℕ) → lookInPlace s′ other i ≡ lookInPlace s other i
-  unfolding lookInPlace extentOf lookupRefusal fileRefusal
-  look-kept i = go (pathOk other) refl
-    where
-      go : (t : Bool) → pathOk other ≡ t → lookInPlace s′ other i ≡ lookInPlace s other i
-      go true e = look-stays s s′ other ok ok′ (U e) i
-      go false e = rw (ok, ok′, e)
-
-  pub attributes-kept : (buffer : List ℕ) → readAttributes s′ other buffer ≡ readAttributes s other buffer
-  unfolding readAttributes lookupRefusal fileRefusal
-  attributes-kept buffer = go (pathOk other) refl
-    where
-      go : (t : Bool) → pathOk other ≡ t → readAttributes s′ other buffer ≡ readAttributes s other buffer
-      go true e = attributes-stay s s′ other ok ok′ (U e) buffer
       go false e = rw (ok, ok′, e)
 
 -- THE PATH OF A SET OR CLEAR: every answer but that on its attributes stays

@@ -7,6 +7,7 @@ mod kept;
 mod lister;
 mod names;
 mod order;
+mod orders;
 mod runs;
 mod scripts;
 mod sound;
@@ -43,6 +44,7 @@ pub const SUITES: &[Suite] = &[
     Suite { name: "tables", rounds: |n| n, run: tables::run },
     Suite { name: "tables_largest", rounds: |_| 1, run: tables::largest },
     Suite { name: "order", rounds: |n| n.div_ceil(25), run: order::all },
+    Suite { name: "orders", rounds: |n| n, run: orders::run },
     Suite { name: "kept", rounds: |n| n.div_ceil(5), run: kept::run },
     Suite { name: "blank", rounds: |n| n, run: blank::run },
     Suite { name: "runs", rounds: |n| n, run: runs::run },
