@@ -218,10 +218,12 @@ uint32_t ENTRY(journal_start)(uint8_t *journal, size_t journal_len)
     return BULGEFS_OK;
 }
 
-/* Weighs 10, 11 and 13 for something new; on success fills its slot. */
+/* Weighs 26, 10, 11 and 13 for something new; on success fills its slot. */
 static uint32_t find_room(const uint8_t *image, const volume *v, const uint8_t *path,
-                          size_t path_len, target *to)
+                          size_t path_len, uint32_t flags, target *to)
 {
+    if (flags != 0)
+        return BULGEFS_BAD_FLAGS;
     if (!follow(image, v, path, path_len, to))
         return BULGEFS_NOT_FOUND;
     if (to->slot != 0)
@@ -265,7 +267,7 @@ bulgefs_created ENTRY(create)(uint8_t *image, size_t image_len,
     if (number == BULGEFS_OK)
         number = path_refusal(path, path_len, is_file(type), 1);
     if (number == BULGEFS_OK)
-        number = find_room(image, &v, path, path_len, &to);
+        number = find_room(image, &v, path, path_len, flags, &to);
     if (number != BULGEFS_OK)
         return (bulgefs_created){number, 0, 0};
     block_set named = {{0}};
@@ -552,6 +554,26 @@ bulgefs_changed ENTRY(clear_attributes)(uint8_t *image, size_t image_len,
     return (bulgefs_changed){BULGEFS_OK, record};
 }
 
+bulgefs_changed ENTRY(clear_flags)(uint8_t *image, size_t image_len,
+                                   uint8_t *journal, size_t journal_len,
+                                   const uint8_t *path, size_t path_len)
+{
+    volume v;
+    target to;
+    uint32_t number = check_both(image, image_len, journal, journal_len, &v);
+    if (number == BULGEFS_OK)
+        number = find_file(image, &v, path, path_len, true, &to);
+    if (number != BULGEFS_OK)
+        return (bulgefs_changed){number, 0};
+    block_set named = {{0}};
+    add(&named, block_of(&to));
+    uint32_t record = save(image, v.n, &named, journal, journal_len);
+    if (record == 0)
+        return (bulgefs_changed){BULGEFS_JOURNAL_FULL, 0};
+    put32(image + slot_at(&to.home, to.slot) + FLAGS, 0);
+    return (bulgefs_changed){BULGEFS_OK, record};
+}
+
 /* ---- entry points for directories ---- */
 
 bulgefs_created ENTRY(create_directory)(uint8_t *image, size_t image_len,
@@ -569,7 +591,7 @@ bulgefs_created ENTRY(create_directory)(uint8_t *image, size_t image_len,
     if (number == BULGEFS_OK)
         number = path_refusal(path, path_len, good, 0);
     if (number == BULGEFS_OK)
-        number = find_room(image, &v, path, path_len, &to);
+        number = find_room(image, &v, path, path_len, flags, &to);
     if (number == BULGEFS_OK && blocks > get32(image + FREE))
         number = BULGEFS_VOLUME_FULL;
     if (number != BULGEFS_OK)

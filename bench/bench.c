@@ -41,6 +41,8 @@ bulgefs_filled baseline_read_attributes(const uint8_t *, size_t, const uint8_t *
                                         uint8_t *, size_t);
 bulgefs_changed baseline_clear_attributes(uint8_t *, size_t, uint8_t *, size_t, const uint8_t *,
                                           size_t);
+bulgefs_changed baseline_clear_flags(uint8_t *, size_t, uint8_t *, size_t, const uint8_t *,
+                                     size_t);
 bulgefs_changed baseline_undo(uint8_t *, size_t, uint8_t *, size_t);
 
 /* The calls of one side. */
@@ -63,6 +65,7 @@ typedef struct {
                                       uint8_t *, size_t);
     bulgefs_changed (*clear_attributes)(uint8_t *, size_t, uint8_t *, size_t, const uint8_t *,
                                         size_t);
+    bulgefs_changed (*clear_flags)(uint8_t *, size_t, uint8_t *, size_t, const uint8_t *, size_t);
     bulgefs_changed (*undo)(uint8_t *, size_t, uint8_t *, size_t);
 } side;
 
@@ -72,16 +75,18 @@ enum { OURS, BASELINE, SIDES, LIMIT = SIDES, SQLITE, COLUMNS };
 static const side sides[SIDES] = {
     {bulgefs_check, bulgefs_lookup, bulgefs_read, bulgefs_write, bulgefs_delete,
      bulgefs_create_directory, bulgefs_delete_directory, bulgefs_set_attributes,
-     bulgefs_read_attributes, bulgefs_clear_attributes, bulgefs_undo},
+     bulgefs_read_attributes, bulgefs_clear_attributes, bulgefs_clear_flags, bulgefs_undo},
     {baseline_check, baseline_lookup, baseline_read, baseline_write, baseline_delete,
      baseline_create_directory, baseline_delete_directory, baseline_set_attributes,
-     baseline_read_attributes, baseline_clear_attributes, baseline_undo},
+     baseline_read_attributes, baseline_clear_attributes, baseline_clear_flags,
+     baseline_undo},
 };
 
 static const char *const call_names[CALLS] = {"check", "lookup", "read", "write", "delete",
                                               "delete 64 blocks", "create directory",
                                               "delete directory", "set attributes",
-                                              "read attributes", "clear attributes", "undo"};
+                                              "read attributes", "clear attributes", "clear flags",
+                                              "undo"};
 
 static const uint32_t block_counts[] = {16, 64, 256, 1024, 4096, 16384, 65536};
 /* The last lie in folders, a hundred in each; all others in the root. */
@@ -249,6 +254,15 @@ static void attribute_calls(const side *s, const uint8_t *path, size_t len, doub
     sum[CLEAR_ATTRIBUTES] += t[3] - t[2];
 }
 
+/* Clears a file's flags, and takes that back. */
+static void clear_flags(const side *s, const uint8_t *path, size_t len, double *sum)
+{
+    double begin = now();
+    uint32_t number = s->clear_flags(image, image_len, journal, JOURNAL, path, len).number;
+    sum[CLEAR_FLAGS] += now() - begin;
+    require(number | s->undo(image, image_len, journal, JOURNAL).number, "a timed call");
+}
+
 /* Makes every call once and adds the time of each. */
 static void make_calls(const side *s, const uint8_t *path, size_t len, double *sum)
 {
@@ -286,6 +300,7 @@ static void make_calls(const side *s, const uint8_t *path, size_t len, double *s
     sum[CREATE_DIRECTORY] += t[8] - t[7];
     sum[DELETE_DIRECTORY] += t[9] - t[8];
     attribute_calls(s, path, len, sum);
+    clear_flags(s, path, len, sum);
     if (has_large)
         delete_large(s, sum);
 }
@@ -296,7 +311,7 @@ static void compare_sides(const uint8_t *path, size_t len)
     static uint8_t images[SIDES][sizeof image], journals[SIDES][JOURNAL], buffers[SIDES][8192];
     bulgefs_found found[SIDES];
     bulgefs_created created[SIDES];
-    bulgefs_changed changed[SIDES][9];
+    bulgefs_changed changed[SIDES][10];
     for (int s = 0; s < SIDES; s++) {
         uint8_t *i = images[s], *j = journals[s];
         bulgefs_changed *c = changed[s];
@@ -312,9 +327,10 @@ static void compare_sides(const uint8_t *path, size_t len)
         *c++ = sides[s].clear_attributes(i, image_len, j, JOURNAL, path, len);
         *c++ = sides[s].set_attributes(i, image_len, j, JOURNAL, path, len, data, ATTRIBUTES);
         sides[s].read_attributes(i, image_len, path, len, buffers[s] + 4096, 4096);
+        *c++ = sides[s].clear_flags(i, image_len, j, JOURNAL, path, len);
         *c++ = sides[s].delete(i, image_len, j, JOURNAL, path, len);
         created[s] = sides[s].create_directory(i, image_len, j, JOURNAL, new_folder, NEW_FOLDER,
-                                               0x20, 1, 2, 3, 4, NEW_BLOCKS, 5);
+                                               0x20, 1, 2, 3, 0, NEW_BLOCKS, 5);
         *c++ = sides[s].delete_directory(i, image_len, j, JOURNAL, new_folder, NEW_FOLDER);
         *c++ = sides[s].delete(i, image_len, j, JOURNAL, large, LARGE);
     }

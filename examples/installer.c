@@ -137,6 +137,15 @@ static void clear_purchase(const char *path)
     note_change("clear attributes", path, c.record);
 }
 
+/* An older installer wrote the number of a USB port into a box's system flags. */
+static void clear_port(const char *path)
+{
+    bulgefs_changed c = bulgefs_clear_flags(image, sizeof image, journal, sizeof journal,
+                                            bytes(path), strlen(path));
+    require(c.number, "clear flags", path);
+    note_change("clear flags", path, c.record);
+}
+
 /* Puts a value, filled up with spaces, over the old one: always so many bytes at that place. */
 static void set(const char *path, const setting *s, const char *value, uint64_t time)
 {
@@ -298,6 +307,7 @@ static void change(void)
     printf("\nChange\n");
     set(boxes[0].path, &baud, "300", 2001);
     set(boxes[1].path, &parity, "odd", 2002);
+    clear_port(boxes[1].path);
     clear_purchase(boxes[0].path);
     set_purchase(boxes[1].path, "bought 2024-06-02, invoice 4502");
     set_purchase(boxes[2].path, "bought 2025-02-01, invoice 5121");
@@ -337,7 +347,8 @@ static void show_refusal(const char *what, const char *path, uint32_t number)
 /*
  * A name is not found by its first bytes, nor by more than its bytes, nor as a
  * file if it is a folder's; a path begins with a slash; a folder that is not
- * empty stays; attributes have no more than 8 blocks.
+ * empty stays; attributes have no more than 8 blocks; nothing is created with
+ * the number of a port.
  */
 static void try_refusals(void)
 {
@@ -356,6 +367,9 @@ static void try_refusals(void)
                                                bytes(inventory), strlen(inventory), nine,
                                                sizeof nine);
     show_refusal("set attributes", inventory, s.number);
+    bulgefs_created c = bulgefs_create(image, sizeof image, journal, sizeof journal, bytes("/port"),
+                                       5, BULGEFS_PLAIN_FILE, 0, 0, 0, 3, 2007);
+    show_refusal("create", "/port", c.number);
 }
 
 /*

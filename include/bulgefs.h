@@ -24,8 +24,8 @@
  *   Every call but bulgefs_look_in_place answers a number: 0 (BULGEFS_OK) if
  *   the call was accepted, otherwise one of the refusals below; bulgefs_text
  *   has words for it.  If several refusals apply, the first in this order is
- *   given: 1 to 9, 20, 17, 21, 10 to 12, 18, 13 to 16.  A refused call changes
- *   no byte of any buffer, and all other fields of its answer are 0.
+ *   given: 1 to 9, 20, 17, 26, 21, 10 to 12, 18, 13 to 16.  A refused call
+ *   changes no byte of any buffer, and all other fields of its answer are 0.
  *
  * What it is not
  *   - The journal is an undo journal, not a journal against loss of power.
@@ -77,8 +77,8 @@ extern "C" {
  * The version of this header, 10000 * major + 100 * minor + patch.  The minor
  * number rises with every call, number or limit that comes or changes.
  */
-#define BULGEFS_VERSION            600u
-#define BULGEFS_VERSION_TEXT       "0.6.0"
+#define BULGEFS_VERSION            700u
+#define BULGEFS_VERSION_TEXT       "0.7.0"
 
 /*
  * The compiler says if an answer is not used.  Define BULGEFS_CHECKED as
@@ -135,7 +135,7 @@ extern "C" {
 
 /*
  * Size of a journal.  A change that saves k blocks adds BULGEFS_RECORD_SIZE(k)
- * bytes.  A create saves 1 block, the others at most
+ * bytes.  A create and a clear of flags save 1 block, the others at most
  *
  *   BULGEFS_WRITE_BLOCKS          a write of so many bytes; 20 for the longest
  *   BULGEFS_DELETE_BLOCKS         a delete in an image of n blocks of a file or
@@ -186,7 +186,8 @@ enum bulgefs_number {
     BULGEFS_TOO_DEEP        = 17, /* more than 8 directories in a path; just after 9   */
     BULGEFS_NOT_EMPTY       = 18, /* the directory to delete is not empty; after 12    */
     BULGEFS_TOO_MANY_BLOCKS = 20, /* more than 8 blocks of attributes; just after 9    */
-    BULGEFS_BAD_TABLE_SIZE  = 21  /* entry_count is not the number of blocks; after 9  */
+    BULGEFS_BAD_TABLE_SIZE  = 21, /* entry_count is not the number of blocks; after 9  */
+    BULGEFS_BAD_FLAGS       = 26  /* creates: flags other than 0; just after 17        */
 };
 
 /* The keyword for a function that stands in a header; C89 has none. */
@@ -223,6 +224,7 @@ BULGEFS_INLINE const char *bulgefs_text(uint32_t number)
     case BULGEFS_NOT_EMPTY:       return "directory is not empty";
     case BULGEFS_TOO_MANY_BLOCKS: return "too many blocks of attributes";
     case BULGEFS_BAD_TABLE_SIZE:  return "not one number for each block";
+    case BULGEFS_BAD_FLAGS:       return "system flags are not zero";
     default:                      return "no such number";
     }
 }
@@ -327,11 +329,12 @@ uint32_t bulgefs_journal_start(uint8_t *journal, size_t journal_len);
 
 /*
  * Creates an empty file in the lowest free slot of its directory, which must
- * exist.  time becomes both times of the file.  Users, groups, permissions,
- * flags and times are stored as given and never enforced.
+ * exist.  time becomes both times of the file.  Users, groups, permissions
+ * and times are stored as given and never enforced.  flags must be 0.
  * Refusals: 1 to 7, BULGEFS_BAD_JOURNAL, BULGEFS_BAD_ARGUMENT (also for a
- * type outside 0x60 to 0x9F), BULGEFS_TOO_DEEP, BULGEFS_NOT_FOUND,
- * BULGEFS_NAME_TAKEN, BULGEFS_DIRECTORY_FULL, BULGEFS_JOURNAL_FULL.
+ * type outside 0x60 to 0x9F), BULGEFS_TOO_DEEP, BULGEFS_BAD_FLAGS,
+ * BULGEFS_NOT_FOUND, BULGEFS_NAME_TAKEN, BULGEFS_DIRECTORY_FULL,
+ * BULGEFS_JOURNAL_FULL.
  */
 BULGEFS_CHECKED
 bulgefs_created bulgefs_create(uint8_t *image, size_t image_len,
@@ -376,8 +379,8 @@ bulgefs_changed bulgefs_delete(uint8_t *image, size_t image_len,
  * stay.
  * Refusals: 1 to 7, BULGEFS_BAD_JOURNAL, BULGEFS_BAD_ARGUMENT (also for a
  * type outside 0x20 to 0x5F, or blocks outside 1 to 64), BULGEFS_TOO_DEEP,
- * BULGEFS_NOT_FOUND, BULGEFS_NAME_TAKEN, BULGEFS_DIRECTORY_FULL,
- * BULGEFS_VOLUME_FULL, BULGEFS_JOURNAL_FULL.
+ * BULGEFS_BAD_FLAGS, BULGEFS_NOT_FOUND, BULGEFS_NAME_TAKEN,
+ * BULGEFS_DIRECTORY_FULL, BULGEFS_VOLUME_FULL, BULGEFS_JOURNAL_FULL.
  */
 BULGEFS_CHECKED
 bulgefs_created bulgefs_create_directory(uint8_t *image, size_t image_len,
@@ -443,6 +446,19 @@ BULGEFS_CHECKED
 bulgefs_changed bulgefs_clear_attributes(uint8_t *image, size_t image_len,
                                          uint8_t *journal, size_t journal_len,
                                          const uint8_t *path, size_t path_len);
+
+/*
+ * Sets a file's system flags to 0.  An older installer wrote the number of a
+ * USB port there: such a file is sound, and keeps the number until this call.
+ * No time changes, nor any other byte of the image.  With flags 0 already it is
+ * accepted too, and adds a record.
+ * Refusals: 1 to 7, BULGEFS_BAD_JOURNAL, BULGEFS_BAD_ARGUMENT,
+ * BULGEFS_TOO_DEEP, BULGEFS_NOT_FOUND, BULGEFS_JOURNAL_FULL.
+ */
+BULGEFS_CHECKED
+bulgefs_changed bulgefs_clear_flags(uint8_t *image, size_t image_len,
+                                    uint8_t *journal, size_t journal_len,
+                                    const uint8_t *path, size_t path_len);
 
 /*
  * Takes the last change back: puts the blocks of the journal's last record

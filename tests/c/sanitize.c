@@ -138,7 +138,7 @@ typedef struct {
 #define STAGES     0xFEu
 #define BIT(n)     (1u << (n))
 #define PATH       (BIT(9) | BIT(10) | BIT(17))
-#define MAY(set, n) ((n) <= 20 && ((set) | 1u) >> (n) & 1u)
+#define MAY(set, n) ((n) <= 26 && ((set) | 1u) >> (n) & 1u)
 
 static void call_looks(const material *m)
 {
@@ -192,6 +192,12 @@ static void settle(buffer *image, buffer *journal, uint32_t number, uint32_t res
     give_back(journal);
 }
 
+/* Flags for a create, mostly those that it accepts. */
+static uint32_t some_flags(void)
+{
+    return random_below(4) == 0 ? 1 + random_below(9) : 0;
+}
+
 static void call_file_changes(const material *m, const buffer *path)
 {
     const uint32_t common = STAGES | BIT(8) | BIT(15) | PATH;
@@ -200,8 +206,9 @@ static void call_file_changes(const material *m, const buffer *path)
     buffer image = lend(m->image, m->image_len);
     buffer journal = lend(m->journal, m->journal_len);
     bulgefs_created c = bulgefs_create(image.at, image.len, journal.at, journal.len, path->at,
-                                       path->len, 0x60, 1, 2, 3, 4, m->offset);
-    settle(&image, &journal, c.number, c.slot | c.record, common | BIT(11) | BIT(13), "create");
+                                       path->len, 0x60, 1, 2, 3, some_flags(), m->offset);
+    settle(&image, &journal, c.number, c.slot | c.record, common | BIT(11) | BIT(13) | BIT(26),
+           "create");
 
     image = lend(m->image, m->image_len);
     journal = lend(m->journal, m->journal_len);
@@ -215,6 +222,13 @@ static void call_file_changes(const material *m, const buffer *path)
                                        path->len);
     expect(d.number != 0 || bulgefs_check(image.at, image.len) == 0, "delete: sound");
     settle(&image, &journal, d.number, d.record, common, "delete");
+
+    image = lend(m->image, m->image_len);
+    journal = lend(m->journal, m->journal_len);
+    bulgefs_changed f = bulgefs_clear_flags(image.at, image.len, journal.at, journal.len,
+                                            path->at, path->len);
+    expect(f.number != 0 || bulgefs_check(image.at, image.len) == 0, "clear_flags: sound");
+    settle(&image, &journal, f.number, f.record, common, "clear_flags");
 
     expect(unchanged(&data), "changes: data stays");
     give_back(&data);
@@ -253,11 +267,11 @@ static void call_directory_changes(const material *m, const buffer *path)
     buffer image = lend(m->image, m->image_len);
     buffer journal = lend(m->journal, m->journal_len);
     bulgefs_created c = bulgefs_create_directory(image.at, image.len, journal.at, journal.len,
-                                                 path->at, path->len, 0x20, 1, 2, 3, 4, blocks,
-                                                 m->offset);
+                                                 path->at, path->len, 0x20, 1, 2, 3, some_flags(),
+                                                 blocks, m->offset);
     expect(c.number != 0 || bulgefs_check(image.at, image.len) == 0, "create_directory: sound");
-    settle(&image, &journal, c.number, c.slot | c.record, common | BIT(11) | BIT(13) | BIT(14),
-           "create_directory");
+    settle(&image, &journal, c.number, c.slot | c.record,
+           common | BIT(11) | BIT(13) | BIT(14) | BIT(26), "create_directory");
 
     image = lend(m->image, m->image_len);
     journal = lend(m->journal, m->journal_len);
@@ -674,6 +688,38 @@ static void attributes(void)
     expect(memcmp(image, before, sizeof image) == 0, "attr: as it was");
 }
 
+/*
+ * Flags: refused by a create; put into a file's entry as an older installer did,
+ * they are sound, and a clear changes their four bytes and no other.
+ */
+static void flags(void)
+{
+    static uint8_t image[16 * 512], before[16 * 512], journal[16384];
+    static const uint8_t path[] = "/A";
+    enum { FLAGS = 2 * 512 + 128 + 40 };
+    bulgefs_uuid uuid = {{0}};
+    expect(bulgefs_format(image, sizeof image, 2, 1, uuid, volume_name, 128) == 0, "flags: format");
+    expect(bulgefs_journal_start(journal, sizeof journal) == 0, "flags: start");
+    expect(bulgefs_create(image, sizeof image, journal, sizeof journal, path, 2, 0x60, 0, 0, 0, 3,
+                          2).number == BULGEFS_BAD_FLAGS, "flags: create with 3");
+    expect(bulgefs_create(image, sizeof image, journal, sizeof journal, path, 2, 0x60, 0, 0, 0, 0,
+                          2).number == 0, "flags: create");
+    image[FLAGS + 3] = 3;
+    memcpy(before, image, sizeof image);
+    expect(bulgefs_check(image, sizeof image) == 0, "flags: sound with 3");
+    bulgefs_changed c = bulgefs_clear_flags(image, sizeof image, journal, sizeof journal, path, 2);
+    expect(c.number == 0 && c.record == BULGEFS_RECORD_SIZE(1), "flags: clear");
+    image[FLAGS + 3] = 3;
+    expect(memcmp(image, before, sizeof image) == 0, "flags: no other byte");
+    image[FLAGS + 3] = 0;
+    c = bulgefs_clear_flags(image, sizeof image, journal, sizeof journal, path, 2);
+    expect(c.number == 0 && c.record == BULGEFS_RECORD_SIZE(1), "flags: clear of none");
+    for (int i = 0; i < 2; i++)
+        expect(bulgefs_undo(image, sizeof image, journal, sizeof journal).number == 0,
+               "flags: undo");
+    expect(memcmp(image, before, sizeof image) == 0, "flags: as it was");
+}
+
 /* The largest image and the longest journal. */
 static void largest(void)
 {
@@ -702,6 +748,7 @@ int main(void)
     full_name();
     freed_blocks();
     attributes();
+    flags();
     largest();
     printf("%lu passed, %lu failed\n", passed, failed);
     return failed == 0 ? 0 : 1;

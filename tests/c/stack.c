@@ -82,6 +82,11 @@ static void clear_attributes(void)
     number = bulgefs_clear_attributes(image, image_len, journal, journal_len, path, 2).number;
 }
 
+static void clear_flags(void)
+{
+    number = bulgefs_clear_flags(image, image_len, journal, journal_len, path, 2).number;
+}
+
 static void delete(void)
 {
     number = bulgefs_delete(image, image_len, journal, journal_len, path, 2).number;
@@ -96,7 +101,7 @@ static const struct {
     {"load_table", load}, {"store_table", store},
     {"set_attributes", set_attributes}, {"set_attributes again", set_attributes},
     {"read_attributes", read_attributes}, {"clear_attributes", clear_attributes}, {"undo", undo},
-    {"delete", delete}, {"undo", undo},
+    {"clear_flags", clear_flags}, {"undo", undo}, {"delete", delete}, {"undo", undo},
 };
 
 /* The bytes of stack that a call takes. */

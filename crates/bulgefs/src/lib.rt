@@ -3,7 +3,7 @@
 ghost use mathlib.Core.Path.{_≡_};
 ghost use Rattle.layout.specs.Check.{check};
 ghost use Rattle.layout.specs.Looks.{LookupAnswer, ReadAnswer, Extent, lookup, read, extentOf, readAttributes};
-ghost use Rattle.volume.specs.Change.{Change as ChangeAsked, create, write, delete, createDirectory, deleteDirectory, setAttributes, clearAttributes, slotGiven};
+ghost use Rattle.volume.specs.Change.{Change as ChangeAsked, create, write, delete, createDirectory, deleteDirectory, setAttributes, clearAttributes, clearFlags, slotGiven};
 ghost use Rattle.volume.specs.Format.{formatRefusal, formatted};
 ghost use Rattle.chain_table.specs.Transfer.{loadTable, storeTable};
 ghost use Rattle.journal.specs.Journal.{startRefusal, afterStart};
@@ -295,6 +295,14 @@ pub extern "C" fn bulgefs_clear_attributes(
     ensures state { λ _. ⌜ state (now (image .exit)) (now (journal .exit)) ≡ afterChange (state (now (image .entry)) (now (journal .entry))) (clearAttributes (now (path .entry))) ⌝ }
 {
     slotless(journal::calls::clear_attributes(image, journal, path))
+}
+
+#[no_mangle]
+pub extern "C" fn bulgefs_clear_flags(image: &mut [u8], journal: &mut [u8], path: &[u8]) -> Changed
+    ensures answer { λ r. ⌜ changed (r .number) 0 (r .size) ≡ changeAnswer (state (now (image .entry)) (now (journal .entry))) (clearFlags (now (path .entry))) ⌝ }
+    ensures state { λ _. ⌜ state (now (image .exit)) (now (journal .exit)) ≡ afterChange (state (now (image .entry)) (now (journal .entry))) (clearFlags (now (path .entry))) ⌝ }
+{
+    slotless(journal::calls::clear_flags(image, journal, path))
 }
 
 #[no_mangle]

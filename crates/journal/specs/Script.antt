@@ -10,7 +10,7 @@ use lib.Dec.{eqb, leb}
 use Rattle.layout.specs.Lists.{within, every, joined}
 use Rattle.layout.specs.Bytes.{be32, bytes4, zeros, part, splice}
 use Rattle.layout.specs.Check.{check}
-use Rattle.volume.specs.Change.{Change, create, write, delete, createDirectory, deleteDirectory, setAttributes, clearAttributes}
+use Rattle.volume.specs.Change.{Change, create, write, delete, createDirectory, deleteDirectory, setAttributes, clearAttributes, clearFlags}
 use Rattle.journal.specs.Journal.{recordsFrom, started, startRefusal}
 use Rattle.journal.specs.Run.{checkImage, findFile, readFile, lookAt, readAttributesOf, Call, change, undo, look, Answer, changed, undone, checked, found, filled, shown, State, run, answers, state}
 use Rattle.journal.specs.Replay.{replayed, standing, replayAnswers}
@@ -44,9 +44,9 @@ Fits s at = at + itemSize s at ≤ length s
 
 -- Ops: 1 check, 2 look up, 3 read (the data is its buffer as it is before the call), 4 look in place (the offset is its index), 5 create, 6 write,
 -- 7 delete, 8 undo, 9 create directory (its number of blocks is in the last four bytes of the offset), 10 delete directory, 11 set attributes,
--- 12 clear attributes, 13 read attributes (the data is its buffer, as for read).
+-- 12 clear attributes, 13 read attributes (the data is its buffer, as for read), 14 clear flags.
 abbrev pub lastOp : ℕ
-lastOp = 13
+lastOp = 14
 
 unfoldable pub changeAt : List ℕ → ℕ → Change
 changeAt s at =
@@ -62,7 +62,8 @@ changeAt s at =
     (cond (eqb (opAt s at) 9) (createDirectory name type user group permissions flags time (be32 s (at + 13)))
     (cond (eqb (opAt s at) 10) (deleteDirectory name)
     (cond (eqb (opAt s at) 11) (setAttributes name (dataAt s at))
-    (cond (eqb (opAt s at) 12) (clearAttributes name) (delete name))))))
+    (cond (eqb (opAt s at) 12) (clearAttributes name)
+    (cond (eqb (opAt s at) 14) (clearFlags name) (delete name)))))))
 
 unfoldable pub callAt : List ℕ → ℕ → Call
 callAt s at =

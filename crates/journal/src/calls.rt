@@ -1,6 +1,6 @@
 // The calls that are lent a journal. Each checks the image and scans the journal once.
 ghost use mathlib.Core.Path.{_≡_};
-ghost use Rattle.volume.specs.Change.{create, write, delete, createDirectory, deleteDirectory, setAttributes, clearAttributes};
+ghost use Rattle.volume.specs.Change.{create, write, delete, createDirectory, deleteDirectory, setAttributes, clearAttributes, clearFlags};
 ghost use Rattle.volume.specs.Asked.{asked};
 ghost use Rattle.journal.specs.Run.{afterUndo, undoAnswer, afterChange, changeAnswer, state};
 ghost use Rattle.journal.specs.Walks.Changes.{Inspects};
@@ -209,4 +209,13 @@ pub fn clear_attributes(image: &mut [u8], journal: &mut [u8], path: &[u8]) -> Ch
     ensures numbered { λ r. ⌜ ChangeNumbered r ⌝ }
 {
     change(image, journal, Change::ClearAttributes, path, b"")
+}
+
+// Clear flags: sets a file's system flags to 0.
+pub fn clear_flags(image: &mut [u8], journal: &mut [u8], path: &[u8]) -> Changed
+    ensures answer { λ r. ⌜ changedAnswer r ≡ changeAnswer (state (now (image .entry)) (now (journal .entry))) (clearFlags (now (path .entry))) ⌝ }
+    ensures state { λ _. ⌜ state (now (image .exit)) (now (journal .exit)) ≡ afterChange (state (now (image .entry)) (now (journal .entry))) (clearFlags (now (path .entry))) ⌝ }
+    ensures numbered { λ r. ⌜ ChangeNumbered r ⌝ }
+{
+    change(image, journal, Change::ClearFlags, path, b"")
 }

@@ -110,6 +110,9 @@ fn change_of(script: &[u8], at: usize) -> Change
     if op == 12 {
         return Change::ClearAttributes;
     }
+    if op == 14 {
+        return Change::ClearFlags;
+    }
     Change::Delete
 }
 

@@ -64,7 +64,7 @@ fn item_ok(script: &[u8], at: usize) -> bool
     if script[at] < 1 {
         return false;
     }
-    script[at] <= 13
+    script[at] <= 14
 }
 
 // Whether an op fills a buffer: read, and read attributes.

@@ -10,7 +10,7 @@ use Rattle.layout.specs.Table.{next, setNext}
 use Rattle.layout.specs.Check.{check}
 use Rattle.layout.specs.Listing.{listing}
 use Rattle.volume.specs.Format.{formatRefusal, formatted}
-use Rattle.volume.specs.Change.{create, write, delete, named, refusal, after}
+use Rattle.volume.specs.Change.{create, write, delete, clearFlags, named, refusal, after}
 use Rattle.journal.specs.Journal.{started, startRefusal, wellFormed, ascending}
 use Rattle.journal.specs.Run.{Look, change, undo, look, checkImage, findFile, readFile, lookAt, State, step, answer, changeRefusal, undoRefusal}
 use Rattle.tables.proofs.Rules.{rules}
@@ -72,8 +72,8 @@ stages =
     ∷ (checks (setNext s 7 1 ∷ setNext s 8 1 ∷ setNext s 127 1 ∷ setNext s 0 0 ∷ setNext s 1 0 ∷ []), 6 ∷ 6 ∷ 6 ∷ 6 ∷ 6 ∷ [])
     -- 7: the counts; and of two faults the lower number
     ∷ (checks (splice s 20 (bytes4 7) ∷ splice s 24 (bytes4 7) ∷ splice (splice s 20 (bytes4 7)) 28 (bytes4 3) ∷ []), 7 ∷ 7 ∷ 3 ∷ [])
-    -- not looked at: the header from 32 on, free slots, free blocks, the file's last block past its size
-    ∷ (checks (splice s 32 (pattern 480) ∷ splice s 1409 (pattern 127) ∷ splice s 3072 (pattern 512) ∷ splice s 2561 (pattern 511) ∷ []), 0 ∷ 0 ∷ 0 ∷ 0 ∷ [])
+    -- not looked at: the header from 32 on, flags, free slots, free blocks, the file's last block past its size
+    ∷ (checks (splice (splice s 32 (pattern 480)) 1192 (bytes4 3) ∷ splice s 1409 (pattern 127) ∷ splice s 3072 (pattern 512) ∷ splice s 2561 (pattern 511) ∷ []), 0 ∷ 0 ∷ 0 ∷ 0 ∷ [])
     ∷ []
 
 -- the calls that only look
@@ -143,8 +143,11 @@ changes =
     )
     -- a write of no bytes: a record of 520, and the time
     ∷ (numbers (answer p₂ (change (write fileA 0 [] 77))) ++ (be32 (after s (write fileA 0 [] 77)) 1180 ∷ []), 0 ∷ 0 ∷ 520 ∷ 77 ∷ [])
+    -- flags (L11): 3 is cleared, no other byte changes, also where they are 0, and the directory block is named; 26 before 11, after 9
+    ∷ (after (splice s 1192 (bytes4 3)) (clearFlags fileA), s)
+    ∷ (numbers (answer p₂ (change (clearFlags fileA))) ++ named s (clearFlags fileA), 0 ∷ 0 ∷ 520 ∷ 2 ∷ [])
     -- 9: name, type, data; 10; 11; 12
-    ∷ (map (refusal s) (create [] 0x60 1 2 3 4 5 ∷ create (inRoot 66) 0x5F 1 2 3 4 5 ∷ create (inRoot 66) 0x9F 1 2 3 4 5 ∷ create (inRoot 66) 0xA0 1 2 3 4 5 ∷ []), 9 ∷ 9 ∷ 0 ∷ 9 ∷ [])
+    ∷ (map (refusal s) (create [] 0x60 1 2 3 4 5 ∷ create (inRoot 66) 0x9F 1 2 3 0 5 ∷ create (inRoot 66) 0xA0 1 2 3 4 5 ∷ create (inRoot 66) 0x9F 1 2 3 4 5 ∷ create fileA 0x60 1 2 3 4 5 ∷ []), 9 ∷ 0 ∷ 9 ∷ 26 ∷ 26 ∷ [])
     ∷ (map (refusal s) (writeA 600 4097 ∷ write (inRoot 66) 0 [] 5 ∷ writeA 514 0 ∷ delete [] ∷ delete (inRoot 66) ∷ createFile 65 ∷ []), 9 ∷ 10 ∷ 12 ∷ 9 ∷ 10 ∷ 11 ∷ [])
     -- 13; 14, at the last free block and past it
     ∷ (check full ∷ refusal full (createFile 71) ∷ refusal full (createFile 70) ∷ refusal s (writeA 513 1535) ∷ refusal s (writeA 513 1536) ∷ [], 0 ∷ 13 ∷ 11 ∷ 0 ∷ 14 ∷ [])

@@ -7,10 +7,11 @@ use Rattle.layout.specs.Check.{stage1, stage2, stage3, directoryOk, childOk, no
 use Rattle.volume.specs.Entries.{entryBytes, directoryMade, setOccupied, linked, taken, grown, freed, released, entriesNamed, blocksNamed}
 use Rattle.volume.specs.Format.{formatRefusal, firstEntries, headerBytes, formatImage, formatted}
 use Rattle.layout.specs.Paths.{cut, parts, pathOk, shallow, childOf, resolve, home, pathSlot, entryOf, fileRefusal, directoryRefusal}
-use Rattle.volume.specs.Create.{createRefusal, createSlot, place, placeRefusal, createImage, createNamed}
+use Rattle.volume.specs.Create.{createRefusal, createSlot, place, placeRefusal, newRefusal, createImage, createNamed}
 use Rattle.volume.specs.Write.{newSize, needed, newBlocks, put, written, setFile, writeAt, changedEntries, writeNamed, writeAtRefusal, writeRefusal}
 use Rattle.volume.specs.Delete.{allBlocks, deleteAt, deleteNamed}
 use Rattle.volume.specs.Attributes.{emptied, newAttributes, setAttributeFields, setAttributesAt, clearAttributesAt, setAttributesNamed, clearAttributesNamed, setAttributesRefusal}
+use Rattle.volume.specs.Flags.{clearFlagsAt, clearFlagsNamed}
 use Rattle.volume.specs.Directories.{createDirectoryRefusal, newDirectoryBlocks, createDirectoryImage, createDirectoryNamed, deleteDirectoryRefusal}
 use Rattle.volume.specs.Change.{refusal, after, named, slotGiven}
 use Rattle.journal.specs.Journal.{used, started, startRefusal, copies, recordOk, recordsFrom, records, wellFormed, ascending, recordBytes, added, lastRecord, restored, undoneImage, undoneJournal}
@@ -23,7 +24,7 @@ unfolding be32 bytes4 bytes8 zeros splice inVolume next setNext chain endsAfter 
     stage1 stage2 stage3 directoryOk childOk noAttributes attributesOk fileOk directoryEntryOk slotOk newName visitSlots visitEntries visitChild visitRoot fileChains chains allChains owned tableOk stage6 stage7 check
     cut parts pathOk shallow childOf resolve home pathSlot entryOf fileRefusal directoryRefusal lookupRefusal lookup readRefusal read extentOf lookInPlace readAttributes decimal printed entryLine fileLine countLine refusedLine listing
     entryBytes directoryMade setOccupied linked taken grown freed released entriesNamed blocksNamed formatRefusal firstEntries headerBytes formatImage formatted
-    createRefusal createSlot place placeRefusal createImage createNamed newSize needed newBlocks put written setFile writeAt changedEntries writeNamed writeAtRefusal writeRefusal
-    allBlocks deleteAt deleteNamed emptied newAttributes setAttributeFields setAttributesAt clearAttributesAt setAttributesNamed clearAttributesNamed setAttributesRefusal createDirectoryRefusal newDirectoryBlocks createDirectoryImage createDirectoryNamed deleteDirectoryRefusal refusal after named slotGiven used started startRefusal copies recordOk recordsFrom records wellFormed ascending recordBytes added
+    createRefusal createSlot place placeRefusal newRefusal createImage createNamed newSize needed newBlocks put written setFile writeAt changedEntries writeNamed writeAtRefusal writeRefusal
+    allBlocks deleteAt deleteNamed emptied newAttributes setAttributeFields setAttributesAt clearAttributesAt setAttributesNamed clearAttributesNamed setAttributesRefusal clearFlagsAt clearFlagsNamed createDirectoryRefusal newDirectoryBlocks createDirectoryImage createDirectoryNamed deleteDirectoryRefusal refusal after named slotGiven used started startRefusal copies recordOk recordsFrom records wellFormed ascending recordBytes added
     lastRecord restored undoneImage undoneJournal recordOf changeRefusal afterChange changeAnswer undoRefusal afterUndo undoAnswer lookAnswer step answer run answers
 rules = tt

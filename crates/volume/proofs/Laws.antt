@@ -10,6 +10,7 @@ pub mod Unchanged
 pub mod Fields
 pub mod Attributes
 pub mod SetClear
+pub mod Flags
 pub mod Delete
 pub mod DeleteDirectory
 pub mod Create
@@ -28,6 +29,7 @@ pub mod Folders
 pub mod Effects
 pub mod Acts
 pub mod Shown
+pub mod ShownFlags
 pub mod Alike
 pub mod Orders
 pub mod Inside

@@ -23,9 +23,9 @@ use Rattle.volume.specs.Format.{formatRefusal, formatted}
 use Rattle.volume.specs.Write.{needed, newBlocks}
 use Rattle.volume.specs.Delete.{allBlocks}
 use Rattle.volume.specs.Attributes.{emptied}
-use Rattle.volume.specs.Change.{Change, create, write, createDirectory, deleteDirectory, setAttributes, clearAttributes, refusal, after, named, slotGiven}
+use Rattle.volume.specs.Change.{Change, create, write, createDirectory, deleteDirectory, setAttributes, clearAttributes, clearFlags, refusal, after, named, slotGiven}
 use Rattle.volume.specs.Claims.{NoRoom, NoRoomForSet, Blanked, Apart}
-use Rattle.volume.specs.Views.{File, nothing, just, fileOf, fileAt, folderAt, SameFiles, subject, made, madeFolder, takes, gives, givesFolder}
+use Rattle.volume.specs.Views.{File, nothing, just, fileOf, fileAt, folderAt, SameFiles, NoNewFlags, subject, made, madeFolder, takes, gives, givesFolder}
 use Rattle.volume.proofs.Laws.Framed.{frame}
 use Rattle.volume.proofs.Laws.Blank.{blank}
 use Rattle.volume.proofs.Laws.Format.{sound-format}
@@ -34,10 +34,11 @@ use Rattle.volume.proofs.Laws.Places.{file-at-path, write-given, set-pa
 use Rattle.volume.proofs.Laws.Space.{refused-14, lacking-14, new-lowest, new-length}
 use Rattle.volume.proofs.Laws.Room.{set-refused-14, set-lacking-14, set-taken, set-many, set-lowest-free, free-once-emptied}
 use Rattle.volume.proofs.Laws.Views.{file-shown}
-use Rattle.volume.proofs.Laws.Effects.{create-slot-found, written-blocks, set-kept, clear-kept}
+use Rattle.volume.proofs.Laws.Effects.{create-slot-found, written-blocks, set-kept, clear-kept, flags-kept, flags-number, flags-bytes}
 use Rattle.volume.proofs.Laws.Acts.{acts, others-untouched, create-directory-found, create-directory-empty, create-directory-tree, delete-directory-tree}
 use Rattle.volume.proofs.Laws.Shown.{read-shown, attributes-read, look-shown, not-shown, splice-long, lookup-kept, own-lookup, own-read, own-look, file-owner, chains-apart, directory-apart, directory-owner, write-path}
 use Rattle.volume.proofs.Laws.Alike.{lookup-alike, read-alike, look-alike, attributes-alike}
+use Rattle.volume.proofs.Laws.ShownFlags as shown-flags
 use Rattle.volume.proofs.Laws.Orders as orders
 use Rattle.volume.proofs.Laws.Inside as inside
 use Rattle.layout.proofs.Laws.Looks.{look-empty as empty-refused, look-empty-only as refused-empty}
@@ -139,6 +140,13 @@ module _ (s : List ℕ) (ok : check s ≡ 0) where
     -- It takes and gives back blocks in use as its rule says.
     pub blocks-in-use : be32 (after s c) 20 + (gives c (fileAt s (subject c)) + givesFolder c (folderAt s (subject c))) ≡ be32 s 20 + takes c (fileAt s (subject c))
     blocks-in-use = acts s c ok r .used
+
+    -- It makes no system flags but zero (NoNewFlags), and those of a file that is there before and after change by a clear alone (L11).
+    pub no-new-flags : NoNewFlags s (after s c)
+    no-new-flags = shown-flags.no-new-flags s c ok r
+
+    pub flags-stay : (path : List ℕ) (f g : File) → fileAt s path ≡ just g → fileAt (after s c) path ≡ just f → c ≢ clearFlags path → f .flags ≡ g .flags
+    flags-stay = shown-flags.flags-stay s c ok r
 
     -- Every other path shows what it showed, and lookup, read, look in place and read attributes answer what they answered.
     module _ (other : List ℕ) (ne : other ≢ subject c) where
@@ -315,6 +323,44 @@ module _ (s : List ℕ) (ok : check s ≡ 0) where
     pub clear-look : (i : ℕ) → lookInPlace cleared path i ≡ lookInPlace s path i
     unfolding after
     clear-look = own-look s cleared path ok (change-sound (clearAttributes path) r) found-clear (clear-kept s path ok found-clear)
+
+  -- An accepted clear of system flags (L11).
+  module _ (path : List ℕ) (r : refusal s (clearFlags path) ≡ 0) where
+    abbrev flagless : List ℕ
+    flagless = after s (clearFlags path)
+
+    found-flags : fileRefusal s path ≡ 0
+    unfolding refusal
+    found-flags = r
+
+    -- The file's flags are 0, and every other byte of the image stays: all else of the entry, the file's bytes and all other files.
+    pub flags-cleared : be32 flagless (entryOf isFile s path + 40) ≡ 0
+    unfolding after
+    flags-cleared = flags-number s path ok found-flags
+
+    pub flags-others : (i : ℕ) → (i < entryOf isFile s path + 40) ⊎ (entryOf isFile s path + 44 ≤ i) → getD flagless i 0 ≡ getD s i 0
+    unfolding after
+    flags-others = flags-bytes s path ok found-flags
+
+    -- All answers about the file stay.
+    pub flags-lookup : lookup flagless path ≡ lookup s path
+    unfolding after
+    flags-lookup = own-lookup s flagless path ok (change-sound (clearFlags path) r) found-flags (flags-kept s path ok found-flags)
+
+    pub flags-read : (offset : ℕ) (buffer : List ℕ) → read flagless path offset buffer ≡ read s path offset buffer
+    unfolding after
+    flags-read = own-read s flagless path ok (change-sound (clearFlags path) r) found-flags (flags-kept s path ok found-flags)
+
+    pub flags-look : (i : ℕ) → lookInPlace flagless path i ≡ lookInPlace s path i
+    unfolding after
+    flags-look = own-look s flagless path ok (change-sound (clearFlags path) r) found-flags (flags-kept s path ok found-flags)
+
+    pub flags-attributes : (buffer : List ℕ) → readAttributes flagless path buffer ≡ readAttributes s path buffer
+    unfolding subject made
+    flags-attributes buffer =
+        let shown = file-shown s path found-flags in
+        attributes-read flagless path (change-sound (clearFlags path) r) _ (own-file (clearFlags path) r ∙ ap (made (clearFlags path)) shown) buffer
+        ∙ sym (attributes-read s path ok (fileOf s (entryOf isFile s path)) shown buffer)
 
 -- Two sound images that show the same answer the same at every path: look up, but for the slot; read; look in place; read attributes.
 module _ (s s′ : List ℕ) (ok : check s ≡ 0) (ok′ : check s′ ≡ 0) (same : SameFiles s s′) (path : List ℕ) where

@@ -13,3 +13,4 @@ asked (kinds.CreateDirectory type user group permissions flags blocks time) path
 asked kinds.DeleteDirectory path bytes = rules.deleteDirectory path
 asked kinds.SetAttributes path bytes = rules.setAttributes path bytes
 asked kinds.ClearAttributes path bytes = rules.clearAttributes path
+asked kinds.ClearFlags path bytes = rules.clearFlags path

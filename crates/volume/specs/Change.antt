@@ -6,6 +6,7 @@ use Rattle.volume.specs.Create.{createRefusal, createSlot, createImage, 
 use Rattle.volume.specs.Write.{writeRefusal, writeAt, writeNamed}
 use Rattle.volume.specs.Delete.{deleteAt, deleteNamed}
 use Rattle.volume.specs.Attributes.{setAttributesRefusal, setAttributesAt, setAttributesNamed, clearAttributesAt, clearAttributesNamed}
+use Rattle.volume.specs.Flags.{clearFlagsAt, clearFlagsNamed}
 use Rattle.volume.specs.Directories.{createDirectoryRefusal, createDirectoryImage, createDirectoryNamed, deleteDirectoryRefusal}
 use Rattle.layout.specs.Directory.{isFile, isDirectory}
 use Rattle.layout.specs.Paths.{fileRefusal, entryOf}
@@ -18,16 +19,18 @@ pub data Change : Type 0 where
   deleteDirectory : (path : List ℕ) → Change
   setAttributes : (path bytes : List ℕ) → Change
   clearAttributes : (path : List ℕ) → Change
+  clearFlags : (path : List ℕ) → Change
 
--- the refusal by the numbers 9 to 20, or 0
+-- the refusal by the numbers 9 to 26, or 0
 unfoldable pub refusal : List ℕ → Change → ℕ
-refusal s (create path type user group permissions flags time) = createRefusal s path type
+refusal s (create path type user group permissions flags time) = createRefusal s path type flags
 refusal s (write path offset bytes time) = writeRefusal s path offset (length bytes)
 refusal s (delete path) = fileRefusal s path
-refusal s (createDirectory path type user group permissions flags time d) = createDirectoryRefusal s path type d
+refusal s (createDirectory path type user group permissions flags time d) = createDirectoryRefusal s path type flags d
 refusal s (deleteDirectory path) = deleteDirectoryRefusal s path
 refusal s (setAttributes path bytes) = setAttributesRefusal s path (length bytes)
 refusal s (clearAttributes path) = fileRefusal s path
+refusal s (clearFlags path) = fileRefusal s path
 
 -- of an accepted change: the image after it, its named blocks (in any order), and the slot that it answers (create, of a directory too)
 unfoldable pub after : List ℕ → Change → List ℕ
@@ -38,6 +41,7 @@ after s (createDirectory path type user group permissions flags time d) = create
 after s (deleteDirectory path) = deleteAt s (entryOf isDirectory s path)
 after s (setAttributes path bytes) = setAttributesAt s (entryOf isFile s path) bytes
 after s (clearAttributes path) = clearAttributesAt s (entryOf isFile s path)
+after s (clearFlags path) = clearFlagsAt s (entryOf isFile s path)
 
 unfoldable pub named : List ℕ → Change → List ℕ
 named s (create path type user group permissions flags time) = createNamed s path
@@ -47,6 +51,7 @@ named s (createDirectory path type user group permissions flags time d) = create
 named s (deleteDirectory path) = deleteNamed s (entryOf isDirectory s path)
 named s (setAttributes path bytes) = setAttributesNamed s (entryOf isFile s path) (length bytes)
 named s (clearAttributes path) = clearAttributesNamed s (entryOf isFile s path)
+named s (clearFlags path) = clearFlagsNamed (entryOf isFile s path)
 
 unfoldable pub slotGiven : List ℕ → Change → ℕ
 slotGiven s (create path type user group permissions flags time) = createSlot s path
@@ -56,3 +61,4 @@ slotGiven s (createDirectory path type user group permissions flags time d) = cr
 slotGiven s (deleteDirectory path) = 0
 slotGiven s (setAttributes path bytes) = 0
 slotGiven s (clearAttributes path) = 0
+slotGiven s (clearFlags path) = 0

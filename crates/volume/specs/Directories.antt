@@ -14,14 +14,15 @@ use Rattle.layout.specs.Table.{next, freeBlocks}
 use Rattle.layout.specs.Directory.{firstBlock, isDirectory, isEmpty}
 use Rattle.layout.specs.Paths.{parts, pathOk, lastPart, shallow, home, entryOf, directoryRefusal}
 use Rattle.volume.specs.Entries.{entryBytes, directoryMade, grown, blocksNamed}
-use Rattle.volume.specs.Create.{placeRefusal, place}
+use Rattle.volume.specs.Create.{newRefusal, place}
 
--- "A new directory is given its d (9 if type or d is out of range)", 17 "in directory calls the last part counts", 10, 11, 13 as for create, 14
-unfoldable pub createDirectoryRefusal : List ℕ → List ℕ → ℕ → ℕ → ℕ
-createDirectoryRefusal s path type d =
+-- "A new directory is given its d (9 if type or d is out of range)", 17 "in directory calls the last part counts", 26, 10, 11, 13 as for create,
+-- 14
+unfoldable pub createDirectoryRefusal : List ℕ → List ℕ → (type flags d : ℕ) → ℕ
+createDirectoryRefusal s path type flags d =
     require (pathOk path && (isDirectory type && within 1 maxDirectory d)) 9
     (require (shallow (parts path)) 17
-    (firstOf (placeRefusal s path)
+    (firstOf (newRefusal s path flags)
     (require (leb d (length (freeBlocks (next s) (blockCount s)))) 14 0)))
 
 -- it "takes its blocks as a write does; its entry is made, and its slot answered, as by create (with first block and d), its self entry and end type as

@@ -3,13 +3,14 @@ use Prim.Native.Nat.{ℕ, _+_, _-_, _/_, max}
 use mathlib.Core.Path.{_≡_}
 use mathlib.Core.List.{List, [], _∷_}
 use mathlib.Core.Bool.{Bool, true, false}
+use mathlib.Core.Logic.{_⊎_}
 use lib.ListN.{length}
 use Rattle.layout.specs.Refusals.{accept}
-use Rattle.layout.specs.Bytes.{be32, bytes4, bytes8, part, splice}
+use Rattle.layout.specs.Bytes.{be32, bytes4, bytes8, part, splice, zeros}
 use Rattle.layout.specs.Geometry.{blocksFor}
 use Rattle.layout.specs.Directory.{blocksOf, isFile, isDirectory, content, attributes}
 use Rattle.layout.specs.Paths.{entryOf, fileRefusal, directoryRefusal}
-use Rattle.volume.specs.Change.{Change, create, write, delete, createDirectory, deleteDirectory, setAttributes, clearAttributes}
+use Rattle.volume.specs.Change.{Change, create, write, delete, createDirectory, deleteDirectory, setAttributes, clearAttributes, clearFlags}
 
 -- a file: its bytes; type, user, group and permissions; both times; system flags; the bytes of its attributes
 pub record File : Type 0 where
@@ -53,6 +54,20 @@ pub record SameFiles (s s′ : List ℕ) : Type 0 where
   pub folders : (path : List ℕ) → folderAt s path ≡ folderAt s′ path
   pub free : be32 s 24 ≡ be32 s′ 24
 
+-- L11, "Create, of a directory too, now wants zero there": the system flags that a path shows, zero where it shows nothing; and of a change from s to s′,
+-- that they are zero after it, or what they were
+abbrev pub flagsIn : Maybe File → List ℕ
+flagsIn nothing = zeros 4
+flagsIn (just x) = x .flags
+
+abbrev pub folderFlagsIn : Maybe Folder → List ℕ
+folderFlagsIn nothing = zeros 4
+folderFlagsIn (just x) = x .flags
+
+pub record NoNewFlags (s s′ : List ℕ) : Type 0 where
+  pub files : (path : List ℕ) → (flagsIn (fileAt s′ path) ≡ zeros 4) ⊎ (flagsIn (fileAt s′ path) ≡ flagsIn (fileAt s path))
+  pub folders : (path : List ℕ) → (folderFlagsIn (folderAt s′ path) ≡ zeros 4) ⊎ (folderFlagsIn (folderAt s′ path) ≡ folderFlagsIn (folderAt s path))
+
 -- the path that a change is about
 unfoldable pub subject : Change → List ℕ
 subject (create path type user group permissions flags time) = path
@@ -62,6 +77,7 @@ subject (createDirectory path type user group permissions flags time d) = path
 subject (deleteDirectory path) = path
 subject (setAttributes path bytes) = path
 subject (clearAttributes path) = path
+subject (clearFlags path) = path
 
 -- the changes of files
 unfoldable pub ofFile : Change → Bool
@@ -72,6 +88,7 @@ ofFile (createDirectory path type user group permissions flags time d) = false
 ofFile (deleteDirectory path) = false
 ofFile (setAttributes path bytes) = true
 ofFile (clearAttributes path) = true
+ofFile (clearFlags path) = true
 
 -- what an accepted change makes of the file that its path shows
 abbrev pub over : Maybe File → (File → File) → Maybe File
@@ -88,6 +105,7 @@ made (createDirectory path type user group permissions flags time d) m = m
 made (deleteDirectory path) m = m
 made (setAttributes path bytes) m = over m (λ f. record { bytes = f .bytes; kind = f .kind; created = f .created; modified = f .modified; flags = f .flags; attributes = bytes })
 made (clearAttributes path) m = over m (λ f. record { bytes = f .bytes; kind = f .kind; created = f .created; modified = f .modified; flags = f .flags; attributes = [] })
+made (clearFlags path) m = over m (λ f. record { bytes = f .bytes; kind = f .kind; created = f .created; modified = f .modified; flags = zeros 4; attributes = f .attributes })
 
 -- the blocks that it takes and those that it gives back
 abbrev pub count : Maybe File → (File → ℕ) → ℕ
@@ -102,6 +120,7 @@ takes (createDirectory path type user group permissions flags time d) m = d
 takes (deleteDirectory path) m = 0
 takes (setAttributes path bytes) m = length bytes / 512
 takes (clearAttributes path) m = 0
+takes (clearFlags path) m = 0
 
 unfoldable pub gives : Change → Maybe File → ℕ
 gives (create path type user group permissions flags time) m = 0
@@ -111,6 +130,7 @@ gives (createDirectory path type user group permissions flags time d) m = 0
 gives (deleteDirectory path) m = 0
 gives (setAttributes path bytes) m = count m (λ f. length (f .attributes) / 512)
 gives (clearAttributes path) m = count m (λ f. length (f .attributes) / 512)
+gives (clearFlags path) m = 0
 
 -- of the directory that its path shows: what it makes of it, and the blocks that it gives back
 unfoldable pub madeFolder : Change → Maybe Folder → Maybe Folder
@@ -122,6 +142,7 @@ madeFolder (createDirectory path type user group permissions flags time d) m =
 madeFolder (deleteDirectory path) m = nothing
 madeFolder (setAttributes path bytes) m = m
 madeFolder (clearAttributes path) m = m
+madeFolder (clearFlags path) m = m
 
 abbrev pub sizeIn : Maybe Folder → ℕ
 sizeIn nothing = 0
@@ -135,3 +156,4 @@ givesFolder (createDirectory path type user group permissions flags time d) m = 
 givesFolder (deleteDirectory path) m = sizeIn m
 givesFolder (setAttributes path bytes) m = 0
 givesFolder (clearAttributes path) m = 0
+givesFolder (clearFlags path) m = 0

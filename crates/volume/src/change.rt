@@ -36,15 +36,21 @@ pub enum Change {
     DeleteDirectory,
     SetAttributes,
     ClearAttributes,
+    ClearFlags,
 }
 
-// The refusal, 9 to 20, or 0.
+// The refusal, 9 to 26, or 0.
 pub fn refusal(image: &[u8], what: Change, path: &[u8], bytes: &[u8]) -> u32
     requires { ⌜ check (now image) ≡ 0 ⌝ }
     ensures { λ r. ⌜ r ≡ refusal (now (image .entry)) (asked what (now (path .entry)) (now (bytes .entry))) ⌝ }
 {
     match what {
-        Change::Create { kind, .. } => super::create::create_refusal(image, path, kind),
+        Change::Create { kind, flags, .. } => super::create::create_refusal(
+            image,
+            path,
+            kind,
+            flags,
+        ),
         Change::Write { offset, .. } => super::write::write_refusal(
             image,
             path,
@@ -52,9 +58,12 @@ pub fn refusal(image: &[u8], what: Change, path: &[u8], bytes: &[u8]) -> u32
             bytes.len(),
         ),
         Change::Delete => super::delete::delete_refusal(image, path),
-        Change::CreateDirectory { kind, blocks, .. } => {
-            super::create_directory::create_directory_refusal(image, path, kind, blocks)
-        }
+        Change::CreateDirectory {
+            kind,
+            flags,
+            blocks,
+            ..
+        } => { super::create_directory::create_directory_refusal(image, path, kind, flags, blocks) }
         Change::DeleteDirectory => super::delete_directory::delete_directory_refusal(image, path),
         Change::SetAttributes => super::attributes::set_attributes_refusal(
             image,
@@ -62,6 +71,7 @@ pub fn refusal(image: &[u8], what: Change, path: &[u8], bytes: &[u8]) -> u32
             bytes.len(),
         ),
         Change::ClearAttributes => super::delete::delete_refusal(image, path),
+        Change::ClearFlags => super::delete::delete_refusal(image, path),
     }
 }
 
@@ -71,7 +81,13 @@ pub fn mark_named(image: &[u8], what: Change, path: &[u8], bytes: &[u8], marks: 
     ensures { λ _. ⌜ now (marks .exit) ≡ marked (now (marks .entry)) (named (now (image .entry)) (asked what (now (path .entry)) (now (bytes .entry)))) ⌝ }
 {
     match what {
-        Change::Create { kind, .. } => super::create::create_named(image, path, kind, marks),
+        Change::Create { kind, flags, .. } => super::create::create_named(
+            image,
+            path,
+            kind,
+            flags,
+            marks,
+        ),
         Change::Write { offset, .. } => super::write::write_named(
             image,
             path,
@@ -80,8 +96,13 @@ pub fn mark_named(image: &[u8], what: Change, path: &[u8], bytes: &[u8], marks: 
             marks,
         ),
         Change::Delete => super::delete::delete_named(image, path, marks),
-        Change::CreateDirectory { kind, blocks, .. } => {
-            super::create_directory::create_directory_named(image, path, kind, blocks, marks)
+        Change::CreateDirectory {
+            kind,
+            flags,
+            blocks,
+            ..
+        } => {
+            super::create_directory::create_directory_named(image, path, kind, flags, blocks, marks)
         }
         Change::DeleteDirectory => super::delete_directory::delete_directory_named(
             image,
@@ -95,6 +116,7 @@ pub fn mark_named(image: &[u8], what: Change, path: &[u8], bytes: &[u8], marks: 
             marks,
         ),
         Change::ClearAttributes => super::attributes::clear_attributes_named(image, path, marks),
+        Change::ClearFlags => super::flags::clear_flags_named(image, path, marks),
     }
 }
 
@@ -152,6 +174,10 @@ pub fn make(image: &mut [u8], what: Change, path: &[u8], bytes: &[u8]) -> u32
         }
         Change::ClearAttributes => {
             super::attributes::clear_attributes(image, path);
+            0
+        }
+        Change::ClearFlags => {
+            super::flags::clear_flags(image, path);
             0
         }
     }

@@ -9,24 +9,24 @@ ghost use Rattle.volume.specs.Walks.Marks.{marked};
 use super::slot::Fields;
 
 // The number of create's refusal, or 0.
-pub fn create_refusal(image: &[u8], path: &[u8], kind: u8) -> u32
+pub fn create_refusal(image: &[u8], path: &[u8], kind: u8, flags: u32) -> u32
     requires { ⌜ check (now image) ≡ 0 ⌝ }
-    ensures { λ r. ⌜ r ≡ createRefusal (now (image .entry)) (now (path .entry)) kind ⌝ }
+    ensures { λ r. ⌜ r ≡ createRefusal (now (image .entry)) (now (path .entry)) kind flags ⌝ }
 {
     if !layout::directory::is_file(kind) {
         return 9;
     }
-    let form = layout::file::path_refusal(path);
-    if form != 0 {
-        return form;
+    let brought = super::place::brought_refusal(layout::file::path_refusal(path), flags);
+    if brought != 0 {
+        return brought;
     }
     let p = super::place::find_place(image, path);
     p.number
 }
 
 // Marks the block that an accepted create changes.
-pub fn create_named(image: &[u8], path: &[u8], kind: u8, marks: &mut [u8])
-    requires { ⌜ (check (now image) ≡ 0) × (createRefusal (now image) (now path) kind ≡ 0) × (blockCount (now image) ≤ length (now marks)) ⌝ }
+pub fn create_named(image: &[u8], path: &[u8], kind: u8, flags: u32, marks: &mut [u8])
+    requires { ⌜ (check (now image) ≡ 0) × (createRefusal (now image) (now path) kind flags ≡ 0) × (blockCount (now image) ≤ length (now marks)) ⌝ }
     ensures { λ _. ⌜ now (marks .exit) ≡ marked (now (marks .entry)) (createNamed (now (image .entry)) (now (path .entry))) ⌝ }
 {
     let p = super::place::vacant(image, path);
@@ -44,7 +44,7 @@ pub fn create(
     flags: u32,
     time: u64,
 ) -> u32
-    requires { ⌜ (check (now image) ≡ 0) × (createRefusal (now image) (now path) kind ≡ 0) ⌝ }
+    requires { ⌜ (check (now image) ≡ 0) × (createRefusal (now image) (now path) kind flags ≡ 0) ⌝ }
     ensures slot { λ r. ⌜ r ≡ createSlot (now (image .entry)) (now (path .entry)) ⌝ }
     ensures bytes { λ r. ⌜ now (image .exit) ≡ createImage (now (image .entry)) (now (path .entry)) kind user group permissions flags time ⌝ }
 {

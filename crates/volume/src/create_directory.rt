@@ -32,16 +32,17 @@ fn shaped(kind: u8, d: u32) -> bool
 }
 
 // The number of the refusal, or 0.
-pub fn create_directory_refusal(image: &[u8], path: &[u8], kind: u8, d: u32) -> u32
+pub fn create_directory_refusal(image: &[u8], path: &[u8], kind: u8, flags: u32, d: u32) -> u32
     requires { ⌜ check (now image) ≡ 0 ⌝ }
-    ensures { λ r. ⌜ r ≡ createDirectoryRefusal (now (image .entry)) (now (path .entry)) kind d ⌝ }
+    ensures { λ r. ⌜ r ≡ createDirectoryRefusal (now (image .entry)) (now (path .entry)) kind flags d ⌝ }
 {
     if !shaped(kind, d) {
         return 9;
     }
     let form = layout::file::whole_path_refusal(path);
-    if form != 0 {
-        return form;
+    let brought = super::place::brought_refusal(form, flags);
+    if brought != 0 {
+        return brought;
     }
     let p = super::place::find_place(image, path);
     let number = p.number;
@@ -55,8 +56,15 @@ pub fn create_directory_refusal(image: &[u8], path: &[u8], kind: u8, d: u32) -> 
 }
 
 // Marks the blocks that an accepted one names.
-pub fn create_directory_named(image: &[u8], path: &[u8], kind: u8, d: u32, marks: &mut [u8])
-    requires { ⌜ (check (now image) ≡ 0) × (createDirectoryRefusal (now image) (now path) kind d ≡ 0) × (blockCount (now image) ≤ length (now marks)) ⌝ }
+pub fn create_directory_named(
+    image: &[u8],
+    path: &[u8],
+    kind: u8,
+    flags: u32,
+    d: u32,
+    marks: &mut [u8],
+)
+    requires { ⌜ (check (now image) ≡ 0) × (createDirectoryRefusal (now image) (now path) kind flags d ≡ 0) × (blockCount (now image) ≤ length (now marks)) ⌝ }
     ensures { λ _. ⌜ now (marks .exit) ≡ marked (now (marks .entry)) (createDirectoryNamed (now (image .entry)) (now (path .entry)) d) ⌝ }
 {
     let p = super::place::vacant(image, path);
@@ -137,7 +145,7 @@ pub fn create_directory(
     time: u64,
     d: u32,
 ) -> u32
-    requires { ⌜ (check (now image) ≡ 0) × (createDirectoryRefusal (now image) (now path) kind d ≡ 0) ⌝ }
+    requires { ⌜ (check (now image) ≡ 0) × (createDirectoryRefusal (now image) (now path) kind flags d ≡ 0) ⌝ }
     ensures slot { λ r. ⌜ r ≡ createSlot (now (image .entry)) (now (path .entry)) ⌝ }
     ensures bytes { λ r. ⌜ now (image .exit) ≡ createDirectoryImage (now (image .entry)) (now (path .entry)) kind user group permissions flags time d ⌝ }
 {

@@ -31,15 +31,23 @@ fn clear_part(s: &mut [u8], at: usize, count: usize)
     layout::bytes::clear(&mut s[at..e]);
 }
 
+// Zeroes the `count` bytes at `at` of slot k, which is in block b.
+pub fn clear_bytes(image: &mut [u8], b: usize, k: usize, at: usize, count: usize)
+    requires { ⌜ (512 * b + 512 ≤ length (now image)) × (at + count ≤ 128) ⌝ }
+    ensures { λ _. ⌜ now (image .exit) ≡ splice (now (image .entry)) (entryAt b k + at) (zeros count) ⌝ }
+{
+    let o = 128 * (k % 4) + at;
+    let a = 512 * b;
+    let e = a + 512;
+    clear_part(&mut image[a..e], o, count);
+}
+
 // Zeroes slot k, which is in block b.
 pub fn clear_slot(image: &mut [u8], b: usize, k: usize)
     requires { ⌜ 512 * b + 512 ≤ length (now image) ⌝ }
     ensures { λ _. ⌜ now (image .exit) ≡ splice (now (image .entry)) (entryAt b k) (zeros 128) ⌝ }
 {
-    let o = 128 * (k % 4);
-    let a = 512 * b;
-    let e = a + 512;
-    clear_part(&mut image[a..e], o, 128);
+    clear_bytes(image, b, k, 0, 128);
 }
 
 // Writes the numbers and the modified time of the file at o of a directory's block.

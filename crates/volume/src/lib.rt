@@ -8,6 +8,7 @@ mod data;
 mod delete;
 mod delete_directory;
 mod file;
+mod flags;
 pub mod format;
 mod marks;
 pub mod number;

@@ -2,7 +2,7 @@
 ghost use mathlib.Core.Path.{_≡_};
 ghost use Rattle.layout.specs.Walks.Paths.{PathGiven};
 ghost use Rattle.volume.specs.Create.{placeRefusal};
-ghost use Rattle.volume.specs.Walks.Places.{Vacant, Searched};
+ghost use Rattle.volume.specs.Walks.Places.{broughtRefusal, Vacant, Searched};
 
 // The number of the refusal, or 0; the directory's first block, the slot, and the block that holds it.
 pub struct Place {
@@ -51,6 +51,19 @@ pub fn find_place(image: &[u8], path: &[u8]) -> Place
         slot: k,
         block: b,
     }
+}
+
+// The refusal of a new entry by what is brought: that of its path, 9 or 17, then 26; or 0.
+pub fn brought_refusal(form: u32, flags: u32) -> u32
+    ensures { λ r. ⌜ r ≡ broughtRefusal form flags ⌝ }
+{
+    if form != 0 {
+        return form;
+    }
+    if flags != 0 {
+        return 26;
+    }
+    0
 }
 
 // The place of a path that is not refused.

@@ -6,7 +6,8 @@ use crate::tree::{files, folders, items, slots, Item};
 use reference::layout::*;
 use reference::path::Want;
 use reference::{
-    Change, ClearAttributes, Create, CreateDirectory, Delete, DeleteDirectory, SetAttributes, Write,
+    Change, ClearAttributes, ClearFlags, Create, CreateDirectory, Delete, DeleteDirectory,
+    SetAttributes, Write,
 };
 
 fn any(rng: &mut Rng, items: Vec<Item>) -> Option<Item> {
@@ -282,18 +283,32 @@ pub fn any_time(rng: &mut Rng) -> u64 {
     rng.next() >> rng.below(64)
 }
 
-fn given(rng: &mut Rng, path: Vec<u8>, kind: u8) -> Create {
+/// Flags that nothing may be created with.
+pub fn bad_flags(rng: &mut Rng) -> u32 {
+    let any = rng.next() as u32 | 1 << rng.below(32);
+    rng.pick(&[1, 0x100, 0x1_0000, 0x0100_0000, 0x8000_0000, u32::MAX, any])
+}
+
+/// Mostly those that something may be created with.
+fn any_flags(rng: &mut Rng) -> u32 {
+    if rng.once_in(12) {
+        bad_flags(rng)
+    } else {
+        0
+    }
+}
+
+fn given(rng: &mut Rng, path: Vec<u8>, kind: u8, flags: u32) -> Create {
     let (user, group, permissions) = (rng.byte(), rng.byte(), rng.byte());
-    let flags = rng.next() as u32;
     Create { path, kind, user, group, permissions, flags, time: any_time(rng) }
 }
 
-pub fn create(rng: &mut Rng, path: Vec<u8>, kind: u8) -> Change {
-    Change::Create(given(rng, path, kind))
+pub fn create(rng: &mut Rng, path: Vec<u8>, kind: u8, flags: u32) -> Change {
+    Change::Create(given(rng, path, kind, flags))
 }
 
-pub fn create_directory(rng: &mut Rng, path: Vec<u8>, kind: u8, blocks: u32) -> Change {
-    Change::CreateDirectory(CreateDirectory { entry: given(rng, path, kind), blocks })
+pub fn create_directory(rng: &mut Rng, path: Vec<u8>, kind: u8, flags: u32, blocks: u32) -> Change {
+    Change::CreateDirectory(CreateDirectory { entry: given(rng, path, kind, flags), blocks })
 }
 
 /// A type from a range, often at its edges.
@@ -343,7 +358,8 @@ fn any_new(rng: &mut Rng, image: &[u8], want: Want) -> (Vec<u8>, u8) {
 
 pub fn any_create(rng: &mut Rng, image: &[u8]) -> Change {
     let (path, kind) = any_new(rng, image, Want::File);
-    create(rng, path, kind)
+    let flags = any_flags(rng);
+    create(rng, path, kind, flags)
 }
 
 pub fn any_create_directory(rng: &mut Rng, image: &[u8]) -> Change {
@@ -357,7 +373,8 @@ pub fn any_create_directory(rng: &mut Rng, image: &[u8]) -> Change {
         4 => rng.between(1, 64) as u32,
         _ => rng.between(1, 3) as u32,
     };
-    create_directory(rng, path, kind, blocks)
+    let flags = any_flags(rng);
+    create_directory(rng, path, kind, flags, blocks)
 }
 
 pub fn any_write(rng: &mut Rng, image: &[u8]) -> Change {
@@ -444,6 +461,17 @@ pub fn any_clear_attributes(rng: &mut Rng, image: &[u8]) -> Change {
     Change::ClearAttributes(ClearAttributes { path: path_with_attributes(rng, image) })
 }
 
+/// The path of a file with flags more often than not.
+pub fn any_clear_flags(rng: &mut Rng, image: &[u8]) -> Change {
+    let flagged = |file: &Item| number(image, file.at + slot::FLAGS) != 0;
+    let with = files(image).into_iter().filter(flagged).collect();
+    let path = match any(rng, with) {
+        Some(file) if rng.once_in(2) => file.path,
+        _ => any_path(rng, image, Want::File),
+    };
+    Change::ClearFlags(ClearFlags { path })
+}
+
 /// A buffer for attributes of so many blocks.
 pub fn any_attributes_buffer(rng: &mut Rng, blocks: usize) -> Vec<u8> {
     let size = BLOCK * blocks;
@@ -460,7 +488,7 @@ pub fn any_attributes_buffer(rng: &mut Rng, blocks: usize) -> Vec<u8> {
 }
 
 /// One of each change.
-pub fn changes(rng: &mut Rng, image: &[u8]) -> [Change; 7] {
+pub fn changes(rng: &mut Rng, image: &[u8]) -> [Change; 8] {
     [
         any_create(rng, image),
         any_write(rng, image),
@@ -469,6 +497,7 @@ pub fn changes(rng: &mut Rng, image: &[u8]) -> [Change; 7] {
         any_delete_directory(rng, image),
         any_set_attributes(rng, image),
         any_clear_attributes(rng, image),
+        any_clear_flags(rng, image),
     ]
 }
 

@@ -106,6 +106,10 @@ extern "C" {
                                     journal: *mut u8, journal_len: usize,
                                     path: *const u8, path_len: usize) -> Changed;
 
+    pub fn bulgefs_clear_flags(image: *mut u8, image_len: usize,
+                               journal: *mut u8, journal_len: usize,
+                               path: *const u8, path_len: usize) -> Changed;
+
     pub fn bulgefs_undo(image: *mut u8, image_len: usize,
                         journal: *mut u8, journal_len: usize) -> Changed;
 

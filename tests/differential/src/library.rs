@@ -111,6 +111,14 @@ impl Pair {
         }
     }
 
+    pub fn clear_flags(&mut self, path: &Lent) -> Changed {
+        let (image, image_len, journal, journal_len) = self.lent();
+        unsafe {
+            ffi::bulgefs_clear_flags(image, image_len, journal, journal_len,
+                                     path.ptr(), path.len())
+        }
+    }
+
     pub fn undo(&mut self) -> Changed {
         let (image, image_len, journal, journal_len) = self.lent();
         unsafe { ffi::bulgefs_undo(image, image_len, journal, journal_len) }

@@ -16,6 +16,7 @@ pub enum Entry {
     SetAttributes,
     ReadAttributes,
     ClearAttributes,
+    ClearFlags,
     Undo,
     LoadTable,
     StoreTable,
@@ -23,27 +24,28 @@ pub enum Entry {
 
 /// Every entry point, and the numbers that it can answer. Look in place has
 /// no number; its row counts what look up would have answered.
-const ENTRIES: [(Entry, &str, &[u32]); 17] = [
+const ENTRIES: [(Entry, &str, &[u32]); 18] = [
     (Entry::Check, "check", &[0, 1, 2, 3, 4, 5, 6, 7]),
     (Entry::Format, "format", &[0, 1, 9, 14]),
     (Entry::Lookup, "lookup", &[0, 1, 2, 3, 4, 5, 6, 7, 9, 10, 17]),
     (Entry::Read, "read", &[0, 1, 2, 3, 4, 5, 6, 7, 9, 10, 12, 17]),
     (Entry::LookInPlace, "look_in_place", &[0, 1, 2, 3, 4, 5, 6, 7, 9, 10, 17]),
     (Entry::Start, "journal_start", &[0, 8]),
-    (Entry::Create, "create", &[0, 1, 2, 3, 4, 5, 6, 7, 8, 9, 10, 11, 13, 15, 17]),
+    (Entry::Create, "create", &[0, 1, 2, 3, 4, 5, 6, 7, 8, 9, 10, 11, 13, 15, 17, 26]),
     (Entry::Write, "write", &[0, 1, 2, 3, 4, 5, 6, 7, 8, 9, 10, 12, 14, 15, 17]),
     (Entry::Delete, "delete", &[0, 1, 2, 3, 4, 5, 6, 7, 8, 9, 10, 15, 17]),
-    (Entry::CreateDirectory, "create_dir", &[0, 1, 2, 3, 4, 5, 6, 7, 8, 9, 10, 11, 13, 14, 15, 17]),
+    (Entry::CreateDirectory, "create_dir", &[0, 1, 2, 3, 4, 5, 6, 7, 8, 9, 10, 11, 13, 14, 15, 17, 26]),
     (Entry::DeleteDirectory, "delete_dir", &[0, 1, 2, 3, 4, 5, 6, 7, 8, 9, 10, 15, 17, 18]),
     (Entry::SetAttributes, "set_attr", &[0, 1, 2, 3, 4, 5, 6, 7, 8, 9, 10, 14, 15, 17, 20]),
     (Entry::ReadAttributes, "read_attr", &[0, 1, 2, 3, 4, 5, 6, 7, 9, 10, 17]),
     (Entry::ClearAttributes, "clear_attr", &[0, 1, 2, 3, 4, 5, 6, 7, 8, 9, 10, 15, 17]),
+    (Entry::ClearFlags, "clear_flags", &[0, 1, 2, 3, 4, 5, 6, 7, 8, 9, 10, 15, 17]),
     (Entry::Undo, "undo", &[0, 1, 2, 3, 4, 5, 6, 7, 8, 16]),
     (Entry::LoadTable, "load_table", &[0, 1, 2, 3, 4, 5, 6, 7, 21]),
     (Entry::StoreTable, "store_table", &[0, 1, 2, 3, 4, 5, 6, 7, 21]),
 ];
 
-const NUMBERS: usize = 22;
+const NUMBERS: usize = 27;
 const SHOWN_FAILURES: u64 = 20;
 
 pub struct Report {

@@ -243,6 +243,7 @@ impl Tester {
             Change::ClearAttributes(_) => {
                 (Entry::ClearAttributes, without_slot(pair.clear_attributes(&path)))
             }
+            Change::ClearFlags(_) => (Entry::ClearFlags, without_slot(pair.clear_flags(&path))),
         };
         troubles.push(path.trouble("path", change.path()));
         (entry, got, troubles)

@@ -22,9 +22,9 @@ pub use listing::list;
 pub use replay::{Answer, Call, Replay};
 pub use table::{load_table, store_table};
 pub use volume::{
-    format, look_in_place, lookup, read, read_attributes, Change, ClearAttributes, Create,
-    CreateDirectory, Delete, DeleteDirectory, Found, SetAttributes, Write,
+    format, look_in_place, lookup, read, read_attributes, Change, ClearAttributes, ClearFlags,
+    Create, CreateDirectory, Delete, DeleteDirectory, Found, SetAttributes, Write,
 };
 
-/// A refusal number, 1 to 18, 20 or 21.
+/// A refusal number, 1 to 18, 20, 21 or 26.
 pub type Refusal = u32;

@@ -63,6 +63,11 @@ pub struct ClearAttributes {
     pub path: Vec<u8>,
 }
 
+#[derive(Clone, Debug, PartialEq, Eq)]
+pub struct ClearFlags {
+    pub path: Vec<u8>,
+}
+
 /// A call that changes the image.
 #[derive(Clone, Debug, PartialEq, Eq)]
 pub enum Change {
@@ -73,6 +78,7 @@ pub enum Change {
     DeleteDirectory(DeleteDirectory),
     SetAttributes(SetAttributes),
     ClearAttributes(ClearAttributes),
+    ClearFlags(ClearFlags),
 }
 
 impl Change {
@@ -86,6 +92,7 @@ impl Change {
             Change::DeleteDirectory(d) => &d.path,
             Change::SetAttributes(s) => &s.path,
             Change::ClearAttributes(c) => &c.path,
+            Change::ClearFlags(c) => &c.path,
         }
     }
 }
@@ -203,7 +210,7 @@ fn find_file(image: &[u8], path: &[u8]) -> Result<Entry, Refusal> {
     place(path, Want::File, true)?.find(image, Want::File)
 }
 
-/// A change of a sound image; weighs the numbers 9, 20, 17, 10 to 12, 18, 13, 14.
+/// A change of a sound image; weighs the numbers 9, 20, 17, 26, 10 to 12, 18, 13, 14.
 pub fn change(image: &[u8], change: &Change) -> Result<Changed, Refusal> {
     match change {
         Change::Create(c) => create(image, c),
@@ -213,15 +220,26 @@ pub fn change(image: &[u8], change: &Change) -> Result<Changed, Refusal> {
         Change::DeleteDirectory(d) => delete_directory(image, d),
         Change::SetAttributes(s) => set_attributes(image, s),
         Change::ClearAttributes(c) => clear_attributes(image, c),
+        Change::ClearFlags(c) => clear_flags(image, c),
     }
 }
 
 fn create(image: &[u8], c: &Create) -> Result<Changed, Refusal> {
     let place = place(&c.path, Want::File, is_file_type(c.kind))?;
+    no_flags(c)?;
     let (slot, at) = free_slot(image, place.home(image)?, place.name)?;
     let mut after = image.to_vec();
     put(&mut after, at, &new_entry(c, place.name));
     Ok(Changed { image: after, named: BTreeSet::from([at / BLOCK]), slot })
+}
+
+/// What is created has no system flags; weighs 26.
+fn no_flags(c: &Create) -> Result<(), Refusal> {
+    if c.flags == 0 {
+        Ok(())
+    } else {
+        Err(26)
+    }
 }
 
 /// The lowest free slot of a directory, and its offset; weighs 11 and 13.
@@ -252,6 +270,7 @@ fn create_directory(image: &[u8], c: &CreateDirectory) -> Result<Changed, Refusa
     let d_in_range = (1..=MAX_DIRECTORY_BLOCKS as u32).contains(&c.blocks);
     let good = is_directory_type(c.entry.kind) && d_in_range;
     let place = place(&c.entry.path, Want::Directory, good)?;
+    no_flags(&c.entry)?;
     let parent = place.home(image)?;
     let (slot, at) = free_slot(image, parent, place.name)?;
     let taken = lowest_free(image, c.blocks as usize)?;
@@ -359,6 +378,13 @@ fn clear_attributes(image: &[u8], c: &ClearAttributes) -> Result<Changed, Refusa
     free(&mut after, &file.attributes(image), &mut named);
     put_attributes(&mut after, &file, 0, 0);
     Ok(Changed { image: after, named, slot: 0 })
+}
+
+fn clear_flags(image: &[u8], c: &ClearFlags) -> Result<Changed, Refusal> {
+    let file = find_file(image, &c.path)?;
+    let mut after = image.to_vec();
+    put_number(&mut after, file.at + slot::FLAGS, 0);
+    Ok(Changed { image: after, named: BTreeSet::from([file.at / BLOCK]), slot: 0 })
 }
 
 /// The two attribute fields of a file.

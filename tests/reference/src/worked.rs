@@ -2,8 +2,8 @@
 //! this crate and for those that hold another implementation against it.
 
 use crate::{
-    format, start, Change, ClearAttributes, Create, CreateDirectory, Delete, DeleteDirectory,
-    Refusal, SetAttributes, State, Write,
+    format, start, Change, ClearAttributes, ClearFlags, Create, CreateDirectory, Delete,
+    DeleteDirectory, Refusal, SetAttributes, State, Write,
 };
 
 /// A volume of `n` blocks, `d` of them for the root.
@@ -18,7 +18,7 @@ pub fn fresh(n: usize, d: u32) -> State {
 
 fn given(path: &[u8], kind: u8) -> Create {
     let path = path.to_vec();
-    Create { path, kind, user: 1, group: 2, permissions: 3, flags: 4, time: 8 }
+    Create { path, kind, user: 1, group: 2, permissions: 3, flags: 0, time: 8 }
 }
 
 pub fn create(path: &[u8]) -> Change {
@@ -47,4 +47,8 @@ pub fn set_attributes(path: &[u8], data: &[u8]) -> Change {
 
 pub fn clear_attributes(path: &[u8]) -> Change {
     Change::ClearAttributes(ClearAttributes { path: path.to_vec() })
+}
+
+pub fn clear_flags(path: &[u8]) -> Change {
+    Change::ClearFlags(ClearFlags { path: path.to_vec() })
 }

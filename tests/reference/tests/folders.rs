@@ -60,7 +60,7 @@ fn a_new_directory() {
     assert_eq!(&image[at..at + 4], [0x20, 1, 2, 3]);
     assert_eq!([4, 8, 12].map(|field| number(image, at + field)), [3, 0, 2]);
     assert_eq!([16, 20, 24, 28].map(|field| number(image, at + field)), [0, 8, 0, 8]);
-    assert_eq!(number(image, at + slot::FLAGS), 4);
+    assert_eq!(number(image, at + slot::FLAGS), 0);
     assert_eq!(&image[at + slot::NAME..at + SLOT], name_field(b"stage"));
 
     let at = 3 * BLOCK;

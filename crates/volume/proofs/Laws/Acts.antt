@@ -1,7 +1,7 @@
 -- WHAT ANY CHANGE DOES: to what its own path shows, by a function of that alone; to what other paths show, nothing; and to the blocks in use.
-use Prim.Native.Nat.{ℕ, suc, _+_, _-_, _*_, _/_, _≤_, _<_}
+use Prim.Native.Nat.{ℕ, suc, _+_, _-_, _*_, _/_, _<_}
 use mathlib.Core.Path.{_≡_, refl, sym, ap, _∙_}
-use mathlib.Core.Bool.{true, not, _&&_}
+use mathlib.Core.Bool.{true, not}
 use mathlib.Core.List.{List, [], _∷_}
 use mathlib.Core.Logic.{⊎-elim, _≢_}
 use native.Mathlib.Omega.{arith}
@@ -9,27 +9,25 @@ use borrow.Author.Tests.{leb-true, eq-eqb, eqb-false, not-true}
 use lib.ListN.{length}
 use lib.Dec.{eqb, leb}
 use Rattle.layout.specs.Claims.{Inserted, Untouched}
-use Rattle.layout.specs.Limits.{maxLevels, maxDirectory}
-use Rattle.layout.specs.Lists.{within, every}
+use Rattle.layout.specs.Limits.{maxLevels}
+use Rattle.layout.specs.Lists.{every}
 use Rattle.layout.specs.Bytes.{be32, bytes4, bytes8}
-use Rattle.layout.specs.Geometry.{blockCount}
-use Rattle.layout.specs.Table.{next, freeBlocks}
 use Rattle.layout.specs.Directory.{slotAt, slots, typeOf, firstBlock, isFree, isDirectory, isEmpty, goodName, directory, dirs, freeSlot}
 use Rattle.layout.specs.Check.{check}
 use Rattle.layout.specs.Paths.{parts, pathOk, leading, lastPart, shallow, home, pathSlot, entryOf, directoryRefusal}
 use Rattle.volume.specs.Entries.{directoryMade, blocksNamed}
-use Rattle.volume.specs.Create.{placeRefusal, createSlot}
+use Rattle.volume.specs.Create.{createSlot}
 use Rattle.volume.specs.Directories.{createDirectoryRefusal, newDirectoryBlocks, createDirectoryImage, deleteDirectoryRefusal}
 use Rattle.volume.specs.Delete.{allBlocks, deleteAt, deleteNamed}
-use Rattle.volume.specs.Change.{Change, create, write, delete, createDirectory, deleteDirectory, setAttributes, clearAttributes, refusal, after, named}
+use Rattle.volume.specs.Change.{Change, create, write, delete, createDirectory, deleteDirectory, setAttributes, clearAttributes, clearFlags, refusal, after, named}
 use Rattle.volume.specs.Views.{Folder, Maybe, just, folderOf, fileAt, folderAt, subject, ofFile, made, takes, gives, madeFolder, sizeIn, givesFolder}
-use Rattle.volume.proofs.Laws.Places.{leading-shorter, path-levels, path-name, place-is, place-home, place-free, place-new, place-there}
+use Rattle.volume.proofs.Laws.Places.{CreateDirectoryGiven, create-directory-given, leading-shorter, path-levels, path-name, place-is, place-home, place-free, place-new, place-there}
 use Rattle.volume.proofs.Laws.CreateDirectory.{made-inserted, made-slot, made-dir, made-bare, made-name, made-folder, made-used}
-use Rattle.volume.proofs.Laws.Content.{create-untouched, write-untouched, delete-untouched, set-untouched, clear-untouched, create-directory-untouched}
+use Rattle.volume.proofs.Laws.Content.{create-untouched, write-untouched, delete-untouched, set-untouched, clear-untouched, flags-untouched, create-directory-untouched}
 use Rattle.volume.proofs.Laws.Views.{other-shown}
 use Rattle.volume.proofs.Laws.Folders.{Comes, came-before, came-slot, came-entry, came-after, came-others}
 use Rattle.volume.proofs.Laws.Effects.{Effect, effect}
-use Rattle.layout.proofs.Laws.Tests.{and-split, require-zero, firstOf-zero, within-split}
+use Rattle.layout.proofs.Laws.Tests.{and-split, require-zero, firstOf-zero}
 use Rattle.volume.proofs.Laws.DeleteDirectory.{removed-sound, removed-tree, removed-type, small-dir, small-size, small-in, small-slot, back-new, back-untouched, removed-used, not-itself, back-empty}
 use Rattle.layout.proofs.Laws.Trees.{sizeAt}
 use Rattle.layout.proofs.Laws.Paths.{Named, path-named, path-home, home-found}
@@ -76,27 +74,9 @@ file-acts s c f g E =
     }
 
 -- A DIRECTORY CREATED
-module _ (s path : List ℕ) (ok : check s ≡ 0) (type user group permissions flags time d : ℕ) (r : createDirectoryRefusal s path type d ≡ 0) where
-  record Given : Type 0 where
-    good : pathOk path ≡ true
-    dir : isDirectory type ≡ true
-    least : 1 ≤ d
-    most : d ≤ maxDirectory
-    deep : shallow (parts path) ≡ true
-    placed : placeRefusal s path ≡ 0
-    room : d ≤ length (freeBlocks (next s) (blockCount s))
-
-  given : Given
-  unfolding createDirectoryRefusal
-  given =
-      let a = require-zero (pathOk path && (isDirectory type && within 1 maxDirectory d)) 8 _ r in
-      let b = and-split (pathOk path) _ (a .0) in
-      let f = and-split (isDirectory type) _ (b .1) in
-      let g = within-split 1 maxDirectory d (f .1) in
-      let h = require-zero (shallow (parts path)) 16 _ (a .1) in
-      let i = firstOf-zero (placeRefusal s path) _ (h .1) in
-      let m = require-zero (leb d (length (freeBlocks (next s) (blockCount s)))) 13 _ (i .1) in
-      record { good = b .0; dir = f .0; least = g .0; most = g .1; deep = h .0; placed = i .0; room = leb-true _ _ (m .0) }
+module _ (s path : List ℕ) (ok : check s ≡ 0) (type user group permissions flags time d : ℕ) (r : createDirectoryRefusal s path type flags d ≡ 0) where
+  given : CreateDirectoryGiven s path type flags d
+  given = create-directory-given s path type flags d r
 
   abbrev k : ℕ
   k = freeSlot s (directory s (home s path))
@@ -330,6 +310,7 @@ acts s (createDirectory path type user group permissions flags time d) ok r = cr
 acts s (deleteDirectory path) ok r = delete-directory-acts s path ok r
 acts s (setAttributes path bytes) ok r = file-acts s (setAttributes path bytes) (λ m. refl) (λ m. refl) (effect s (setAttributes path bytes) refl ok r)
 acts s (clearAttributes path) ok r = file-acts s (clearAttributes path) (λ m. refl) (λ m. refl) (effect s (clearAttributes path) refl ok r)
+acts s (clearFlags path) ok r = file-acts s (clearFlags path) (λ m. refl) (λ m. refl) (effect s (clearFlags path) refl ok r)
 
 -- the files of all other paths stay where they are, with their entries and blocks
 pub others-untouched : (s : List ℕ) (c : Change) (other : List ℕ) → check s ≡ 0 → refusal s c ≡ 0 → other ≢ subject c → pathOk other ≡ true → Untouched s (after s c) other
@@ -341,3 +322,4 @@ others-untouched s (createDirectory path type user group permissions flags time 
 others-untouched s (deleteDirectory path) other ok r ne good = delete-directory-untouched s path ok r other
 others-untouched s (setAttributes path bytes) other ok r ne good = set-untouched s path other ok good ne bytes r
 others-untouched s (clearAttributes path) other ok r ne good = clear-untouched s path other ok good ne r
+others-untouched s (clearFlags path) other ok r ne good = flags-untouched s path other ok good ne r

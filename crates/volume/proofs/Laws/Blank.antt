@@ -1,30 +1,31 @@
 -- The blocks that are free after a change (L7): those that it freed hold only zeros, those that were free before hold what they held.
 use Prim.Native.Nat.{ℕ, suc, _+_, _-_, _*_, _/_, _≤_, _<_}
 use mathlib.Core.Path.{_≡_, refl, sym, ap, _∙_, subst}
-use mathlib.Core.Bool.{true, false, _&&_}
+use mathlib.Core.Bool.{true, false}
 use mathlib.Core.List.{List, [], _∷_, _++_}
 use mathlib.Core.Logic.{_⊎_, inl, inr, ⊎-elim, _≢_}
 use native.Mathlib.Omega.{arith}
 use lib.ListN.{length, getD, take}
-use lib.Dec.{eqb, leb}
-use borrow.Author.Tests.{eqb-true, leb-true}
-use Rattle.layout.specs.Limits.{maxBlocks, maxLevels, maxDirectory}
-use Rattle.layout.specs.Lists.{within, has, distinct, lastOr}
+use lib.Dec.{eqb}
+use borrow.Author.Tests.{eqb-true}
+use Rattle.layout.specs.Limits.{maxBlocks, maxLevels}
+use Rattle.layout.specs.Lists.{has, distinct, lastOr}
 use Rattle.layout.specs.Bytes.{block, zeros, splice}
 use Rattle.layout.specs.Geometry.{blockCount, tableBlocks, rootBlock}
 use Rattle.layout.specs.Table.{next, chain, freeBlocks}
 use Rattle.layout.specs.Directory.{slotAt, typeOf, firstBlock, blocksOf, isFile, isDirectory, directory, dirs, fileBlocks, attributeBlocks, freeSlot}
 use Rattle.layout.specs.Check.{check}
-use Rattle.layout.specs.Paths.{parts, pathOk, leading, lastPart, shallow, home, pathSlot, entryOf, fileRefusal, directoryRefusal}
+use Rattle.layout.specs.Paths.{parts, leading, lastPart, home, pathSlot, entryOf, fileRefusal, directoryRefusal}
 use Rattle.volume.specs.Entries.{directoryMade, released, taken, grown, entriesNamed, blocksNamed}
-use Rattle.volume.specs.Create.{place, placeRefusal, createRefusal, createImage, createNamed}
+use Rattle.volume.specs.Create.{place, createRefusal, createImage, createNamed}
 use Rattle.volume.specs.Write.{written, changedEntries, newBlocks, writeAt, writeRefusal, writeNamed}
 use Rattle.volume.specs.Delete.{allBlocks, deleteAt, deleteNamed}
 use Rattle.volume.specs.Attributes.{emptied, newAttributes, setAttributesRefusal, setAttributesAt, setAttributesNamed, clearAttributesAt, clearAttributesNamed}
+use Rattle.volume.specs.Flags.{clearFlagsAt, clearFlagsNamed}
 use Rattle.volume.specs.Directories.{createDirectoryRefusal, newDirectoryBlocks, createDirectoryImage, createDirectoryNamed, deleteDirectoryRefusal}
-use Rattle.volume.specs.Change.{Change, create, write, delete, createDirectory, deleteDirectory, setAttributes, clearAttributes, refusal, after, named}
+use Rattle.volume.specs.Change.{Change, create, write, delete, createDirectory, deleteDirectory, setAttributes, clearAttributes, clearFlags, refusal, after, named}
 use Rattle.volume.specs.Claims.{Blanked}
-use Rattle.layout.proofs.Laws.Tests.{and-split, true-or-false, true-not-false, lt-or-ge, require-zero, firstOf-zero, within-split}
+use Rattle.layout.proofs.Laws.Tests.{true-or-false, true-not-false, lt-or-ge, firstOf-zero}
 use Rattle.layout.proofs.Laws.Bytes.{length-zeros, getD-zeros, getD-part, getD-splice-before, getD-splice-inside, getD-splice-after, part-same, length-splice}
 use Rattle.layout.proofs.Laws.Lists.{In, in-append, has-eqb-in, in-has-eqb, last-in, head-apart, tail-distinct}
 use Rattle.layout.proofs.Laws.Frames.{Agree, agree-block, agree-next, before-next, same-below}
@@ -38,7 +39,7 @@ use Rattle.layout.proofs.Laws.Owners.{Fresh, free-fresh, file-used}
 use Rattle.volume.proofs.Laws.Table.{taken-length, taken-first, taken-zeros, released-next, released-zero}
 use Rattle.volume.proofs.Laws.Frame.{entries-low, blocks-not, written-in, changed-below, released-agree}
 use Rattle.volume.proofs.Laws.Framed.{frame, at-entry, place-entry, child-chain, own-only}
-use Rattle.volume.proofs.Laws.Places.{file-at-path, directory-at-path, path-levels, path-name, place-is, place-home, place-free, place-new, write-given, set-path, set-given}
+use Rattle.volume.proofs.Laws.Places.{create-given, create-directory-given, file-at-path, directory-at-path, path-levels, path-name, place-is, place-home, place-free, place-new, write-given, set-path, set-given}
 use Rattle.volume.proofs.Laws.CreateDirectory.{made-table}
 use Rattle.volume.proofs.Laws.Delete.{deleted-below, deleted-above, deleted-in-use, deleted-once}
 use Rattle.volume.proofs.Laws.Attributes.{old-below, old-used, emptied-length, emptied-next, set-fresh, both-below}
@@ -113,6 +114,10 @@ module _ (s : List ℕ) (S : Sound s) where
           spared = λ b bn v z. ⊎-elim (λ x. absurd (x .0 v)) (λ x. agree-block b A (λ m. ⊎-elim (λ q. tree-used (e / 512) (E .within-tree) (ap (next s) (sym q) ∙ v)) (x .1) m)) (f b bn z);
         }
 
+    -- only the entry's block was written
+    pub entry-blanked : (s′ : List ℕ) → Agree s s′ (e / 512 ∷ []) → Blanked s s′
+    entry-blanked s′ A = blanked s′ [] A λ b bn z. inr (sym (agree-next b A (λ m. ⊎-elim (λ q. omega (arith, S .least, entry-low s S e E)) (λ i. i) m)) ∙ z, λ i. i)
+
     -- blocks bs were taken, behind the block a; besides what they name, blocks in use are
     pub grown-blanked : (s′ ns bs : List ℕ) (a : ℕ) → Agree s s′ (e / 512 ∷ ns) → a < n → (0 < a → next s a ≢ 0) → Fresh n (next s) bs
         → ((y : ℕ) → y < 128 * tableBlocks n → next s′ y ≡ next (grown s n a bs) y) → ((b : ℕ) → next s b ≡ 0 → (In b bs → ⊥) → In b ns → ⊥) → Blanked s s′
@@ -167,15 +172,12 @@ module _ (s : List ℕ) (ok : check s ≡ 0) where
   abbrev T : Sound s
   T = sound s ok
 
-  create-blanked : (path : List ℕ) (type user group permissions flags time : ℕ) → createRefusal s path type ≡ 0 → Blanked s (createImage s path type user group permissions flags time)
-  unfolding refusal after named createNamed createRefusal
+  create-blanked : (path : List ℕ) (type user group permissions flags time : ℕ) → createRefusal s path type flags ≡ 0 → Blanked s (createImage s path type user group permissions flags time)
+  unfolding refusal after named createNamed
   create-blanked path type user group permissions flags time r =
-      let a = require-zero (pathOk path && isFile type) 8 _ r in
-      let h = require-zero (shallow (leading (parts path))) 16 _ (a .1) in
-      let E = place-entry s T path (h .1) (h .0) in
-      let A = frame s (create path type user group permissions flags time) ok r .agree in
-      blanked s T (place s path) E (createImage s path type user group permissions flags time) [] A λ b bn z.
-      inr (sym (agree-next b A (λ m. ⊎-elim (λ q. omega (arith, T .least, entry-low s T (place s path) E)) (λ i. i) m)) ∙ z, λ i. i)
+      let G = create-given s path type flags r in
+      let E = place-entry s T path (G .placed) (G .short) in
+      entry-blanked s T (place s path) E _ (frame s (create path type user group permissions flags time) ok r .agree)
 
   -- the data may go into old blocks too, and the block before the new ones is in use
   write-blanked : (path : List ℕ) (offset : ℕ) (bytes : List ℕ) (time : ℕ) → writeRefusal s path offset (length bytes) ≡ 0
@@ -202,26 +204,20 @@ module _ (s : List ℕ) (ok : check s ≡ 0) where
       (λ i. low-used s T b (entries-low (blockCount s) (changedEntries (lastOr 0 old) new) (changed-below (blockCount s) (lastOr 0 old) new last-small (F .below)) b i) z)
       (in-append b (written (old ++ new) offset (length bytes)) (entriesNamed (changedEntries (lastOr 0 old) new)) m))
 
-  create-directory-blanked : (path : List ℕ) (type user group permissions flags time d : ℕ) → createDirectoryRefusal s path type d ≡ 0
+  create-directory-blanked : (path : List ℕ) (type user group permissions flags time d : ℕ) → createDirectoryRefusal s path type flags d ≡ 0
       → Blanked s (createDirectoryImage s path type user group permissions flags time d)
-  unfolding createDirectoryRefusal createDirectoryImage newDirectoryBlocks directoryMade createDirectoryNamed refusal after named
+  unfolding createDirectoryImage newDirectoryBlocks directoryMade createDirectoryNamed refusal after named
   create-directory-blanked path type user group permissions flags time d r =
-      let a = require-zero (pathOk path && (isDirectory type && within 1 maxDirectory d)) 8 _ r in
-      let b = and-split (pathOk path) _ (a .0) in
-      let f = and-split (isDirectory type) _ (b .1) in
-      let g = within-split 1 maxDirectory d (f .1) in
-      let h = require-zero (shallow (parts path)) 16 _ (a .1) in
-      let i = firstOf-zero (placeRefusal s path) _ (h .1) in
-      let m = require-zero (leb d (length (freeBlocks (next s) (blockCount s)))) 13 _ (i .1) in
-      let l = path-levels path (b .0) (h .0) in
-      let w = place-free s path (i .0) in
-      let home-in : In (home s path, suc (maxLevels - suc (length (leading (parts path))))) (dirs s) = rw (l .1) (place-home s path (i .0) (l .0)) in
+      let G = create-directory-given s path type flags d r in
+      let l = path-levels path (G .good) (G .deep) in
+      let w = place-free s path (G .placed) in
+      let home-in : In (home s path, suc (maxLevels - suc (length (leading (parts path))))) (dirs s) = rw (l .1) (place-home s path (G .placed) (l .0)) in
       let new = take d (freeBlocks (next s) (blockCount s)) in
       let F = free-fresh s T d in
-      grown-blanked s T (place s path) (place-entry s T path (i .0) (l .0)) (createDirectoryImage s path type user group permissions flags time d) (blocksNamed new) new 0
+      grown-blanked s T (place s path) (place-entry s T path (G .placed) (l .0)) (createDirectoryImage s path type user group permissions flags time d) (blocksNamed new) new 0
       (frame s (createDirectory path type user group permissions flags time d) ok r .agree) (omega (arith, T .least)) (λ pos. absurd (omega arith)) F
-      (rw (place-is s path (i .0)) (made-table s T (home s path) (maxLevels - suc (length (leading (parts path)))) home-in (freeSlot s (directory s (home s path))) (w .0) (w .1) (w .2)
-      (lastPart (parts path)) (path-name path (b .0)) (place-new s path (i .0)) type user group permissions flags time (f .0) d (g .0) (g .1) (leb-true _ _ (m .0))))
+      (rw (place-is s path (G .placed)) (made-table s T (home s path) (maxLevels - suc (length (leading (parts path)))) home-in (freeSlot s (directory s (home s path))) (w .0) (w .1) (w .2)
+      (lastPart (parts path)) (path-name path (G .good)) (place-new s path (G .placed)) type user group permissions flags time (G .dir) d (G .least) (G .most) (G .room)))
       (λ b z out. blocks-not (blockCount s) new (F .below) b (free-above s T b z) out)
 
   delete-blanked : (path : List ℕ) → fileRefusal s path ≡ 0 → Blanked s (deleteAt s (entryOf isFile s path))
@@ -283,6 +279,11 @@ module _ (s : List ℕ) (ok : check s ≡ 0) where
       (λ b bn z. (still b bn z .0, λ i. ⊎-elim (λ j. j) (λ j. absurd (still b bn z .1 j)) (in-append b old new i)))
       (λ b i z. set-zero s T d (A .home-in) k (N .low) (N .high) (N .typed) bytes R b i (still b (old-below s T e E (N .typed) b i) z .1))
 
+  -- the system flags of a file
+  flags-blanked : (path : List ℕ) → fileRefusal s path ≡ 0 → Blanked s (clearFlagsAt s (entryOf isFile s path))
+  unfolding refusal after named clearFlagsNamed
+  flags-blanked path r = entry-blanked s T (entryOf isFile s path) (at-entry s T isFile path (file-at-path s path r)) _ (frame s (clearFlags path) ok r .agree)
+
 pub blank : (s : List ℕ) (c : Change) → check s ≡ 0 → refusal s c ≡ 0 → Blanked s (after s c)
 unfolding refusal after
 blank s (create path type user group permissions flags time) ok r = create-blanked s ok path type user group permissions flags time r
@@ -292,3 +293,4 @@ blank s (createDirectory path type user group permissions flags time d) ok r = c
 blank s (deleteDirectory path) ok r = delete-directory-blanked s ok path r
 blank s (setAttributes path bytes) ok r = set-blanked s ok path bytes r
 blank s (clearAttributes path) ok r = clear-blanked s ok path r
+blank s (clearFlags path) ok r = flags-blanked s ok path r

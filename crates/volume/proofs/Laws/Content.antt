@@ -1,38 +1,40 @@
 -- Changes of files by paths: the files of all other paths stay, and every answer about them.
-use Prim.Native.Nat.{ℕ, suc, _-_}
+use Prim.Native.Nat.{ℕ, suc, _+_, _-_, _*_}
 use mathlib.Core.Path.{_≡_, refl, sym, _∙_}
 use mathlib.Core.Bool.{Bool, true, false, _&&_}
 use mathlib.Core.List.{List}
 use mathlib.Core.Logic.{_⊎_, inl, inr, _≢_}
 use lib.ListN.{length}
-use lib.Dec.{leb}
-use borrow.Author.Tests.{leb-true}
-use Rattle.layout.specs.Limits.{maxLevels, maxDirectory}
-use Rattle.layout.specs.Lists.{same, within}
-use Rattle.layout.specs.Geometry.{blockCount}
-use Rattle.layout.specs.Table.{next, freeBlocks}
-use Rattle.layout.specs.Directory.{slotAt, typeOf, isFile, isDirectory, nameOf, directory, dirs, freeSlot}
+use Rattle.layout.specs.Limits.{maxLevels}
+use Rattle.layout.specs.Lists.{same}
+use Rattle.layout.specs.Bytes.{block}
+use Rattle.layout.specs.Table.{next}
+use Rattle.layout.specs.Directory.{slotAt, typeOf, isFile, nameOf, directory, dirs, freeSlot}
 use Rattle.layout.specs.Check.{check}
 use Rattle.layout.specs.Paths.{parts, pathOk, leading, lastPart, shallow, home, pathSlot, entryOf, fileRefusal}
-use Rattle.volume.specs.Create.{createRefusal, createImage, placeRefusal}
+use Rattle.volume.specs.Create.{createRefusal, createImage}
 use Rattle.volume.specs.Write.{writeAt, writeRefusal}
 use Rattle.volume.specs.Delete.{deleteAt}
 use Rattle.volume.specs.Attributes.{setAttributesAt, clearAttributesAt, setAttributesRefusal}
+use Rattle.volume.specs.Flags.{clearFlagsAt}
 use Rattle.volume.specs.Entries.{directoryMade}
 use Rattle.volume.specs.Directories.{createDirectoryRefusal, newDirectoryBlocks, createDirectoryImage, createDirectoryNamed}
 use Rattle.volume.specs.Change.{createDirectory, refusal, after, named}
 use Rattle.volume.proofs.Laws.CreateDirectory.{made-untouched}
 use Rattle.volume.proofs.Laws.Framed.{frame}
-use Rattle.volume.proofs.Laws.Places.{path-levels, file-at-path, write-given, set-path, set-given, path-name, place-is, place-home, place-free, place-new, place-there}
+use Rattle.volume.proofs.Laws.Places.{At, create-given, create-directory-given, path-levels, file-at-path, write-given, set-path, set-given, path-name, place-is, place-home, place-free, place-new, place-there}
 use Rattle.volume.proofs.Laws.Write.{written-file, written-slot, written-next, written-block}
 use Rattle.volume.proofs.Laws.Delete.{deleted-slot, deleted-type, deleted-next, deleted-block}
 use Rattle.volume.proofs.Laws.SetClear.{cleared-slot, cleared-entry, cleared-next, cleared-block, set-slot, set-entry, set-next, set-block}
+use Rattle.volume.proofs.Laws.Flags.{flags-slot, flags-entry, flags-next, flags-block}
 use Rattle.volume.proofs.Laws.Create.{created-slot, created-no-dir, created-name, created-next, created-block}
-use Rattle.layout.proofs.Laws.Tests.{and-split, is-false, true-not-false, require-zero, firstOf-zero, within-split}
+use Rattle.layout.proofs.Laws.Tests.{and-split, is-false, true-not-false}
 use Rattle.layout.proofs.Laws.Names.{same-eq}
 use Rattle.layout.proofs.Laws.Lists.{In}
-use Rattle.layout.proofs.Laws.Sound.{Sound, sound}
-use Rattle.layout.proofs.Laws.Owners.{file-no-dir}
+use Rattle.layout.proofs.Laws.Sound.{Sound, Owner, sound}
+use Rattle.layout.proofs.Laws.Changed.{OneSlot}
+use Rattle.layout.proofs.Laws.Paths.{Named}
+use Rattle.layout.proofs.Laws.Owners.{blocksAt, file-no-dir}
 use Rattle.layout.specs.Claims.{Untouched}
 use Rattle.layout.proofs.Laws.Others.{untouched}
 use Rattle.layout.proofs.Laws.Ways.{other-path}
@@ -69,23 +71,34 @@ module _ (s path other : List ℕ) (ok : check s ≡ 0) (good : pathOk other ≡
       go true v = f v
       go false v = deep-untouched s s′ other v
 
+  abbrev e : ℕ
+  e = slotAt (directory s (home s path)) (pathSlot isFile s path)
+
+  -- a change of a file that keeps the type and the name of its entry, and the blocks of other owners
+  entry-untouched : (A : At isFile s path) (s′ : List ℕ) → OneSlot s (dirs s) s′ e → typeOf s′ e ≡ typeOf s e → nameOf s′ e ≡ nameOf s e
+      → ((a : ℕ) → Owner s a → a ≢ e → a ≢ e + 28 → ((x : ℕ × ℕ) → In x (dirs s) → a ≢ 512 * x .0) → (q : ℕ) → In q (blocksAt s a) → next s′ q ≡ next s q)
+      → ((a : ℕ) → Owner s a → a ≢ e → a ≢ e + 28 → ((x : ℕ × ℕ) → In x (dirs s) → a ≢ 512 * x .0) → (q : ℕ) → In q (blocksAt s a) → block s′ q ≡ block s q)
+      → Untouched s s′ other
+  entry-untouched A s′ O type name values bytes = by-depth s′ λ v.
+      let N = A .named in
+      let p = other-path s S path other (A .good) good (A .short) v (A .there) ne in
+      untouched s s′ S (home s path, A .level) (A .home-in) (pathSlot isFile s path) (N .low) (N .high) O
+      (file-no-dir (typeOf s e) (N .typed)) (rw type (file-no-dir (typeOf s e) (N .typed))) values bytes
+      other (beside s s e path other (N .named) p) (beside s s′ e path other (name ∙ N .named) p)
+
   pub write-untouched : (offset : ℕ) (bytes : List ℕ) (time : ℕ) → writeRefusal s path offset (length bytes) ≡ 0 → Untouched s (writeAt s (entryOf isFile s path) offset bytes time) other
   unfolding entryOf
-  write-untouched offset bytes time r = by-depth (writeAt s (entryOf isFile s path) offset bytes time) λ v.
+  write-untouched offset bytes time r =
       let G = write-given s path offset (length bytes) r in
       let A = G .there in
       let N = A .named in
       let d : ℕ × ℕ = (home s path, A .level) in
       let k : ℕ = pathSlot isFile s path in
-      let e : ℕ = slotAt (directory s (home s path)) k in
       let W = written-file s S d (A .home-in) k (N .low) (N .high) (N .typed) offset bytes time (G .room) (G .within-size) in
-      let p = other-path s S path other (A .good) good (A .short) v (A .there) ne in
-      untouched s (writeAt s e offset bytes time) S d (A .home-in) k (N .low) (N .high)
-      (written-slot s S d (A .home-in) k (N .low) (N .high) (N .typed) offset bytes time (G .room))
-      (file-no-dir (typeOf s e) (N .typed)) (rw (W .type) (file-no-dir (typeOf s e) (N .typed)))
+      entry-untouched A (writeAt s e offset bytes time)
+      (written-slot s S d (A .home-in) k (N .low) (N .high) (N .typed) offset bytes time (G .room)) (W .type) (W .name)
       (λ a O p q no-self x i. written-next s S d (A .home-in) k (N .low) (N .high) (N .typed) offset bytes time (G .room) a O p x i)
       (λ a O p q no-self x i. written-block s S d (A .home-in) k (N .low) (N .high) (N .typed) offset bytes time (G .room) a O p x i no-self)
-      other (beside s s e path other (N .named) p) (beside s (writeAt s e offset bytes time) e path other (W .name ∙ N .named) p)
 
   pub delete-untouched : fileRefusal s path ≡ 0 → Untouched s (deleteAt s (entryOf isFile s path)) other
   unfolding entryOf
@@ -104,81 +117,84 @@ module _ (s path other : List ℕ) (ok : check s ≡ 0) (good : pathOk other ≡
       (deleted-block s S d (A .home-in) k (N .low) (N .high) (N .typed))
       other (beside s s e path other (N .named) p) (inr (no-file (deleteAt s e) e (lastPart (parts other)) z))
 
-  pub create-untouched : (type user group permissions flags time : ℕ) → createRefusal s path type ≡ 0 → Untouched s (createImage s path type user group permissions flags time) other
-  unfolding createRefusal createImage
+  pub create-untouched : (type user group permissions flags time : ℕ) → createRefusal s path type flags ≡ 0 → Untouched s (createImage s path type user group permissions flags time) other
+  unfolding createImage
   create-untouched type user group permissions flags time r = by-depth (createImage s path type user group permissions flags time) λ v.
-      let a = require-zero (pathOk path && isFile type) 8 _ r in
-      let b = and-split (pathOk path) (isFile type) (a .0) in
-      let h = require-zero (shallow (leading (parts path))) 16 _ (a .1) in
-      let w = place-free s path (h .1) in
+      let G = create-given s path type flags r in
+      let w = place-free s path (G .placed) in
       let d : ℕ × ℕ = (home s path, maxLevels - length (leading (parts path))) in
-      let di = place-home s path (h .1) (h .0) in
+      let di = place-home s path (G .placed) (G .short) in
       let k : ℕ = freeSlot s (directory s (home s path)) in
       let e : ℕ = slotAt (directory s (home s path)) k in
       let name : List ℕ = lastPart (parts path) in
-      let gn = path-name path (b .0) in
-      let new = place-new s path (h .1) in
-      let p = other-path s S path other (b .0) good (h .0) v (place-there s path (h .1)) ne in
-      rw (place-is s path (h .1))
+      let gn = path-name path (G .good) in
+      let new = place-new s path (G .placed) in
+      let p = other-path s S path other (G .good) good (G .short) v (place-there s path (G .placed)) ne in
+      rw (place-is s path (G .placed))
       (untouched s _ S d di k (w .0) (w .1)
-      (created-slot s S d di k (w .0) (w .1) (w .2) name gn new type user group permissions flags time (b .1))
-      (rw (w .2)) (created-no-dir s S d di k (w .0) (w .1) (w .2) name gn new type user group permissions flags time (b .1))
-      (λ x O p₁ q₁ no-self y i. created-next s S d di k (w .0) (w .1) (w .2) name gn new type user group permissions flags time (b .1) x O y i)
-      (λ x O p₁ q₁ no-self y i. created-block s S d di k (w .0) (w .1) (w .2) name gn new type user group permissions flags time (b .1) x O y i no-self)
+      (created-slot s S d di k (w .0) (w .1) (w .2) name gn new type user group permissions flags time (G .file))
+      (rw (w .2)) (created-no-dir s S d di k (w .0) (w .1) (w .2) name gn new type user group permissions flags time (G .file))
+      (λ x O p₁ q₁ no-self y i. created-next s S d di k (w .0) (w .1) (w .2) name gn new type user group permissions flags time (G .file) x O y i)
+      (λ x O p₁ q₁ no-self y i. created-block s S d di k (w .0) (w .1) (w .2) name gn new type user group permissions flags time (G .file) x O y i no-self)
       other (inr (no-file s e (lastPart (parts other)) (w .2)))
-      (beside s _ e path other (created-name s S d di k (w .0) (w .1) (w .2) name gn new type user group permissions flags time (b .1)) p))
+      (beside s _ e path other (created-name s S d di k (w .0) (w .1) (w .2) name gn new type user group permissions flags time (G .file)) p))
 
   pub set-untouched : (bytes : List ℕ) → setAttributesRefusal s path (length bytes) ≡ 0 → Untouched s (setAttributesAt s (entryOf isFile s path) bytes) other
   unfolding entryOf
-  set-untouched bytes r = by-depth (setAttributesAt s (entryOf isFile s path) bytes) λ v.
+  set-untouched bytes r =
       let A = file-at-path s path (set-path s path (length bytes) r) in
       let R = set-given s path (length bytes) r in
       let N = A .named in
       let d : ℕ × ℕ = (home s path, A .level) in
       let k : ℕ = pathSlot isFile s path in
-      let e : ℕ = slotAt (directory s (home s path)) k in
       let K = set-entry s S d (A .home-in) k (N .low) (N .high) (N .typed) bytes R in
-      let p = other-path s S path other (A .good) good (A .short) v (A .there) ne in
-      untouched s (setAttributesAt s e bytes) S d (A .home-in) k (N .low) (N .high)
-      (set-slot s S d (A .home-in) k (N .low) (N .high) (N .typed) bytes R)
-      (file-no-dir (typeOf s e) (N .typed)) (rw (K .type) (file-no-dir (typeOf s e) (N .typed)))
-      (λ a O p₁ q₁. set-next s S d (A .home-in) k (N .low) (N .high) (N .typed) bytes R a O q₁)
-      (λ a O p₁ q₁. set-block s S d (A .home-in) k (N .low) (N .high) (N .typed) bytes R a O q₁)
-      other (beside s s e path other (N .named) p) (beside s (setAttributesAt s e bytes) e path other (K .name ∙ N .named) p)
+      entry-untouched A (setAttributesAt s e bytes)
+      (set-slot s S d (A .home-in) k (N .low) (N .high) (N .typed) bytes R) (K .type) (K .name)
+      (λ a O p q. set-next s S d (A .home-in) k (N .low) (N .high) (N .typed) bytes R a O q)
+      (λ a O p q. set-block s S d (A .home-in) k (N .low) (N .high) (N .typed) bytes R a O q)
 
-  pub clear-untouched : fileRefusal s path ≡ 0 → Untouched s (clearAttributesAt s (entryOf isFile s path)) other
-  unfolding entryOf
-  clear-untouched r = by-depth (clearAttributesAt s (entryOf isFile s path)) λ v.
-      let A = file-at-path s path r in
-      let N = A .named in
-      let d : ℕ × ℕ = (home s path, A .level) in
-      let k : ℕ = pathSlot isFile s path in
-      let e : ℕ = slotAt (directory s (home s path)) k in
-      let K = cleared-entry s S d (A .home-in) k (N .low) (N .high) (N .typed) in
-      let p = other-path s S path other (A .good) good (A .short) v (A .there) ne in
-      untouched s (clearAttributesAt s e) S d (A .home-in) k (N .low) (N .high)
-      (cleared-slot s S d (A .home-in) k (N .low) (N .high) (N .typed))
-      (file-no-dir (typeOf s e) (N .typed)) (rw (K .type) (file-no-dir (typeOf s e) (N .typed)))
-      (λ a O p₁ q₁. cleared-next s S d (A .home-in) k (N .low) (N .high) (N .typed) a O q₁)
-      (λ a O p₁ q₁. cleared-block s S d (A .home-in) k (N .low) (N .high) (N .typed) a O q₁)
-      other (beside s s e path other (N .named) p) (beside s (clearAttributesAt s e) e path other (K .name ∙ N .named) p)
+  -- the clears
+  module _ (r : fileRefusal s path ≡ 0) where
+    abbrev A : At isFile s path
+    A = file-at-path s path r
+
+    abbrev d : ℕ × ℕ
+    d = (home s path, A .level)
+
+    abbrev k : ℕ
+    k = pathSlot isFile s path
+
+    abbrev N : Named isFile s (home s path) (lastPart (parts path)) k
+    N = A .named
+
+    pub clear-untouched : Untouched s (clearAttributesAt s (entryOf isFile s path)) other
+    unfolding entryOf
+    clear-untouched =
+        let K = cleared-entry s S d (A .home-in) k (N .low) (N .high) (N .typed) in
+        entry-untouched A (clearAttributesAt s e)
+        (cleared-slot s S d (A .home-in) k (N .low) (N .high) (N .typed)) (K .type) (K .name)
+        (λ a O p q. cleared-next s S d (A .home-in) k (N .low) (N .high) (N .typed) a O q)
+        (λ a O p q. cleared-block s S d (A .home-in) k (N .low) (N .high) (N .typed) a O q)
+
+    pub flags-untouched : Untouched s (clearFlagsAt s (entryOf isFile s path)) other
+    unfolding entryOf
+    flags-untouched =
+        let K = flags-entry s S d (A .home-in) k (N .low) (N .high) (N .typed) in
+        entry-untouched A (clearFlagsAt s e)
+        (flags-slot s S d (A .home-in) k (N .low) (N .high) (N .typed)) (K .type) (K .name)
+        (λ a O p q. flags-next s S d (A .home-in) k (N .low) (N .high) (N .typed) a O)
+        (λ a O p q. flags-block s S d (A .home-in) k (N .low) (N .high) (N .typed) a O)
 
 -- a directory created: the file of every path stays
-pub create-directory-untouched : (s path other : List ℕ) → check s ≡ 0 → (type user group permissions flags time d : ℕ) → createDirectoryRefusal s path type d ≡ 0
+pub create-directory-untouched : (s path other : List ℕ) → check s ≡ 0 → (type user group permissions flags time d : ℕ) → createDirectoryRefusal s path type flags d ≡ 0
     → Untouched s (createDirectoryImage s path type user group permissions flags time d) other
-unfolding createDirectoryRefusal createDirectoryImage newDirectoryBlocks directoryMade createDirectoryNamed after named
+unfolding createDirectoryImage newDirectoryBlocks directoryMade createDirectoryNamed after named
 create-directory-untouched s path other c type user group permissions flags time d r =
-    let a = require-zero (pathOk path && (isDirectory type && within 1 maxDirectory d)) 8 _ r in
-    let b = and-split (pathOk path) _ (a .0) in
-    let f = and-split (isDirectory type) _ (b .1) in
-    let g = within-split 1 maxDirectory d (f .1) in
-    let h = require-zero (shallow (parts path)) 16 _ (a .1) in
-    let i = firstOf-zero (placeRefusal s path) _ (h .1) in
-    let m = require-zero (leb d (length (freeBlocks (next s) (blockCount s)))) 13 _ (i .1) in
-    let l = path-levels path (b .0) (h .0) in
-    let w = place-free s path (i .0) in
-    let home-in : In (home s path, suc (maxLevels - suc (length (leading (parts path))))) (dirs s) = rw (l .1) (place-home s path (i .0) (l .0)) in
+    let G = create-directory-given s path type flags d r in
+    let l = path-levels path (G .good) (G .deep) in
+    let w = place-free s path (G .placed) in
+    let home-in : In (home s path, suc (maxLevels - suc (length (leading (parts path))))) (dirs s) = rw (l .1) (place-home s path (G .placed) (l .0)) in
     let framed = frame s (createDirectory path type user group permissions flags time d) c (unfold refusal in r) .agree in
-    rw (place-is s path (i .0)) (made-untouched s (sound s c) (home s path) (maxLevels - suc (length (leading (parts path)))) home-in
-    (freeSlot s (directory s (home s path))) (w .0) (w .1) (w .2) (lastPart (parts path)) (path-name path (b .0)) (place-new s path (i .0)) type user group permissions flags time (f .0)
-    d (g .0) (g .1) (leb-true _ _ (m .0)) (rw (place-is s path (i .0)) at framed) other)
+    rw (place-is s path (G .placed)) (made-untouched s (sound s c) (home s path) (maxLevels - suc (length (leading (parts path)))) home-in
+    (freeSlot s (directory s (home s path))) (w .0) (w .1) (w .2) (lastPart (parts path)) (path-name path (G .good)) (place-new s path (G .placed)) type user group permissions flags time (G .dir)
+    d (G .least) (G .most) (G .room) (rw (place-is s path (G .placed)) at framed) other)

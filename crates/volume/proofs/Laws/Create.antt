@@ -1,7 +1,7 @@
 -- Create: the new entry; the image after it is sound.
 use Prim.Native.Nat.{ℕ, _+_, _-_, _*_, _≤_, _<_}
 use mathlib.Core.Path.{_≡_, sym, ap, _∙_, refl, subst}
-use mathlib.Core.Bool.{true, false, _&&_, or-true}
+use mathlib.Core.Bool.{true, false, or-true}
 use mathlib.Core.List.{List}
 use mathlib.Core.Logic.{inl, inr, ⊎-elim, _≢_, _⊎_}
 use native.Mathlib.Omega.{arith}
@@ -10,13 +10,13 @@ use Rattle.layout.specs.Limits.{maxLevels}
 use Rattle.layout.specs.Bytes.{be32, bytes4, part, splice, block}
 use Rattle.layout.specs.Directory.{slotAt, typeOf, firstBlock, isFree, isFile, isDirectory, padded, nameOf, goodName, directory, dirs, freeSlot}
 use Rattle.layout.specs.Check.{noAttributes, attributesOk, fileOk, slotOk, check}
-use Rattle.layout.specs.Paths.{parts, pathOk, leading, lastPart, shallow, home}
+use Rattle.layout.specs.Paths.{parts, leading, lastPart, home}
 use Rattle.volume.specs.Entries.{entryBytes}
 use Rattle.volume.specs.Create.{createRefusal, createImage}
 use Rattle.volume.proofs.Laws.Entries.{entry-type, entry-first, entry-size, entry-blocks, entry-attribute, entry-attribute-size, entry-named, entry-length}
-use Rattle.volume.proofs.Laws.Places.{path-name, place-is, place-home, place-free, place-new}
+use Rattle.volume.proofs.Laws.Places.{create-given, path-name, place-is, place-home, place-free, place-new}
 use Rattle.layout.proofs.Laws.Bytes.{length-splice}
-use Rattle.layout.proofs.Laws.Tests.{and-split, is-false, require-zero, within-split}
+use Rattle.layout.proofs.Laws.Tests.{is-false, within-split}
 use Rattle.layout.proofs.Laws.Names.{padded-length, name-is, name-ok}
 use Rattle.layout.proofs.Laws.Lists.{In}
 use Rattle.layout.proofs.Laws.Frames.{same-beside, Same, before-next}
@@ -129,13 +129,11 @@ module _ (s : List ℕ) (S : Sound s) (d : ℕ × ℕ) (di : In d (dirs s)) (k :
           entry-elsewhere s S e mine s done refl (length-splice s e p (omega (arith, long, fits))) outside q (block-below s S a A q i)
           (λ z. block-outside s S a A apart q i (subst (λ (y : ℕ). In y (dirBlocks s)) z (mine .within-tree)))
 
-pub kept-create : (s path : List ℕ) (type user group permissions flags time : ℕ) → check s ≡ 0 → createRefusal s path type ≡ 0
+pub kept-create : (s path : List ℕ) (type user group permissions flags time : ℕ) → check s ≡ 0 → createRefusal s path type flags ≡ 0
     → check (createImage s path type user group permissions flags time) ≡ 0
-unfolding createRefusal createImage
+unfolding createImage
 kept-create s path type user group permissions flags time c r =
-    let a = require-zero (pathOk path && isFile type) 8 _ r in
-    let b = and-split (pathOk path) (isFile type) (a .0) in
-    let h = require-zero (shallow (leading (parts path))) 16 _ (a .1) in
-    let w = place-free s path (h .1) in
-    rw (place-is s path (h .1)) (check-zero _ (created-sound s (sound s c) (home s path, maxLevels - length (leading (parts path))) (place-home s path (h .1) (h .0))
-    (freeSlot s (directory s (home s path))) (w .0) (w .1) (w .2) (lastPart (parts path)) (path-name path (b .0)) (place-new s path (h .1)) type user group permissions flags time (b .1)))
+    let G = create-given s path type flags r in
+    let w = place-free s path (G .placed) in
+    rw (place-is s path (G .placed)) (check-zero _ (created-sound s (sound s c) (home s path, maxLevels - length (leading (parts path))) (place-home s path (G .placed) (G .short))
+    (freeSlot s (directory s (home s path))) (w .0) (w .1) (w .2) (lastPart (parts path)) (path-name path (G .good)) (place-new s path (G .placed)) type user group permissions flags time (G .file)))

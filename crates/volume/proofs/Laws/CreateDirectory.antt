@@ -8,27 +8,24 @@ use mathlib.Core.Logic.{inl, inr, ⊎-elim, _≢_, _⊎_}
 use native.Mathlib.Decide.{ℕ-discrete}
 use native.Mathlib.Omega.{arith}
 use lib.ListN.{length, getD, take}
-use lib.Dec.{leb}
-use borrow.Author.Tests.{leb-true}
 use Rattle.layout.specs.Claims.{Inserted, Untouched}
 use Rattle.layout.specs.Limits.{maxLevels, maxDirectory}
-use Rattle.layout.specs.Lists.{within, joined}
+use Rattle.layout.specs.Lists.{joined}
 use Rattle.layout.specs.Bytes.{be32, bytes4, bytes8, part, block, zeros, splice}
 use Rattle.layout.specs.Geometry.{blockCount, tableBlocks, rootBlock}
 use Rattle.layout.specs.Table.{next, chain, freeBlocks}
 use Rattle.layout.specs.Directory.{slotAt, typeOf, firstBlock, sizeOf, blocksOf, isFree, isFile, isDirectory, padded, nameOf, goodName, directory, dirs, freeSlot}
 use Rattle.layout.specs.Check.{noAttributes, fileOk, directoryEntryOk, slotOk, check}
-use Rattle.layout.specs.Paths.{parts, pathOk, leading, lastPart, shallow, home}
+use Rattle.layout.specs.Paths.{parts, leading, lastPart, home}
 use Rattle.volume.specs.Entries.{entryBytes, directoryMade, grown, blocksNamed}
 use Rattle.volume.specs.Views.{folderOf}
-use Rattle.volume.specs.Create.{placeRefusal}
 use Rattle.volume.specs.Directories.{createDirectoryRefusal, newDirectoryBlocks, createDirectoryImage}
 use Rattle.volume.proofs.Laws.Entries.{entry-type, entry-first, entry-size, entry-blocks, entry-attribute, entry-attribute-size, entry-named, entry-length}
-use Rattle.volume.proofs.Laws.Places.{path-levels, path-name, place-is, place-home, place-free, place-new}
+use Rattle.volume.proofs.Laws.Places.{create-directory-given, path-levels, path-name, place-is, place-home, place-free, place-new}
 use Rattle.volume.proofs.Laws.Taken.{taken-many, taken-far, taken-none, taken-no-owner, taken-midway, taken-chain}
 use Rattle.volume.proofs.Laws.Data.{grown-zero}
 use Rattle.layout.proofs.Laws.Bytes.{part-same, length-splice, splice-first, be32-bytes4, getD-part, getD-zeros}
-use Rattle.layout.proofs.Laws.Tests.{and-split, require-zero, firstOf-zero, within-split, lt-or-gt}
+use Rattle.layout.proofs.Laws.Tests.{lt-or-gt}
 use Rattle.layout.proofs.Laws.Names.{padded-length, name-is, name-ok}
 use Rattle.layout.proofs.Laws.Lists.{In, getD-in}
 use Rattle.layout.proofs.Laws.Frames.{Same, same-then, same-beside, same-below, same-inside, same-be32, before-next, Agree}
@@ -448,20 +445,14 @@ module _ (s : List ℕ) (S : Sound s) (b₀ j : ℕ) (i₀ : In (b₀, suc j) (d
     pub made-inserted : Inserted (firstBlock t′ e, j) (dirs s) (dirs t′)
     made-inserted = rw e-first made-tree
 
-pub kept-create-directory : (s path : List ℕ) (type user group permissions flags time d : ℕ) → check s ≡ 0 → createDirectoryRefusal s path type d ≡ 0
+pub kept-create-directory : (s path : List ℕ) (type user group permissions flags time d : ℕ) → check s ≡ 0 → createDirectoryRefusal s path type flags d ≡ 0
     → check (createDirectoryImage s path type user group permissions flags time d) ≡ 0
-unfolding createDirectoryRefusal createDirectoryImage newDirectoryBlocks directoryMade
+unfolding createDirectoryImage newDirectoryBlocks directoryMade
 kept-create-directory s path type user group permissions flags time d c r =
-    let a = require-zero (pathOk path && (isDirectory type && within 1 maxDirectory d)) 8 _ r in
-    let b = and-split (pathOk path) _ (a .0) in
-    let f = and-split (isDirectory type) _ (b .1) in
-    let g = within-split 1 maxDirectory d (f .1) in
-    let h = require-zero (shallow (parts path)) 16 _ (a .1) in
-    let i = firstOf-zero (placeRefusal s path) _ (h .1) in
-    let m = require-zero (leb d (length (freeBlocks (next s) (blockCount s)))) 13 _ (i .1) in
-    let l = path-levels path (b .0) (h .0) in
-    let w = place-free s path (i .0) in
-    let home-in : In (home s path, suc (maxLevels - suc (length (leading (parts path))))) (dirs s) = rw (l .1) (place-home s path (i .0) (l .0)) in
-    rw (place-is s path (i .0)) (check-zero _ (made-sound s (sound s c) (home s path) (maxLevels - suc (length (leading (parts path)))) home-in
-    (freeSlot s (directory s (home s path))) (w .0) (w .1) (w .2) (lastPart (parts path)) (path-name path (b .0)) (place-new s path (i .0)) type user group permissions flags time (f .0)
-    d (g .0) (g .1) (leb-true _ _ (m .0))))
+    let G = create-directory-given s path type flags d r in
+    let l = path-levels path (G .good) (G .deep) in
+    let w = place-free s path (G .placed) in
+    let home-in : In (home s path, suc (maxLevels - suc (length (leading (parts path))))) (dirs s) = rw (l .1) (place-home s path (G .placed) (l .0)) in
+    rw (place-is s path (G .placed)) (check-zero _ (made-sound s (sound s c) (home s path) (maxLevels - suc (length (leading (parts path)))) home-in
+    (freeSlot s (directory s (home s path))) (w .0) (w .1) (w .2) (lastPart (parts path)) (path-name path (G .good)) (place-new s path (G .placed)) type user group permissions flags time (G .dir)
+    d (G .least) (G .most) (G .room)))

@@ -1,11 +1,11 @@
 -- THE EFFECT OF A CHANGE OF A FILE: on what its own path shows a function of that alone, on what other paths show none, and how many blocks it takes and gives.
-use Prim.Native.Nat.{ℕ, _+_, _-_, _/_, _≤_, max}
+use Prim.Native.Nat.{ℕ, _+_, _-_, _/_, _≤_, _<_, max}
 use mathlib.Core.Path.{_≡_, refl, sym, ap, _∙_}
 use mathlib.Core.Bool.{true, false, _&&_}
 use mathlib.Core.List.{List, [], _∷_, _++_}
-use mathlib.Core.Logic.{_≢_}
+use mathlib.Core.Logic.{_⊎_, inl, inr, ⊎-elim, _≢_}
 use native.Mathlib.Omega.{arith}
-use lib.ListN.{length}
+use lib.ListN.{length, getD}
 use Rattle.layout.specs.Limits.{maxLevels, maxData}
 use lib.Dec.{leb}
 use Rattle.layout.specs.Bytes.{be32, bytes4, bytes8, part, splice, zeros}
@@ -13,28 +13,30 @@ use Rattle.layout.specs.Geometry.{blockCount, blocksFor}
 use Rattle.layout.specs.Table.{next, chain, freeBlocks}
 use Rattle.layout.specs.Directory.{slotAt, typeOf, sizeOf, blocksOf, isFile, isDirectory, nameOf, goodName, directory, dirs, freeSlot, fileBlocks, content, attributeSize, attributeBlocks, attributes}
 use Rattle.layout.specs.Check.{check}
-use Rattle.layout.specs.Paths.{parts, pathOk, leading, lastPart, shallow, home, pathSlot, entryOf, fileRefusal}
+use Rattle.layout.specs.Paths.{parts, pathOk, leading, lastPart, home, pathSlot, entryOf, fileRefusal}
 use Rattle.volume.specs.Entries.{entryBytes}
-use Rattle.volume.specs.Create.{createRefusal, createSlot, createImage, placeRefusal}
+use Rattle.volume.specs.Create.{createRefusal, createSlot, createImage}
 use Rattle.volume.specs.Write.{newSize, needed, newBlocks, writeAt, writeRefusal}
 use Rattle.volume.specs.Delete.{deleteAt}
 use Rattle.volume.specs.Attributes.{setAttributesAt, clearAttributesAt, setAttributesRefusal}
-use Rattle.volume.specs.Change.{Change, create, write, delete, createDirectory, deleteDirectory, setAttributes, clearAttributes, refusal, after}
-use Rattle.volume.specs.Views.{just, fileOf, fileAt, folderAt, subject, ofFile, over, made, takes, gives}
-use Rattle.volume.proofs.Laws.Places.{At, file-at-path, WriteGiven, write-given, SetGiven, set-path, set-given, path-name, place-is, place-home, place-free, place-new, place-there}
+use Rattle.volume.specs.Flags.{clearFlagsAt}
+use Rattle.volume.specs.Change.{Change, create, write, delete, createDirectory, deleteDirectory, setAttributes, clearAttributes, clearFlags, refusal, after}
+use Rattle.volume.specs.Views.{just, fileOf, fileAt, folderAt, subject, ofFile, made, takes, gives}
+use Rattle.volume.proofs.Laws.Places.{CreateGiven, create-given, At, file-at-path, WriteGiven, write-given, SetGiven, set-path, set-given, path-name, place-is, place-home, place-free, place-new, place-there}
 use Rattle.volume.proofs.Laws.Entries.{entry-length, entry-type, entry-size, entry-attribute-size}
 use Rattle.volume.proofs.Laws.Create.{created-slot, created-no-dir, created-name, created-sound}
 use Rattle.volume.proofs.Laws.Write.{Written, written-file, written-slot, written-used, written-attributes, written-sound}
 use Rattle.volume.proofs.Laws.Delete.{deleted-slot, deleted-type, deleted-used}
 use Rattle.volume.proofs.Laws.Fields.{EntryKept}
-use Rattle.volume.proofs.Laws.SetClear.{cleared-sound, cleared-slot, cleared-entry, cleared-content, cleared-none, cleared-used, set-sound, set-slot, set-entry, set-content, set-bytes, set-used}
-use Rattle.volume.proofs.Laws.Content.{write-untouched, delete-untouched, create-untouched, set-untouched, clear-untouched}
+use Rattle.volume.proofs.Laws.SetClear.{cleared-sound, cleared-slot, cleared-entry, cleared-flags, cleared-content, cleared-none, cleared-used, set-sound, set-slot, set-entry, set-flags, set-content, set-bytes, set-used}
+use Rattle.volume.proofs.Laws.Flags.{flags-beside, flags-zero, flags-sound, flags-slot, flags-entry, flags-content, flags-attributes, flags-used}
+use Rattle.volume.proofs.Laws.Content.{write-untouched, delete-untouched, create-untouched, set-untouched, clear-untouched, flags-untouched}
 use Rattle.volume.proofs.Laws.Views.{file-shown, other-shown, OneEntry, folder-shown, own-gone, own-slot, own-entry, own-shown}
-use Rattle.layout.proofs.Laws.Bytes.{part-part, part-same, length-splice}
-use Rattle.layout.proofs.Laws.Tests.{and-split, require-zero, firstOf-zero, true-not-false}
+use Rattle.layout.proofs.Laws.Bytes.{part-part, part-same, be32-part, zeros-32, length-splice}
+use Rattle.layout.proofs.Laws.Tests.{require-zero, firstOf-zero, true-not-false}
 use Rattle.layout.proofs.Laws.Lists.{In}
 use Rattle.layout.proofs.Laws.Names.{padded-length}
-use Rattle.layout.proofs.Laws.Frames.{same-inside, same-below, same-be32}
+use Rattle.layout.proofs.Laws.Frames.{same-inside, same-below, same-byte, same-be32}
 use Rattle.layout.proofs.Laws.Sound.{Sound, Entry, sound}
 use Rattle.layout.proofs.Laws.Slots.{slot-entry, entry-high, entry-low}
 use Rattle.layout.proofs.Laws.Files.{file-in, length-content, length-attributes}
@@ -49,17 +51,9 @@ pub record Effect (s : List ℕ) (c : Change) : Type 0 where
   pub size : length (after s c) ≡ length s
 
 -- CREATE
-module _ (s path : List ℕ) (ok : check s ≡ 0) (type user group permissions flags time : ℕ) (r : createRefusal s path type ≡ 0) where
-  abbrev Given : Type 0
-  Given = (pathOk path ≡ true) × (isFile type ≡ true) × (shallow (leading (parts path)) ≡ true) × (placeRefusal s path ≡ 0)
-
-  given : Given
-  unfolding createRefusal
-  given =
-      let a = require-zero (pathOk path && isFile type) 8 _ r in
-      let b = and-split (pathOk path) (isFile type) (a .0) in
-      let h = require-zero (shallow (leading (parts path))) 16 _ (a .1) in
-      (b .0, b .1, h .0, h .1)
+module _ (s path : List ℕ) (ok : check s ≡ 0) (type user group permissions flags time : ℕ) (r : createRefusal s path type flags ≡ 0) where
+  given : CreateGiven s path type flags
+  given = create-given s path type flags r
 
   abbrev e : ℕ
   e = slotAt (directory s (home s path)) (freeSlot s (directory s (home s path)))
@@ -75,19 +69,19 @@ module _ (s path : List ℕ) (ok : check s ≡ 0) (type user group permissions f
 
   create-is : createImage s path type user group permissions flags time ≡ s′
   unfolding createImage
-  create-is = rw (place-is s path (given .3))
+  create-is = rw (place-is s path (given .placed))
 
   level : ℕ
   level = maxLevels - length (leading (parts path))
 
   abbrev di : In (home s path, maxLevels - length (leading (parts path))) (dirs s)
-  di = place-home s path (given .3) (given .2)
+  di = place-home s path (given .placed) (given .short)
 
   good : goodName (lastPart (parts path)) ≡ true
-  good = path-name path (given .0)
+  good = path-name path (given .good)
 
   E : Entry s e
-  E = let h = place-free s path (given .3) .1 in slot-entry s S (home s path, maxLevels - length (leading (parts path))) di (freeSlot s (directory s (home s path))) (omega arith)
+  E = let h = place-free s path (given .placed) .1 in slot-entry s S (home s path, maxLevels - length (leading (parts path))) di (freeSlot s (directory s (home s path))) (omega arith)
 
   high : e + 128 ≤ length s
   high = entry-high s S e E
@@ -101,16 +95,16 @@ module _ (s path : List ℕ) (ok : check s ≡ 0) (type user group permissions f
 
   slots : OneSlot s (dirs s) s′ e
   slots =
-      let w = place-free s path (given .3) in
-      created-slot s S (home s path, maxLevels - length (leading (parts path))) di (freeSlot s (directory s (home s path))) (w .0) (w .1) (w .2) (lastPart (parts path)) good (place-new s path (given .3)) type user group permissions flags time (given .1)
+      let w = place-free s path (given .placed) in
+      created-slot s S (home s path, maxLevels - length (leading (parts path))) di (freeSlot s (directory s (home s path))) (w .0) (w .1) (w .2) (lastPart (parts path)) good (place-new s path (given .placed)) type user group permissions flags time (given .file)
 
   no-dir : isDirectory (typeOf s′ e) ≡ false
   no-dir =
-      let w = place-free s path (given .3) in
-      created-no-dir s S (home s path, maxLevels - length (leading (parts path))) di (freeSlot s (directory s (home s path))) (w .0) (w .1) (w .2) (lastPart (parts path)) good (place-new s path (given .3)) type user group permissions flags time (given .1)
+      let w = place-free s path (given .placed) in
+      created-no-dir s S (home s path, maxLevels - length (leading (parts path))) di (freeSlot s (directory s (home s path))) (w .0) (w .1) (w .2) (lastPart (parts path)) good (place-new s path (given .placed)) type user group permissions flags time (given .file)
 
   was-none : isDirectory (typeOf s e) ≡ false
-  was-none = rw (place-free s path (given .3) .2)
+  was-none = rw (place-free s path (given .placed) .2)
 
   file-new : fileOf s′ e ≡ record { bytes = []; kind = type ∷ user ∷ group ∷ permissions ∷ []; created = bytes8 time; modified = bytes8 time; flags = bytes4 flags; attributes = [] }
   unfolding fileOf content attributes attributeBlocks chain entryBytes bytes4 bytes8 zeros be32
@@ -126,22 +120,22 @@ module _ (s path : List ℕ) (ok : check s ≡ 0) (type user group permissions f
   pub create-slot-found : pathSlot isFile (createImage s path type user group permissions flags time) path ≡ createSlot s path
   unfolding createSlot
   create-slot-found =
-      let w = place-free s path (given .3) in
-      let S′ : Sound s′ = created-sound s S (home s path, maxLevels - length (leading (parts path))) di (freeSlot s (directory s (home s path))) (w .0) (w .1) (w .2) (lastPart (parts path)) good (place-new s path (given .3)) type user group permissions flags time (given .1) in
-      rw create-is (own-slot s s′ path S (given .0) (given .2) (place-there s path (given .3)) (maxLevels - length (leading (parts path))) di (freeSlot s (directory s (home s path))) (w .0) (w .1) slots was-none no-dir
-      S′ (rw (entry-type (lastPart (parts path)) (padded-length (lastPart (parts path)) good) type user group permissions 0 0 0 time flags s e high) (given .1))
-      (created-name s S (home s path, maxLevels - length (leading (parts path))) di (freeSlot s (directory s (home s path))) (w .0) (w .1) (w .2) (lastPart (parts path)) good (place-new s path (given .3)) type user group permissions flags time (given .1)))
+      let w = place-free s path (given .placed) in
+      let S′ : Sound s′ = created-sound s S (home s path, maxLevels - length (leading (parts path))) di (freeSlot s (directory s (home s path))) (w .0) (w .1) (w .2) (lastPart (parts path)) good (place-new s path (given .placed)) type user group permissions flags time (given .file) in
+      rw create-is (own-slot s s′ path S (given .good) (given .short) (place-there s path (given .placed)) (maxLevels - length (leading (parts path))) di (freeSlot s (directory s (home s path))) (w .0) (w .1) slots was-none no-dir
+      S′ (rw (entry-type (lastPart (parts path)) (padded-length (lastPart (parts path)) good) type user group permissions 0 0 0 time flags s e high) (given .file))
+      (created-name s S (home s path, maxLevels - length (leading (parts path))) di (freeSlot s (directory s (home s path))) (w .0) (w .1) (w .2) (lastPart (parts path)) good (place-new s path (given .placed)) type user group permissions flags time (given .file)))
 
   pub create-effect : Effect s (create path type user group permissions flags time)
   unfolding after subject made takes gives
   create-effect =
-      let w = place-free s path (given .3) in
+      let w = place-free s path (given .placed) in
       let O : OneEntry s s′ = record { d = (home s path, maxLevels - length (leading (parts path))); di = di; k = freeSlot s (directory s (home s path)); k₁ = w .0; k₂ = w .1; only = slots; was = was-none; now = no-dir } in
-      let S′ : Sound s′ = created-sound s S (home s path, maxLevels - length (leading (parts path))) di (freeSlot s (directory s (home s path))) (w .0) (w .1) (w .2) (lastPart (parts path)) good (place-new s path (given .3)) type user group permissions flags time (given .1) in
+      let S′ : Sound s′ = created-sound s S (home s path, maxLevels - length (leading (parts path))) di (freeSlot s (directory s (home s path))) (w .0) (w .1) (w .2) (lastPart (parts path)) good (place-new s path (given .placed)) type user group permissions flags time (given .file) in
       record {
-        own = rw create-is (own-shown s s′ path S (given .0) (given .2) (place-there s path (given .3)) (maxLevels - length (leading (parts path))) di (freeSlot s (directory s (home s path))) (w .0) (w .1) slots was-none no-dir
-            S′ (rw (entry-type (lastPart (parts path)) (padded-length (lastPart (parts path)) good) type user group permissions 0 0 0 time flags s e high) (given .1))
-            (created-name s S (home s path, maxLevels - length (leading (parts path))) di (freeSlot s (directory s (home s path))) (w .0) (w .1) (w .2) (lastPart (parts path)) good (place-new s path (given .3)) type user group permissions flags time (given .1))
+        own = rw create-is (own-shown s s′ path S (given .good) (given .short) (place-there s path (given .placed)) (maxLevels - length (leading (parts path))) di (freeSlot s (directory s (home s path))) (w .0) (w .1) slots was-none no-dir
+            S′ (rw (entry-type (lastPart (parts path)) (padded-length (lastPart (parts path)) good) type user group permissions 0 0 0 time flags s e high) (given .file))
+            (created-name s S (home s path, maxLevels - length (leading (parts path))) di (freeSlot s (directory s (home s path))) (w .0) (w .1) (w .2) (lastPart (parts path)) good (place-new s path (given .placed)) type user group permissions flags time (given .file))
             ∙ ap just file-new);
         others = λ other ne. other-shown s _ S (rw create-is (slots .len)) other (λ q. create-untouched s path other ok q ne type user group permissions flags time r);
         folders = λ q. rw create-is (folder-shown s s′ S O q);
@@ -237,7 +231,7 @@ module _ (s path : List ℕ) (ok : check s ≡ 0) (q : fileRefusal s path ≡ 0)
         size = O .len;
       }
 
-  -- the entry but for the two fields of the attributes
+  -- bytes 32 to 47 of the entry changed
   module _ (s′ : List ℕ) (O : OneSlot s (dirs s) s′ a) (S′ : Sound s′) (K : EntryKept s s′ a) (C : content s′ a ≡ content s a) where
     kept-front : (i w : ℕ) → i + w ≤ 32 → part s′ (a + i) w ≡ part s (a + i) w
     kept-front i w h =
@@ -247,13 +241,6 @@ module _ (s path : List ℕ) (ok : check s ≡ 0) (q : fileRefusal s path ≡ 0)
 
     kept-start : part s′ a 4 ≡ part s a 4
     kept-start = let z : a + 0 ≡ a = omega arith in rw z at (kept-front 0 4 (omega arith))
-
-    kept-flags : part s′ (a + 40) 4 ≡ part s (a + 40) 4
-    kept-flags =
-        let high = entry-high s T a F in
-        let l = O .len in
-        let z : a + 40 + 0 ≡ a + 40 = omega arith in
-        rw z at (sym (part-part s′ (a + 40) 88 0 4 (omega arith) (omega arith)) ∙ ap (λ (x : List ℕ). part x 0 4) (K .back) ∙ part-part s (a + 40) 88 0 4 (omega arith) (omega arith))
 
     own-kept : OwnKept s s′ path
     unfolding entryOf
@@ -269,11 +256,10 @@ module _ (s path : List ℕ) (ok : check s ≡ 0) (q : fileRefusal s path ≡ 0)
           contents = C;
         }
 
-    attributes-shown : (bytes : List ℕ) → attributes s′ a ≡ bytes
-        → fileAt s′ path ≡ over (fileAt s path) (λ f. record { bytes = f .bytes; kind = f .kind; created = f .created; modified = f .modified; flags = f .flags; attributes = bytes })
+    entry-shown : (flags bytes : List ℕ) → part s′ (a + 40) 4 ≡ flags → attributes s′ a ≡ bytes
+        → fileAt s′ path ≡ just (record { bytes = content s a; kind = part s a 4; created = part s (a + 16) 8; modified = part s (a + 24) 8; flags = flags; attributes = bytes })
     unfolding fileOf
-    attributes-shown bytes B =
-        rw (shown, there-still s′ O S′ (K .type) (K .name)) (rw (C, B, kept-start, kept-front 16 8 (omega arith), kept-front 24 8 (omega arith), kept-flags))
+    entry-shown flags bytes p q = there-still s′ O S′ (K .type) (K .name) ∙ rw (C, p, q, kept-start, kept-front 16 8 (omega arith), kept-front 24 8 (omega arith))
 
   -- CLEAR
   abbrev cleared : List ℕ
@@ -304,12 +290,61 @@ module _ (s path : List ℕ) (ok : check s ≡ 0) (q : fileRefusal s path ≡ 0)
   unfolding after subject made takes gives entryOf
   clear-effect =
       record {
-        own = attributes-shown cleared clear-only clear-right clear-rest clear-same [] (cleared-none s T (home s path, A .level) (A .home-in) k (A .named .low) (A .named .high) (A .named .typed) .1);
+        own = rw shown (unfold fileOf in entry-shown cleared clear-only clear-right clear-rest clear-same (part s (a + 40) 4) []
+            (cleared-flags s T (home s path, A .level) (A .home-in) k (A .named .low) (A .named .high) (A .named .typed))
+            (cleared-none s T (home s path, A .level) (A .home-in) k (A .named .low) (A .named .high) (A .named .typed) .1));
         others = λ other ne. other-shown s cleared T (clear-only .len) other (λ g. clear-untouched s path other ok g ne q);
         folders = folder-shown s cleared T (one-entry cleared clear-only (rw (clear-rest .type) no-dir-file));
         used = rw shown (unfold fileOf in clear-count);
         size = clear-only .len;
       }
+
+  -- CLEAR FLAGS
+  abbrev flagless : List ℕ
+  flagless = clearFlagsAt s a
+
+  flags-only : OneSlot s (dirs s) flagless a
+  flags-only = flags-slot s T (home s path, A .level) (A .home-in) k (A .named .low) (A .named .high) (A .named .typed)
+
+  flags-rest : EntryKept s flagless a
+  flags-rest = flags-entry s T (home s path, A .level) (A .home-in) k (A .named .low) (A .named .high) (A .named .typed)
+
+  flags-same : content flagless a ≡ content s a
+  flags-same = flags-content s T (home s path, A .level) (A .home-in) k (A .named .low) (A .named .high) (A .named .typed) .contents
+
+  flags-right : Sound flagless
+  flags-right = flags-sound s T (home s path, A .level) (A .home-in) k (A .named .low) (A .named .high) (A .named .typed)
+
+  pub flags-kept : OwnKept s (clearFlagsAt s (entryOf isFile s path)) path
+  unfolding entryOf
+  flags-kept = own-kept flagless flags-only flags-right flags-rest flags-same
+
+  pub flags-effect : Effect s (clearFlags path)
+  unfolding after subject made takes gives entryOf
+  flags-effect =
+      record {
+        own = rw shown (unfold fileOf in entry-shown flagless flags-only flags-right flags-rest flags-same (zeros 4) (attributes s a)
+            (flags-zero s T (home s path, A .level) (A .home-in) k (A .named .low) (A .named .high) (A .named .typed))
+            (flags-attributes s T (home s path, A .level) (A .home-in) k (A .named .low) (A .named .high) (A .named .typed) .bytes));
+        others = λ other ne. other-shown s flagless T (flags-only .len) other (λ g. flags-untouched s path other ok g ne q);
+        folders = folder-shown s flagless T (one-entry flagless flags-only (rw (flags-rest .type) no-dir-file));
+        used = let u = flags-used s T (home s path, A .level) (A .home-in) k (A .named .low) (A .named .high) (A .named .typed) in omega arith;
+        size = flags-only .len;
+      }
+
+  -- they are 0, and every byte of the image but those four stays
+  pub flags-number : be32 (clearFlagsAt s (entryOf isFile s path)) (entryOf isFile s path + 40) ≡ 0
+  unfolding entryOf
+  flags-number =
+      let z : a + 40 + 0 ≡ a + 40 = omega arith in
+      let e = flags-zero s T (home s path, A .level) (A .home-in) k (A .named .low) (A .named .high) (A .named .typed) in
+      rw z at (sym (be32-part flagless (a + 40) 4 0 (omega arith)) ∙ ap (λ (b : List ℕ). be32 b 0) e ∙ zeros-32 4 0)
+
+  pub flags-bytes : (i : ℕ) → (i < entryOf isFile s path + 40) ⊎ (entryOf isFile s path + 44 ≤ i) → getD (clearFlagsAt s (entryOf isFile s path)) i 0 ≡ getD s i 0
+  unfolding entryOf
+  flags-bytes i h =
+      same-byte s flagless i 1 i (flags-beside s T (home s path, A .level) (A .home-in) k (A .named .low) (A .named .high) (A .named .typed) i 1 (⊎-elim (λ x. inl (omega arith)) (λ x. inr x) h))
+      (omega arith) (omega arith)
 
   -- SET
   module _ (bytes : List ℕ) (r : setAttributesRefusal s path (length bytes) ≡ 0) where
@@ -345,7 +380,9 @@ module _ (s path : List ℕ) (ok : check s ≡ 0) (q : fileRefusal s path ≡ 0)
     unfolding after subject made takes gives entryOf
     set-effect =
         record {
-          own = attributes-shown filled set-only set-right set-rest set-same bytes (set-bytes s T (home s path, A .level) (A .home-in) k (A .named .low) (A .named .high) (A .named .typed) bytes R);
+          own = rw shown (unfold fileOf in entry-shown filled set-only set-right set-rest set-same (part s (a + 40) 4) bytes
+              (set-flags s T (home s path, A .level) (A .home-in) k (A .named .low) (A .named .high) (A .named .typed) bytes R)
+              (set-bytes s T (home s path, A .level) (A .home-in) k (A .named .low) (A .named .high) (A .named .typed) bytes R));
           others = λ other ne. other-shown s filled T (set-only .len) other (λ g. set-untouched s path other ok g ne bytes r);
           folders = folder-shown s filled T (one-entry filled set-only (rw (set-rest .type) no-dir-file));
           used = rw shown (unfold fileOf in set-count);
@@ -430,3 +467,4 @@ effect s (createDirectory path type user group permissions flags time d) f ok r 
 effect s (deleteDirectory path) f ok r = absurd (true-not-false f refl)
 effect s (setAttributes path bytes) f ok r = set-effect s path ok (set-path s path (length bytes) r) bytes r
 effect s (clearAttributes path) f ok r = clear-effect s path ok r
+effect s (clearFlags path) f ok r = flags-effect s path ok r

@@ -1,5 +1,5 @@
--- The two attribute fields of a file's entry set, after steps that changed the chain of its attributes only: the entry's other bytes stay, and the image is
--- sound.
+-- Bytes 32 to 47 of a file's entry changed, after steps that changed the chain of its attributes only: the entry's other bytes stay, and the image is sound.
+-- Of these changes, the two attribute fields set.
 use Prim.Native.Nat.{ℕ, _+_, _-_, _*_, _/_, _≤_, _<_}
 use mathlib.Core.Path.{_≡_, sym, _∙_, subst}
 use mathlib.Core.Bool.{true}
@@ -26,6 +26,11 @@ use Rattle.layout.proofs.Laws.Files.{AttributeFields, attributesOk-join}
 use Rattle.layout.proofs.Laws.Changed.{OneSlot}
 use Rattle.layout.proofs.Laws.Steps.{over-same, over-other, Midway, Staying, staying, midway-start, midway-end, one-slot}
 
+-- t′ is t but for bytes 32 to 47 of the entry at e: the attribute fields, the system flags and the reserved bytes
+pub record Altered (t t′ : List ℕ) (e : ℕ) : Type 0 where
+  pub size : length t′ ≡ length t
+  pub beside : (a w : ℕ) → (a + w ≤ e + 32) ⊎ (e + 48 ≤ a) → Same t t′ a w
+
 -- the fields set: length, the bytes beside, the numbers
 module _ (t : List ℕ) (e first size : ℕ) (fits : e + 128 ≤ length t) where
   abbrev numbers : List ℕ
@@ -43,6 +48,9 @@ module _ (t : List ℕ) (e first size : ℕ) (fits : e + 128 ≤ length t) where
   unfolding setAttributeFields bytes4
   fields-same a w h = same-beside t (e + 32) numbers fit-numbers a w (⊎-elim (λ x. inl x) (λ x. inr (omega arith)) h)
 
+  fields-altered : Altered t (setAttributeFields t e first size) e
+  fields-altered = record { size = fields-length; beside = λ a w h. fields-same a w (⊎-elim (λ x. inl x) (λ x. inr (omega arith)) h) }
+
   number : (i : ℕ) → i + 4 ≤ 8 → be32 (setAttributeFields t e first size) (e + 32 + i) ≡ be32 numbers i
   unfolding setAttributeFields bytes4
   number i h = be32-same numbers (setAttributeFields t e first size) i (e + 32 + i) (same-inside t (e + 32) numbers fit-numbers i 4 (omega arith))
@@ -55,10 +63,9 @@ module _ (t : List ℕ) (e first size : ℕ) (fits : e + 128 ≤ length t) where
   unfolding be32 bytes4
   fields-size h = (let q : e + 32 + 4 ≡ e + 36 = omega arith in rw q at (number 4 (omega arith))) ∙ be32-bytes4 size h
 
--- the entry of the file: all its bytes but the two fields (no time changes)
+-- what stays of the entry then (no time changes)
 pub record EntryKept (s s′ : List ℕ) (e : ℕ) : Type 0 where
   pub front : part s′ e 32 ≡ part s e 32
-  pub back : part s′ (e + 40) 88 ≡ part s (e + 40) 88
   pub type : typeOf s′ e ≡ typeOf s e
   pub name : nameOf s′ e ≡ nameOf s e
   pub size : sizeOf s′ e ≡ sizeOf s e
@@ -75,97 +82,121 @@ module _ (s : List ℕ) (S : Sound s) (e : ℕ) (E : Entry s e) (file : isFile (
       (subst (λ (c : ℕ). Midway s (dirs s) (Owner s) (firstBlock s) (heldAt s) (e + 28) s (firstBlock s (e + 28)) c) (second-holds s S e E file)
       (midway-start s S (e + 28) (second s S e E file) (λ c i q. second-no-self s S e E file c i (sym q))))
 
-  -- after the steps, the chain is the c blocks from b
-  module _ (t : List ℕ) (b c : ℕ) (I : Midway s (dirs s) (Owner s) (firstBlock s) (heldAt s) (e + 28) t b c) (first : ℕ) where
-    abbrev t′ : List ℕ
-    t′ = setAttributeFields t e first c
-
-    fits : e + 128 ≤ length t
-    fits = omega (arith, I .len, entry-high s S e E)
-
-    pub updated-length : length t′ ≡ length s
-    updated-length = fields-length t e first c fits ∙ I .len
-
+  -- after the steps, the chain of its attributes is the c blocks from b
+  module _ (t : List ℕ) (b c : ℕ) (I : Midway s (dirs s) (Owner s) (firstBlock s) (heldAt s) (e + 28) t b c) where
     steps-kept : Same s t e 128
     steps-kept =
         let h = E .aligned in
         same-inner s t (512 * (e / 512)) 512 e 128 (I .kept (e / 512) (E .within-tree)) (omega arith) (omega arith)
 
-    -- the entry's other bytes
-    front : Same s t′ e 32
-    front = same-then s t t′ e 32 (same-inner s t e 128 e 32 steps-kept (omega arith) (omega arith)) (fields-same t e first c fits e 32 (inl (omega arith)))
+    -- then bytes of the entry are changed
+    module _ (t′ : List ℕ) (A : Altered t t′ e) where
+      long : length t′ ≡ length s
+      long = A .size ∙ I .len
 
-    back : Same s t′ (e + 40) 88
-    back = same-then s t t′ (e + 40) 88 (same-inner s t e 128 (e + 40) 88 steps-kept (omega arith) (omega arith)) (fields-same t e first c fits (e + 40) 88 (inr (omega arith)))
+      front : Same s t′ e 32
+      front = same-then s t t′ e 32 (same-inner s t e 128 e 32 steps-kept (omega arith) (omega arith)) (A .beside e 32 (inl (omega arith)))
 
-    pub updated-type : typeOf t′ e ≡ typeOf s e
-    updated-type = same-byte s t′ e 32 e front (omega arith) (omega arith)
+      back : Same s t′ (e + 48) 80
+      back = same-then s t t′ (e + 48) 80 (same-inner s t e 128 (e + 48) 80 steps-kept (omega arith) (omega arith)) (A .beside (e + 48) 80 (inr (omega arith)))
 
-    pub updated-field : (i : ℕ) → i + 4 ≤ 32 → be32 t′ (e + i) ≡ be32 s (e + i)
-    updated-field i h = same-be32 s t′ e 32 (e + i) front (omega arith) (omega arith)
+      pub altered-type : typeOf t′ e ≡ typeOf s e
+      altered-type = same-byte s t′ e 32 e front (omega arith) (omega arith)
 
-    named-bytes : part t′ (e + 48) 80 ≡ part s (e + 48) 80
-    named-bytes = same-part s t′ (e + 40) 88 (e + 48) 80 back (omega arith) (omega arith) (omega (arith, entry-high s S e E)) updated-length
+      pub altered-field : (i : ℕ) → i + 4 ≤ 32 → be32 t′ (e + i) ≡ be32 s (e + i)
+      altered-field i h = same-be32 s t′ e 32 (e + i) front (omega arith) (omega arith)
 
-    updated-name : nameOf t′ e ≡ nameOf s e
-    unfolding nameOf
-    updated-name = rw named-bytes
+      named-bytes : part t′ (e + 48) 80 ≡ part s (e + 48) 80
+      named-bytes = same-part s t′ (e + 48) 80 (e + 48) 80 back (omega arith) (omega arith) (omega (arith, entry-high s S e E)) long
 
-    name-right : nameOk t′ e ≡ nameOk s e
-    unfolding nameOk
-    name-right = rw (updated-name, named-bytes)
+      altered-name : nameOf t′ e ≡ nameOf s e
+      unfolding nameOf
+      altered-name = rw named-bytes
 
-    pub updated-kept : EntryKept s t′ e
-    updated-kept =
-        let l = updated-length in
-        let h = entry-high s S e E in
-        record {
-          front = same-part s t′ e 32 e 32 front (omega arith) (omega arith) (omega arith) l;
-          back = same-part s t′ (e + 40) 88 (e + 40) 88 back (omega arith) (omega arith) (omega arith) l;
-          type = updated-type;
-          name = updated-name;
-          size = updated-field 8 (omega arith);
-          blocks = updated-field 12 (omega arith);
-        }
+      name-right : nameOk t′ e ≡ nameOk s e
+      unfolding nameOk
+      name-right = rw (altered-name, named-bytes)
 
-    -- only the entry's block is written, and the table's entries stay
-    pub updated-agree : Agree t t′ (e / 512 ∷ [])
-    unfolding setAttributeFields
-    updated-agree =
-        let l : length (bytes4 first ++ bytes4 c) ≡ 8 = simp (length-append, length-bytes4) in
-        slot-agree s S e E t (e + 32) (bytes4 first ++ bytes4 c) (I .len ∙ S .whole) (omega arith) (omega arith)
+      pub altered-kept : EntryKept s t′ e
+      altered-kept =
+          let h = entry-high s S e E in
+          record {
+            front = same-part s t′ e 32 e 32 front (omega arith) (omega arith) (omega arith) long;
+            type = altered-type;
+            name = altered-name;
+            size = altered-field 8 (omega arith);
+            blocks = altered-field 12 (omega arith);
+          }
 
-    pub updated-next : (y : ℕ) → y < 128 * tableBlocks (blockCount s) → next t′ y ≡ next t y
-    updated-next = before-next t t′ (blockCount s) (fields-same t e first c fits 0 (512 * rootBlock (blockCount s)) (inl (omega (arith, entry-low s S e E))))
+      -- the table's entries stay
+      pub altered-next : (y : ℕ) → y < 128 * tableBlocks (blockCount s) → next t′ y ≡ next t y
+      altered-next = before-next t t′ (blockCount s) (A .beside 0 (512 * rootBlock (blockCount s)) (inl (omega (arith, entry-low s S e E))))
 
-    module _ (small : first < 0x100000000) (right : AttributeFields first c) where
-      few : c < 0x100000000
-      few = ⊎-elim (λ w. omega arith) (λ w. omega arith) right
-
-      pub updated-first : attributeBlock t′ e ≡ first
-      updated-first = fields-first t e first c fits small
-
-      pub updated-size : attributeSize t′ e ≡ c
-      updated-size = fields-size t e first c fits few
-
-      pub updated-ok : fileOk s e ≡ true → fileOk t′ e ≡ true
+      altered-ok : AttributeFields (attributeBlock t′ e) (attributeSize t′ e) → fileOk s e ≡ true → fileOk t′ e ≡ true
       unfolding fileOk
-      updated-ok ok =
+      altered-ok right ok =
           let w = and-split (nameOk s e) _ ok in
           let v = and-split (attributesOk s e) _ (w .1) in
-          and-join (name-right ∙ w .0) (and-join (attributesOk-join t′ e (rw (updated-first, updated-size) right))
-          (rw (updated-field 4 (omega arith), updated-field 8 (omega arith), updated-field 12 (omega arith)) (v .1)))
+          and-join (name-right ∙ w .0) (and-join (attributesOk-join t′ e right)
+          (rw (altered-field 4 (omega arith), altered-field 8 (omega arith), altered-field 12 (omega arith)) (v .1)))
 
       own-same : heldAt t′ e ≡ heldAt s e
-      own-same = rw (own-held t′ e (E .aligned), own-held s e (E .aligned), updated-type, updated-field 12 (omega arith))
+      own-same = rw (own-held t′ e (E .aligned), own-held s e (E .aligned), altered-type, altered-field 12 (omega arith))
 
-      second-same : heldAt t′ (e + 28) ≡ c
-      second-same = second-held t′ e (E .aligned) ∙ (rw (updated-type, file)) ∙ updated-size
+      second-same : heldAt t′ (e + 28) ≡ attributeSize t′ e
+      second-same = second-held t′ e (E .aligned) ∙ (rw (altered-type, file))
+
+    -- the two fields are set
+    module _ (first : ℕ) where
+      abbrev set : List ℕ
+      set = setAttributeFields t e first c
+
+      fits : e + 128 ≤ length t
+      fits = omega (arith, I .len, entry-high s S e E)
+
+      updated : Altered t set e
+      updated = fields-altered t e first c fits
+
+      pub updated-type : typeOf set e ≡ typeOf s e
+      updated-type = altered-type set updated
+
+      pub updated-field : (i : ℕ) → i + 4 ≤ 32 → be32 set (e + i) ≡ be32 s (e + i)
+      updated-field = altered-field set updated
+
+      pub updated-kept : EntryKept s set e
+      updated-kept = altered-kept set updated
+
+      pub updated-next : (y : ℕ) → y < 128 * tableBlocks (blockCount s) → next set y ≡ next t y
+      updated-next = altered-next set updated
+
+      -- the flags stay, and only the entry's block is written
+      pub updated-flags : part set (e + 40) 4 ≡ part s (e + 40) 4
+      updated-flags =
+          let h = entry-high s S e E in
+          same-part s set (e + 40) 4 (e + 40) 4
+          (same-then s t set (e + 40) 4 (same-inner s t e 128 (e + 40) 4 steps-kept (omega arith) (omega arith)) (fields-same t e first c fits (e + 40) 4 (inr (omega arith))))
+          (omega arith) (omega arith) (omega arith) (long set updated)
+
+      pub updated-agree : Agree t set (e / 512 ∷ [])
+      unfolding setAttributeFields
+      updated-agree =
+          let l : length (bytes4 first ++ bytes4 c) ≡ 8 = simp (length-append, length-bytes4) in
+          slot-agree s S e E t (e + 32) (bytes4 first ++ bytes4 c) (I .len ∙ S .whole) (omega arith) (omega arith)
+
+      module _ (small : first < 0x100000000) (right : AttributeFields first c) where
+        few : c < 0x100000000
+        few = ⊎-elim (λ w. omega arith) (λ w. omega arith) right
+
+        pub updated-first : attributeBlock set e ≡ first
+        updated-first = fields-first t e first c fits small
+
+        pub updated-size : attributeSize set e ≡ c
+        updated-size = fields-size t e first c fits few
 
 -- a file, in slot k of the directory d
 module _ (s : List ℕ) (S : Sound s) (d : ℕ × ℕ) (di : In d (dirs s)) (k : ℕ) (k₁ : 1 ≤ k) (k₂ : k < 4 * sizeAt s (d .0) - 1)
     (file : isFile (typeOf s (slotAt (directory s (d .0)) k)) ≡ true)
-    (t : List ℕ) (b c : ℕ) (I : Midway s (dirs s) (Owner s) (firstBlock s) (heldAt s) (slotAt (directory s (d .0)) k + 28) t b c) (first : ℕ)
+    (t : List ℕ) (b c : ℕ) (I : Midway s (dirs s) (Owner s) (firstBlock s) (heldAt s) (slotAt (directory s (d .0)) k + 28) t b c)
   where
     abbrev e : ℕ
     e = slotAt (directory s (d .0)) k
@@ -173,31 +204,39 @@ module _ (s : List ℕ) (S : Sound s) (d : ℕ × ℕ) (di : In d (dirs s)) (k :
     E : Entry s e
     E = slot-entry s S d di k (omega arith)
 
-    abbrev changed : List ℕ
-    changed = setAttributeFields t e first c
+    module _ (t′ : List ℕ) (A : Altered t t′ e) where
+      outside : (a w : ℕ) → (a + w ≤ e) ⊎ (e + 128 ≤ a) → Same t t′ a w
+      outside a w h = A .beside a w (⊎-elim (λ x. inl (omega arith)) (λ x. inr (omega arith)) h)
 
-    high : e + 128 ≤ length t
-    high = omega (arith, I .len, entry-high s S e E)
+      pub altered-slot : OneSlot s (dirs s) t′ e
+      altered-slot = one-slot s S d di k k₁ k₂ (firstBlock s) (heldAt s) (e + 28) t b c I t′ (A .size) outside
 
-    outside : (a w : ℕ) → (a + w ≤ e) ⊎ (e + 128 ≤ a) → Same t changed a w
-    outside a w h = fields-same t e first c high a w (⊎-elim (λ x. inl (omega arith)) (λ x. inr (omega arith)) h)
+      pub altered-sound : AttributeFields (attributeBlock t′ e) (attributeSize t′ e) → attributeSize t′ e ≡ c → (0 < c → attributeBlock t′ e ≡ b) → Sound t′
+      altered-sound right many starts =
+          let type = altered-type s S e E file t b c I t′ A in
+          let now : isFile (typeOf t′ e) ≡ true = rw type file in
+          let away : e ≢ e + 28 = λ q. omega arith in
+          midway-end s S d di k k₁ k₂ (firstBlock s) (heldAt s) (e + 28) t b c I t′ (A .size) outside
+          (file-no-dir (typeOf s e) file) (file-no-dir (typeOf t′ e) now)
+          (slot-ok-file t′ e now (altered-ok s S e E file t b c I t′ A right (file-slot-ok s e file (slot-ok s S d di k k₁ k₂))))
+          (λ u j j₁ j₂ ne uj. rw (altered-name s S e E file t b c I t′ A) (names-differ s S d di k j k₁ j₁ k₂ j₂ (λ q. ne (sym q)) (file-used-type (typeOf s e) file) uj))
+          (λ a O p q. (over-other (e + 28) c (heldAt s) a q, over-other (e + 28) b (firstBlock s) a q)) (
+            own-same s S e E file t b c I t′ A ∙ sym (over-other (e + 28) c (heldAt s) e away),
+            λ pos. altered-field s S e E file t b c I t′ A 4 (omega arith) ∙ sym (over-other (e + 28) b (firstBlock s) e away),
+          ) (
+            second-same s S e E file t b c I t′ A ∙ many ∙ sym (over-same (e + 28) c (heldAt s)),
+            λ pos. second-first t′ e ∙ starts (rw (over-same (e + 28) c (heldAt s)) at pos) ∙ sym (over-same (e + 28) b (firstBlock s)),
+          )
 
-    pub updated-slot : OneSlot s (dirs s) changed e
-    updated-slot = one-slot s S d di k k₁ k₂ (firstBlock s) (heldAt s) (e + 28) t b c I changed (fields-length t e first c high) outside
+    module _ (first : ℕ) where
+      abbrev changed : List ℕ
+      changed = setAttributeFields t e first c
 
-    pub updated-sound : first < 0x100000000 → AttributeFields first c → (0 < c → first ≡ b) → Sound changed
-    updated-sound small right starts =
-        let type = updated-type s S e E file t b c I first in
-        let now : isFile (typeOf changed e) ≡ true = rw type file in
-        let away : e ≢ e + 28 = λ q. omega arith in
-        midway-end s S d di k k₁ k₂ (firstBlock s) (heldAt s) (e + 28) t b c I changed (fields-length t e first c high) outside
-        (file-no-dir (typeOf s e) file) (file-no-dir (typeOf changed e) now)
-        (slot-ok-file changed e now (updated-ok s S e E file t b c I first small right (file-slot-ok s e file (slot-ok s S d di k k₁ k₂))))
-        (λ u j j₁ j₂ ne uj. rw (updated-name s S e E file t b c I first) (names-differ s S d di k j k₁ j₁ k₂ j₂ (λ q. ne (sym q)) (file-used-type (typeOf s e) file) uj))
-        (λ a A p q. (over-other (e + 28) c (heldAt s) a q, over-other (e + 28) b (firstBlock s) a q)) (
-          own-same s S e E file t b c I first small right ∙ sym (over-other (e + 28) c (heldAt s) e away),
-          λ pos. updated-field s S e E file t b c I first 4 (omega arith) ∙ sym (over-other (e + 28) b (firstBlock s) e away),
-        ) (
-          second-same s S e E file t b c I first small right ∙ sym (over-same (e + 28) c (heldAt s)),
-          λ pos. second-first changed e ∙ updated-first s S e E file t b c I first small right ∙ starts (rw (over-same (e + 28) c (heldAt s)) at pos) ∙ sym (over-same (e + 28) b (firstBlock s)),
-        )
+      pub updated-slot : OneSlot s (dirs s) changed e
+      updated-slot = altered-slot changed (updated s S e E file t b c I first)
+
+      pub updated-sound : first < 0x100000000 → AttributeFields first c → (0 < c → first ≡ b) → Sound changed
+      updated-sound small right starts =
+          let p = updated-first s S e E file t b c I first small right in
+          let q = updated-size s S e E file t b c I first small right in
+          altered-sound changed (updated s S e E file t b c I first) (rw (p, q) right) q (λ pos. p ∙ starts pos)

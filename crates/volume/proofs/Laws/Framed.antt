@@ -1,37 +1,38 @@
 -- THE FRAME LAW: an accepted change on a sound image changes no byte outside its named blocks, and these are below n.
 use Prim.Native.Nat.{ℕ, _+_, _-_, _*_, _/_, _%_, _≤_, _<_, max}
 use mathlib.Core.Path.{_≡_, refl, _∙_, subst}
-use mathlib.Core.Bool.{Bool, true, _&&_}
+use mathlib.Core.Bool.{Bool, true}
 use mathlib.Core.List.{List, [], _∷_, _++_, append-nil}
 use mathlib.Core.Logic.{inl, inr, ⊎-elim}
 use native.Mathlib.Omega.{arith}
-use borrow.Author.Tests.{leb-true}
 use lib.ListN.{length, getD, take, length-append, length-take}
-use lib.Dec.{eqb, leb}
-use Rattle.layout.specs.Limits.{maxDirectory, maxLevels}
-use Rattle.layout.specs.Lists.{has, lastOr, within}
+use lib.Dec.{eqb}
+use Rattle.layout.specs.Limits.{maxLevels}
+use Rattle.layout.specs.Lists.{has, lastOr}
 use Rattle.layout.specs.Bytes.{splice, bytes4, bytes8, zeros}
 use Rattle.layout.specs.Geometry.{blockCount, blocksFor}
 use Rattle.layout.specs.Table.{next, freeBlocks}
-use Rattle.layout.specs.Directory.{slotAt, typeOf, firstBlock, sizeOf, blocksOf, isFile, isDirectory, directory, fileBlocks, attributeBlocks, freeSlot, goodName}
+use Rattle.layout.specs.Directory.{slotAt, typeOf, firstBlock, sizeOf, blocksOf, isFile, isDirectory, directory, fileBlocks, attributeBlocks, freeSlot}
 use Rattle.layout.specs.Check.{check}
-use Rattle.layout.specs.Paths.{parts, pathOk, leading, lastPart, shallow, home, pathSlot, entryOf, directoryRefusal}
+use Rattle.layout.specs.Paths.{parts, leading, lastPart, shallow, home, pathSlot, entryOf, directoryRefusal}
 use Rattle.volume.specs.Entries.{entryBytes, directoryMade, released, grown, entriesNamed, blocksNamed}
 use Rattle.volume.specs.Create.{place, placeRefusal, createRefusal, createImage, createNamed}
 use Rattle.volume.specs.Write.{put, written, changedEntries, newSize, needed, newBlocks, setFile, writeAt, writeRefusal, writeNamed}
 use Rattle.volume.specs.Delete.{allBlocks, deleteAt, deleteNamed}
 use Rattle.volume.specs.Attributes.{newAttributes, setAttributesNamed, clearAttributesNamed}
+use Rattle.volume.specs.Flags.{clearFlagsNamed}
 use Rattle.volume.specs.Directories.{createDirectoryRefusal, newDirectoryBlocks, createDirectoryImage, createDirectoryNamed, deleteDirectoryRefusal}
-use Rattle.volume.specs.Change.{Change, create, write, delete, createDirectory, deleteDirectory, setAttributes, clearAttributes, refusal, after, named}
+use Rattle.volume.specs.Change.{Change, create, write, delete, createDirectory, deleteDirectory, setAttributes, clearAttributes, clearFlags, refusal, after, named}
 use Rattle.volume.proofs.Laws.Entries.{entry-length}
 use Rattle.volume.proofs.Laws.Frame.{entries-low, blocks-in, blocks-below, changed-first, changed-below, written-in, taken-written, released-agree, grown-agree, put-agree}
-use Rattle.volume.proofs.Laws.Places.{At, file-at-path, directory-at-path, WriteGiven, write-given, SetGiven, set-path, set-given, path-levels, path-name, place-is, place-home, place-free}
+use Rattle.volume.proofs.Laws.Places.{create-given, CreateDirectoryGiven, create-directory-given, At, file-at-path, directory-at-path, WriteGiven, write-given, SetGiven, set-path, set-given, path-levels, path-name, place-is, place-home, place-free}
 use Rattle.volume.proofs.Laws.Unchanged.{Bounded, slot-agree, entry-bounded}
 use Rattle.volume.proofs.Laws.Delete.{deleted-bounded}
 use Rattle.volume.proofs.Laws.SetClear.{cleared-bounded, set-bounded}
+use Rattle.volume.proofs.Laws.Flags.{flags-bounded}
 use Rattle.volume.proofs.Laws.Space.{new-fresh, new-length, all-below, last-below}
 use Rattle.layout.proofs.Laws.Bytes.{length-bytes4, length-bytes8, length-zeros}
-use Rattle.layout.proofs.Laws.Tests.{and-split, require-zero, firstOf-zero, within-split}
+use Rattle.layout.proofs.Laws.Tests.{firstOf-zero}
 use Rattle.layout.proofs.Laws.Names.{padded-length}
 use Rattle.layout.proofs.Laws.Lists.{In, in-left, in-right, in-append, in-has-eqb, has-eqb-in, in-single, getD-in}
 use Rattle.layout.proofs.Laws.Chains.{Chain, in-chain}
@@ -81,14 +82,13 @@ module _ (s : List ℕ) (S : Sound s) where
       let w = place-free s path r in
       rw (place-is s path r) (slot-entry s S (home s path, maxLevels - length (leading (parts path))) (place-home s path r h) (freeSlot s (directory s (home s path))) (omega (arith, w .1)))
 
-  create-framed : (path : List ℕ) (type user group permissions flags time : ℕ) → createRefusal s path type ≡ 0 → Framed s (create path type user group permissions flags time)
-  unfolding after named createImage createNamed createRefusal
+  create-framed : (path : List ℕ) (type user group permissions flags time : ℕ) → createRefusal s path type flags ≡ 0 → Framed s (create path type user group permissions flags time)
+  unfolding after named createImage createNamed
   create-framed path type user group permissions flags time r =
-      let a = require-zero (pathOk path && isFile type) 8 _ r in
-      let h = require-zero (shallow (leading (parts path))) 16 _ (a .1) in
-      let good = path-name path (and-split (pathOk path) (isFile type) (a .0) .0) in
+      let G = create-given s path type flags r in
+      let good = path-name path (G .good) in
       let l = entry-length (lastPart (parts path)) (padded-length (lastPart (parts path)) good) type user group permissions 0 0 0 time flags in
-      let E = place-entry path (h .1) (h .0) in
+      let E = place-entry path (G .placed) (G .short) in
       framed-by (place s path) E (create path type user group permissions flags time) [] refl
       (slot-agree s S (place s path) E s (place s path) (entryBytes type user group permissions 0 0 0 time flags (lastPart (parts path))) (S .whole) (omega arith) (omega arith)) (λ b i. absurd i)
 
@@ -113,6 +113,12 @@ module _ (s : List ℕ) (S : Sound s) where
         let N = A .named in
         bounded-framed (entryOf isFile s path) (at-entry isFile path A) (clearAttributes path) (blocksNamed (attributeBlocks s (entryOf isFile s path))) refl
         (cleared-bounded s S d (A .home-in) k (N .low) (N .high) (N .typed))
+
+    flags-framed : Framed s (clearFlags path)
+    unfolding after named clearFlagsNamed entryOf
+    flags-framed =
+        let N = A .named in
+        bounded-framed (entryOf isFile s path) (at-entry isFile path A) (clearFlags path) [] refl (flags-bounded s S d (A .home-in) k (N .low) (N .high) (N .typed))
 
     set-framed : (bytes : List ℕ) → SetGiven s (entryOf isFile s path) (length bytes) → Framed s (setAttributes path bytes)
     unfolding after named setAttributesNamed entryOf
@@ -159,24 +165,9 @@ module _ (s : List ℕ) (S : Sound s) where
       bounded-framed e E (deleteDirectory path) (blocksNamed bs) refl
       (entry-bounded s S e E (released s n bs) bs (released-agree n (S .least) bs s (S .whole) below) below e (zeros 128) (omega arith) (omega (arith, length-zeros 128)))
 
-  module _ (path : List ℕ) (type user group permissions flags time d : ℕ) (r : createDirectoryRefusal s path type d ≡ 0) where
-    record CreateDirectoryGiven : Type 0 where
-      good : goodName (lastPart (parts path)) ≡ true
-      entry : Entry s (place s path)
-      some : 1 ≤ d
-      room : d ≤ length (freeBlocks (next s) (blockCount s))
-
-    create-directory-given : CreateDirectoryGiven
-    unfolding createDirectoryRefusal
-    create-directory-given =
-        let a = require-zero (pathOk path && (isDirectory type && within 1 maxDirectory d)) 8 _ r in
-        let b = and-split (pathOk path) _ (a .0) in
-        let f = and-split (isDirectory type) _ (b .1) in
-        let h = require-zero (shallow (parts path)) 16 _ (a .1) in
-        let i = firstOf-zero (placeRefusal s path) _ (h .1) in
-        let m = require-zero (leb d (length (freeBlocks (next s) (blockCount s)))) 13 _ (i .1) in
-        let l = path-levels path (b .0) (h .0) in
-        record { good = path-name path (b .0); entry = place-entry path (i .0) (l .0); some = within-split 1 maxDirectory d (f .1) .0; room = leb-true _ _ (m .0) }
+  module _ (path : List ℕ) (type user group permissions flags time d : ℕ) (r : createDirectoryRefusal s path type flags d ≡ 0) where
+    new-directory : CreateDirectoryGiven s path type flags d
+    new-directory = create-directory-given s path type flags d r
 
     abbrev taken-blocks : List ℕ
     taken-blocks = take d (freeBlocks (next s) n)
@@ -185,7 +176,7 @@ module _ (s : List ℕ) (S : Sound s) where
     fresh-taken = free-fresh s S d
 
     many-taken : length taken-blocks ≡ d
-    many-taken = length-take d (freeBlocks (next s) n) ∙ omega (arith, create-directory-given .room)
+    many-taken = length-take d (freeBlocks (next s) n) ∙ omega (arith, new-directory .room)
 
     -- bytes in a taken block
     in-taken : (t : List ℕ) (q at : ℕ) (p ns : List ℕ) → length t ≡ 512 * n → In q taken-blocks → 512 * q ≤ at → at + length p ≤ 512 * q + 512 → ((x : ℕ) → In x taken-blocks → In x ns) → Agree t (splice t at p) ns
@@ -199,8 +190,8 @@ module _ (s : List ℕ) (S : Sound s) where
     create-directory-framed : Framed s (createDirectory path type user group permissions flags time d)
     unfolding after named createDirectoryImage createDirectoryNamed newDirectoryBlocks directoryMade slotAt changedEntries
     create-directory-framed =
-        let g = create-directory-given in
-        let E = g .entry in
+        let g = new-directory in
+        let E = place-entry path (g .placed) (path-levels path (g .good) (g .deep) .0) in
         let e = place s path in
         let name = lastPart (parts path) in
         let new = taken-blocks in
@@ -208,20 +199,20 @@ module _ (s : List ℕ) (S : Sound s) where
         let rest : List ℕ = blocksNamed new in
         let ns : List ℕ = e / 512 ∷ rest in
         let sub : (x : ℕ) → In x new → In x ns = λ x i. inr (blocks-in new x i) in
-        let eighty = padded-length name (g .good) in
+        let eighty = padded-length name (path-name path (g .good)) in
         let L = many-taken in
         let larger = grown s n 0 new in
         let a : Agree s larger ns = agree-more (grown-agree n (S .least) new s 0 (S .whole) (omega (arith, S .least)) (fresh-taken .below)) (λ x i. inr (same-entries x i)) in
         let p₁ : List ℕ = entryBytes 1 0 0 0 b₁ (home s path) (length new) time 0 name in
         let l₁ = entry-length name eighty 1 0 0 0 b₁ (home s path) (length new) time 0 in
         let t₁ = splice larger (512 * b₁) p₁ in
-        let b : Agree s t₁ ns = agree-then a (in-taken larger b₁ (512 * b₁) p₁ ns (a .size ∙ S .whole) (getD-in new 0 0 (omega (arith, L, g .some))) (omega arith) (omega arith) sub) (λ x i. i) (λ x i. i) in
+        let b : Agree s t₁ ns = agree-then a (in-taken larger b₁ (512 * b₁) p₁ ns (a .size ∙ S .whole) (getD-in new 0 0 (omega (arith, L, g .least))) (omega arith) (omega arith) sub) (λ x i. i) (λ x i. i) in
         let last : ℕ = 512 * getD new ((4 * length new - 1) / 4) 0 + 128 * ((4 * length new - 1) % 4) in
         let q : ℕ = getD new ((4 * length new - 1) / 4) 0 in
         let ends : List ℕ = 0xFF ∷ [] in
         let l₂ : length ends ≡ 1 = refl in
         let made = splice t₁ last ends in
-        let c : Agree s made ns = agree-then b (in-taken t₁ q last ends ns (b .size ∙ S .whole) (getD-in new ((4 * length new - 1) / 4) 0 (omega (arith, L, g .some))) (omega arith) (omega arith) sub) (λ x i. i) (λ x i. i) in
+        let c : Agree s made ns = agree-then b (in-taken t₁ q last ends ns (b .size ∙ S .whole) (getD-in new ((4 * length new - 1) / 4) 0 (omega (arith, L, g .least))) (omega arith) (omega arith) sub) (λ x i. i) (λ x i. i) in
         let p₂ : List ℕ = entryBytes type user group permissions b₁ 0 d time flags name in
         let l₃ = entry-length name eighty type user group permissions b₁ 0 d time flags in
         framed-by e E (createDirectory path type user group permissions flags time d) rest refl
@@ -305,3 +296,4 @@ frame s (createDirectory path type user group permissions flags time d) ok r = c
 frame s (deleteDirectory path) ok r = delete-directory-framed s (sound s ok) path r
 frame s (setAttributes path bytes) ok r = set-framed s (sound s ok) path (file-at-path s path (set-path s path (length bytes) r)) bytes (set-given s path (length bytes) r)
 frame s (clearAttributes path) ok r = clear-framed s (sound s ok) path (file-at-path s path r)
+frame s (clearFlags path) ok r = flags-framed s (sound s ok) path (file-at-path s path r)

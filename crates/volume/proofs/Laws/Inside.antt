@@ -1,46 +1,39 @@
 -- One path inside the other (L13): two changes on such paths are not both accepted in both orders.
 use Prim.Native.Nat.{ℕ}
 use mathlib.Core.Path.{_≡_, sym, ap}
-use mathlib.Core.Bool.{true, false, _&&_}
+use mathlib.Core.Bool.{true, false}
 use mathlib.Core.List.{List}
 use mathlib.Core.Logic.{_≢_}
 use native.Mathlib.Omega.{arith}
 use borrow.Author.Tests.{ne-eqb}
 use lib.ListN.{length}
 use Rattle.layout.specs.Claims.{isInside}
-use Rattle.layout.specs.Limits.{maxDirectory}
-use Rattle.layout.specs.Lists.{within}
 use Rattle.layout.specs.Directory.{slotAt, typeOf, isFile, isDirectory, directory}
 use Rattle.layout.specs.Check.{check}
-use Rattle.layout.specs.Paths.{parts, pathOk, leading, lastPart, shallow, home, pathSlot, directoryRefusal}
-use Rattle.volume.specs.Create.{placeRefusal, createRefusal}
-use Rattle.volume.specs.Directories.{createDirectoryRefusal, deleteDirectoryRefusal}
-use Rattle.volume.specs.Change.{Change, create, write, delete, createDirectory, deleteDirectory, setAttributes, clearAttributes, refusal, after}
+use Rattle.layout.specs.Paths.{parts, pathOk, lastPart, shallow, home, pathSlot, directoryRefusal}
+use Rattle.volume.specs.Create.{placeRefusal}
+use Rattle.volume.specs.Directories.{deleteDirectoryRefusal}
+use Rattle.volume.specs.Change.{Change, create, write, delete, createDirectory, deleteDirectory, setAttributes, clearAttributes, clearFlags, refusal, after}
 use Rattle.volume.specs.Claims.{Apart}
 use Rattle.volume.specs.Views.{Folder, Maybe, nothing, just, folderAt, subject, madeFolder}
-use Rattle.volume.proofs.Laws.Places.{At, file-at-path, directory-at-path, place-there, place-new, write-given, set-path}
+use Rattle.volume.proofs.Laws.Places.{create-given, create-directory-given, At, file-at-path, directory-at-path, place-there, place-new, write-given, set-path}
 use Rattle.volume.proofs.Laws.Acts.{acts}
-use Rattle.layout.proofs.Laws.Tests.{and-split, is-false, require-zero, firstOf-zero}
+use Rattle.layout.proofs.Laws.Tests.{is-false, require-zero, firstOf-zero}
 use Rattle.layout.proofs.Laws.Paths.{path-named}
 use Rattle.layout.proofs.Laws.Inside.{outer-directory, directory-used-type, one-kind}
 use Rattle.layout.proofs.Laws.Sound.{Sound, sound}
 
 -- what an accepted change has of its path
 led : (s : List ℕ) (c : Change) → refusal s c ≡ 0 → (pathOk (subject c) ≡ true) × (home s (subject c) ≢ 0)
-unfolding refusal subject createRefusal createDirectoryRefusal deleteDirectoryRefusal
-led s (create path type user group permissions flags time) r =
-    let a = require-zero (pathOk path && isFile type) 8 _ r in
-    let b = require-zero (shallow (leading (parts path))) 16 _ (a .1) in
-    (and-split (pathOk path) (isFile type) (a .0) .0, place-there s path (b .1))
+unfolding refusal subject deleteDirectoryRefusal
+led s (create path type user group permissions flags time) r = let G = create-given s path type flags r in (G .good, place-there s path (G .placed))
 led s (write path offset bytes time) r = let A = write-given s path offset (length bytes) r .there in (A .good, A .there)
 led s (delete path) r = let A = file-at-path s path r in (A .good, A .there)
-led s (createDirectory path type user group permissions flags time d) r =
-    let a = require-zero (pathOk path && (isDirectory type && within 1 maxDirectory d)) 8 _ r in
-    let b = require-zero (shallow (parts path)) 16 _ (a .1) in
-    (and-split (pathOk path) _ (a .0) .0, place-there s path (firstOf-zero (placeRefusal s path) _ (b .1) .0))
+led s (createDirectory path type user group permissions flags time d) r = let G = create-directory-given s path type flags d r in (G .good, place-there s path (G .placed))
 led s (deleteDirectory path) r = let A = directory-at-path s path (firstOf-zero (directoryRefusal s path) _ r .0) in (A .good, A .there)
 led s (setAttributes path bytes) r = let A = file-at-path s path (set-path s path (length bytes) r) in (A .good, A .there)
 led s (clearAttributes path) r = let A = file-at-path s path r in (A .good, A .there)
+led s (clearFlags path) r = let A = file-at-path s path r in (A .good, A .there)
 
 -- where there is a directory, no file is
 directory-no-file : (s : List ℕ) → Sound s → (path : List ℕ) → At isFile s path → pathSlot isDirectory s path ≢ 0 → ⊥
@@ -69,18 +62,15 @@ deleted-none s path ok r ne =
 
 -- so a change of a path is not accepted where the path is a directory, before the change and after it
 blocked : (s : List ℕ) → check s ≡ 0 → (c : Change) → refusal s c ≡ 0 → pathSlot isDirectory s (subject c) ≢ 0 → pathSlot isDirectory (after s c) (subject c) ≢ 0 → ⊥
-unfolding refusal subject createRefusal createDirectoryRefusal
-blocked s ok (create path type user group permissions flags time) r was now =
-    directory-no-place s path (require-zero (shallow (leading (parts path))) 16 _ (require-zero (pathOk path && isFile type) 8 _ r .1) .1) was
+unfolding refusal subject
+blocked s ok (create path type user group permissions flags time) r was now = directory-no-place s path (create-given s path type flags r .placed) was
 blocked s ok (write path offset bytes time) r was now = directory-no-file s (sound s ok) path (write-given s path offset (length bytes) r .there) was
 blocked s ok (delete path) r was now = directory-no-file s (sound s ok) path (file-at-path s path r) was
-blocked s ok (createDirectory path type user group permissions flags time d) r was now =
-    let a = require-zero (pathOk path && (isDirectory type && within 1 maxDirectory d)) 8 _ r in
-    let b = require-zero (shallow (parts path)) 16 _ (a .1) in
-    directory-no-place s path (firstOf-zero (placeRefusal s path) _ (b .1) .0) was
+blocked s ok (createDirectory path type user group permissions flags time d) r was now = directory-no-place s path (create-directory-given s path type flags d r .placed) was
 blocked s ok (deleteDirectory path) r was now = deleted-none s path ok r now
 blocked s ok (setAttributes path bytes) r was now = directory-no-file s (sound s ok) path (file-at-path s path (set-path s path (length bytes) r)) was
 blocked s ok (clearAttributes path) r was now = directory-no-file s (sound s ok) path (file-at-path s path r) was
+blocked s ok (clearFlags path) r was now = directory-no-file s (sound s ok) path (file-at-path s path r) was
 
 -- d is accepted before c and after it: it is not inside c's path
 outside : (s : List ℕ) → check s ≡ 0 → (c d : Change) → refusal s c ≡ 0 → refusal s d ≡ 0 → refusal (after s c) d ≡ 0 → subject d ≢ subject c → isInside (subject d) (subject c) ≡ false

@@ -8,16 +8,17 @@ use native.Mathlib.Omega.{arith}
 use lib.ListN.{length}
 use lib.Dec.{eqb, leb}
 use borrow.Author.Tests.{eqb-true, eqb-false, not-true, ne-eqb, leb-true, le-leb}
-use Rattle.layout.specs.Limits.{maxLevels, maxData, maxAttributes}
-use Rattle.layout.specs.Lists.{every}
+use Rattle.layout.specs.Limits.{maxLevels, maxDirectory, maxData, maxAttributes}
+use Rattle.layout.specs.Lists.{every, within}
 use Rattle.layout.specs.Directory.{slotAt, typeOf, sizeOf, isUsed, isFile, isDirectory, nameOf, goodName, freeSlot, slotOf, directory, dirs}
 use Rattle.layout.specs.Paths.{parts, pathOk, leading, lastPart, shallow, home, pathSlot, entryOf, fileRefusal, directoryRefusal}
 use Rattle.layout.specs.Geometry.{blockCount}
 use Rattle.layout.specs.Table.{next, freeBlocks}
 use Rattle.volume.specs.Write.{needed, writeAtRefusal, writeRefusal}
 use Rattle.volume.specs.Attributes.{emptied, setAttributesRefusal}
-use Rattle.volume.specs.Create.{placeRefusal, place, createSlot}
-use Rattle.layout.proofs.Laws.Tests.{and-split, require-zero, firstOf-zero}
+use Rattle.volume.specs.Create.{placeRefusal, newRefusal, createRefusal, place, createSlot}
+use Rattle.volume.specs.Directories.{createDirectoryRefusal}
+use Rattle.layout.proofs.Laws.Tests.{and-split, require-zero, firstOf-zero, within-split}
 use Rattle.layout.proofs.Laws.Lists.{In}
 use Rattle.layout.proofs.Laws.Trees.{sizeAt}
 use Rattle.layout.proofs.Laws.Files.{free-slot}
@@ -87,6 +88,51 @@ module _ (s path : List ℕ) (ok : placeRefusal s path ≡ 0) where
   place-new j h g u q =
       slot-unnamed isUsed s b (lastPart (parts path)) (place-given .none) j
       (record { low = h; high = g; typed = rw (ne-eqb (typeOf s (slotAt (directory s b) j)) 0 u); named = sym q })
+
+-- what an accepted create has, of a file
+pub record CreateGiven (s path : List ℕ) (type flags : ℕ) : Type 0 where
+  pub good : pathOk path ≡ true
+  pub file : isFile type ≡ true
+  pub short : shallow (leading (parts path)) ≡ true
+  pub flagless : flags ≡ 0
+  pub placed : placeRefusal s path ≡ 0
+
+new-given : (s path : List ℕ) (flags : ℕ) → newRefusal s path flags ≡ 0 → (flags ≡ 0) × (placeRefusal s path ≡ 0)
+unfolding newRefusal
+new-given s path flags r = let a = require-zero (eqb flags 0) 25 _ r in (eqb-true _ _ (a .0), a .1)
+
+pub create-given : (s path : List ℕ) (type flags : ℕ) → createRefusal s path type flags ≡ 0 → CreateGiven s path type flags
+unfolding createRefusal
+create-given s path type flags r =
+    let a = require-zero (pathOk path && isFile type) 8 _ r in
+    let b = and-split (pathOk path) (isFile type) (a .0) in
+    let h = require-zero (shallow (leading (parts path))) 16 _ (a .1) in
+    let n = new-given s path flags (h .1) in
+    record { good = b .0; file = b .1; short = h .0; flagless = n .0; placed = n .1 }
+
+-- and of a directory of d blocks
+pub record CreateDirectoryGiven (s path : List ℕ) (type flags d : ℕ) : Type 0 where
+  pub good : pathOk path ≡ true
+  pub dir : isDirectory type ≡ true
+  pub least : 1 ≤ d
+  pub most : d ≤ maxDirectory
+  pub deep : shallow (parts path) ≡ true
+  pub flagless : flags ≡ 0
+  pub placed : placeRefusal s path ≡ 0
+  pub room : d ≤ length (freeBlocks (next s) (blockCount s))
+
+pub create-directory-given : (s path : List ℕ) (type flags d : ℕ) → createDirectoryRefusal s path type flags d ≡ 0 → CreateDirectoryGiven s path type flags d
+unfolding createDirectoryRefusal
+create-directory-given s path type flags d r =
+    let a = require-zero (pathOk path && (isDirectory type && within 1 maxDirectory d)) 8 _ r in
+    let b = and-split (pathOk path) _ (a .0) in
+    let f = and-split (isDirectory type) _ (b .1) in
+    let g = within-split 1 maxDirectory d (f .1) in
+    let h = require-zero (shallow (parts path)) 16 _ (a .1) in
+    let i = firstOf-zero (newRefusal s path flags) _ (h .1) in
+    let n = new-given s path flags (i .0) in
+    let m = require-zero (leb d (length (freeBlocks (next s) (blockCount s)))) 13 _ (i .1) in
+    record { good = b .0; dir = f .0; least = g .0; most = g .1; deep = h .0; flagless = n .0; placed = n .1; room = leb-true _ _ (m .0) }
 
 -- the entry that an accepted path names
 pub record At (type : ℕ → Bool) (s path : List ℕ) : Type 0 where

@@ -8,7 +8,7 @@ use native.Mathlib.Omega.{arith}
 use lib.ListN.{length, getD, length-append}
 use lib.Dec.{eqb}
 use Rattle.layout.specs.Lists.{joined}
-use Rattle.layout.specs.Bytes.{be32, bytes4, block, zeros}
+use Rattle.layout.specs.Bytes.{be32, bytes4, part, block, zeros}
 use Rattle.layout.specs.Geometry.{blockCount, tableBlocks}
 use Rattle.layout.specs.Table.{next, chain}
 use Rattle.layout.specs.Directory.{slotAt, typeOf, firstBlock, attributeBlock, attributeSize, attributeBlocks, attributes, isFile, directory, dirs}
@@ -21,7 +21,7 @@ use Rattle.volume.proofs.Laws.Table.{grown-used}
 use Rattle.volume.proofs.Laws.Frame.{blocks-not}
 use Rattle.volume.proofs.Laws.Data.{joined-put}
 use Rattle.volume.proofs.Laws.Places.{SetGiven, file-at-path, set-path, set-given}
-use Rattle.volume.proofs.Laws.Fields.{EntryKept, fields-same, updated-type, updated-field, updated-kept, updated-agree, updated-next, updated-first, updated-size, updated-slot, updated-sound}
+use Rattle.volume.proofs.Laws.Fields.{EntryKept, fields-same, updated-type, updated-field, updated-kept, updated-flags, updated-agree, updated-next, updated-first, updated-size, updated-slot, updated-sound}
 use Rattle.volume.proofs.Laws.Attributes.{old-below, old-above, old-apart, old-outside, freeing, emptied-length, emptied-agree, emptied-next, emptied-zero, emptied-used, set-fresh, set-length, set-bytes-fit, set-linked, set-chain, set-outside, filling, first-small, set-fields, larger-length, later-agree, full-agree, both-below, both-apart, full-next, full-kept}
 use Rattle.volume.proofs.Laws.Unchanged.{Bounded, entry-bounded, value-kept, block-kept, file-kept}
 use Rattle.layout.proofs.Laws.Bytes.{length-bytes4, splice-whole}
@@ -123,6 +123,10 @@ module _ (s : List ℕ) (S : Sound s) (d : ℕ × ℕ) (di : In d (dirs s)) (k :
     unfolding clearAttributesAt
     cleared-entry = updated-kept s S e E file (emptied s e) z 0 I 0
 
+    pub cleared-flags : part (clearAttributesAt s e) (e + 40) 4 ≡ part s (e + 40) 4
+    unfolding clearAttributesAt
+    cleared-flags = updated-flags s S e E file (emptied s e) z 0 I 0
+
     old-far : (q : ℕ) → In q old → In q (e / 512 ∷ []) → ⊥
     old-far q i (inl y) = old-outside s S e E file q i (rw y (E .within-tree))
 
@@ -198,6 +202,10 @@ module _ (s : List ℕ) (S : Sound s) (d : ℕ × ℕ) (di : In d (dirs s)) (k :
       pub set-entry : EntryKept s (setAttributesAt s e bytes) e
       unfolding setAttributesAt
       set-entry = updated-kept s S e E file full first (length new) J first
+
+      pub set-flags : part (setAttributesAt s e bytes) (e + 40) 4 ≡ part s (e + 40) 4
+      unfolding setAttributesAt
+      set-flags = updated-flags s S e E file full first (length new) J first
 
       -- an old block that is not taken again is zero
       pub set-zero : (q : ℕ) → In q (attributeBlocks s e) → (In q (newAttributes s e (length bytes)) → ⊥) → block (setAttributesAt s e bytes) q ≡ zeros 512

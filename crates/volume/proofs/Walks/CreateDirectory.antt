@@ -5,8 +5,8 @@ use mathlib.Core.Bool.{true, false, _&&_, and-false}
 use mathlib.Core.List.{List, [], _∷_, _++_}
 use native.Mathlib.Omega.{arith}
 use lib.ListN.{length, getD, take}
-use lib.Dec.{leb}
-use borrow.Author.Tests.{le-leb, lt-leb, leb-true}
+use lib.Dec.{eqb, leb}
+use borrow.Author.Tests.{le-leb, lt-leb}
 use Rattle.layout.specs.Limits.{maxDirectory}
 use Rattle.layout.specs.Lists.{within}
 use Rattle.layout.specs.Refusals.{require, firstOf}
@@ -19,81 +19,60 @@ use Rattle.layout.specs.Paths.{parts, pathOk, lastPart, shallow, home}
 use Rattle.layout.specs.Walks.Looks.{wholeRefusal}
 use Rattle.layout.specs.Walks.Paths.{PathGiven}
 use Rattle.layout.specs.Walks.Slots.{entryAt}
-use Rattle.layout.proofs.Laws.Tests.{and-split, require-zero, firstOf-zero, firstOf-refused, within-split}
+use Rattle.layout.proofs.Laws.Tests.{require-zero, firstOf-refused}
 use Rattle.layout.proofs.Laws.Chains.{chain-first}
 use Rattle.layout.proofs.Laws.Owners.{free-count}
 use Rattle.layout.proofs.Walks.Homes.{given-home}
 use Rattle.layout.proofs.Walks.Shapes.{sound-shape}
 use Rattle.layout.proofs.Laws.Sound.{sound}
 use Rattle.volume.specs.Entries.{entryBytes, directoryMade, grown, entriesNamed, blocksNamed}
-use Rattle.volume.specs.Create.{placeRefusal}
+use Rattle.volume.specs.Create.{placeRefusal, newRefusal}
 use Rattle.volume.specs.Write.{changedEntries}
 use Rattle.volume.specs.Directories.{createDirectoryRefusal, newDirectoryBlocks, createDirectoryImage, createDirectoryNamed}
-use Rattle.volume.specs.Walks.Places.{Vacant}
+use Rattle.volume.specs.Walks.Places.{broughtRefusal, Vacant}
 use Rattle.volume.specs.Walks.Marks.{marked}
 use Rattle.volume.proofs.Laws.Frame.{changed-first}
-use Rattle.volume.proofs.Laws.Places.{path-levels, place-there}
+use Rattle.volume.proofs.Laws.Places.{CreateDirectoryGiven, path-levels, place-there}
 use Rattle.volume.proofs.Laws.Taken.{taken-many}
-use Rattle.volume.proofs.Walks.Places.{form-first}
+use Rattle.volume.proofs.Walks.Places.{brought-first}
 use Rattle.volume.proofs.Walks.Create.{vacant-block}
 use Rattle.volume.proofs.Walks.Taken.{taken-at, taken-length}
 
 -- the refusal, test by test
-module _ (s path : List ℕ) (type d : ℕ) where
-  pub create-directory-shape : false ≡ (isDirectory type && within 1 maxDirectory d) → 9 ≡ createDirectoryRefusal s path type d
+module _ (s path : List ℕ) (type flags d : ℕ) where
+  pub create-directory-shape : false ≡ (isDirectory type && within 1 maxDirectory d) → 9 ≡ createDirectoryRefusal s path type flags d
   unfolding createDirectoryRefusal
   create-directory-shape h = rw (← h, and-false (pathOk path))
 
   module _ (f : true ≡ (isDirectory type && within 1 maxDirectory d)) where
-    pub create-directory-form : (r : ℕ) → r ≡ wholeRefusal path → (r ≡ 0 → ⊥) → r ≡ createDirectoryRefusal s path type d
-    unfolding wholeRefusal createDirectoryRefusal
-    create-directory-form r e ne = rw (← f) (e ∙ form-first (pathOk path) (shallow (parts path)) _ (λ z. ne (e ∙ z)))
+    pub create-directory-brought : (r : ℕ) → r ≡ broughtRefusal (wholeRefusal path) flags → (r ≡ 0 → ⊥) → r ≡ createDirectoryRefusal s path type flags d
+    unfolding broughtRefusal wholeRefusal createDirectoryRefusal newRefusal
+    create-directory-brought r e ne = rw (← f) (e ∙ brought-first (pathOk path) (shallow (parts path)) (eqb flags 0) _ (λ q. rw q) (λ z. ne (e ∙ z)))
 
-    module _ (w : 0 ≡ wholeRefusal path) where
-      by-place : createDirectoryRefusal s path type d ≡ firstOf (placeRefusal s path) (require (leb d (length (freeBlocks (next s) (blockCount s)))) 14 0)
-      unfolding wholeRefusal createDirectoryRefusal
+    module _ (w : 0 ≡ wholeRefusal path) (none : eqb flags 0 ≡ true) where
+      by-place : createDirectoryRefusal s path type flags d ≡ firstOf (placeRefusal s path) (require (leb d (length (freeBlocks (next s) (blockCount s)))) 14 0)
+      unfolding wholeRefusal createDirectoryRefusal newRefusal
       by-place =
           let a = require-zero (pathOk path) 8 _ (sym w) in
           let b = require-zero (shallow (parts path)) 16 0 (a .1) in
-          rw (← f, a .0, b .0)
+          rw (← f, a .0, b .0, none)
 
-      pub create-directory-place : (r : ℕ) → r ≡ placeRefusal s path → (r ≡ 0 → ⊥) → r ≡ createDirectoryRefusal s path type d
+      pub create-directory-place : (r : ℕ) → r ≡ placeRefusal s path → (r ≡ 0 → ⊥) → r ≡ createDirectoryRefusal s path type flags d
       create-directory-place r e ne = sym (by-place ∙ rw (← e) (firstOf-refused r (require (leb d (length (freeBlocks (next s) (blockCount s)))) 14 0) ne))
 
       module _ (z : placeRefusal s path ≡ 0) (ok : check s ≡ 0) (free : ℕ) (ef : free ≡ be32 s 24) where
-        decided : createDirectoryRefusal s path type d ≡ require (leb d free) 14 0
+        decided : createDirectoryRefusal s path type flags d ≡ require (leb d free) 14 0
         decided = by-place ∙ rw (z, free-count s (sound s ok), ← ef)
 
-        pub create-directory-full : free < d → 14 ≡ createDirectoryRefusal s path type d
+        pub create-directory-full : free < d → 14 ≡ createDirectoryRefusal s path type flags d
         create-directory-full h = sym (decided ∙ rw (lt-leb d free h))
 
-        pub create-directory-fine : d ≤ free → 0 ≡ createDirectoryRefusal s path type d
+        pub create-directory-fine : d ≤ free → 0 ≡ createDirectoryRefusal s path type flags d
         create-directory-fine h = sym (decided ∙ rw (le-leb d free h))
 
 -- an accepted one
-pub record CreateDirectoryGiven (s path : List ℕ) (d : ℕ) : Type 0 where
-  pub given : PathGiven s path
-  pub placed : placeRefusal s path ≡ 0
-  pub some : 1 ≤ d
-  pub few : d ≤ maxDirectory
-  pub room : d ≤ length (freeBlocks (next s) (blockCount s))
-
-pub create-directory-given : (s path : List ℕ) (type d : ℕ) → check s ≡ 0 → createDirectoryRefusal s path type d ≡ 0 → CreateDirectoryGiven s path d
-unfolding createDirectoryRefusal
-create-directory-given s path type d ok r =
-    let a = require-zero (pathOk path && (isDirectory type && within 1 maxDirectory d)) 8 _ r in
-    let b = and-split (pathOk path) _ (a .0) in
-    let f = within-split 1 maxDirectory d (and-split (isDirectory type) _ (b .1) .1) in
-    let h = require-zero (shallow (parts path)) 16 _ (a .1) in
-    let i = firstOf-zero (placeRefusal s path) _ (h .1) in
-    let m = require-zero (leb d (length (freeBlocks (next s) (blockCount s)))) 13 _ (i .1) in
-    record {
-      given = record { sound = ok; good = b .0; few = path-levels path (b .0) (h .0) .0 };
-      placed = i .0;
-      some = f .0;
-      few = f .1;
-      room = leb-true _ _ (m .0);
-    }
+pub directory-path : {s path : List ℕ} {type flags d : ℕ} → check s ≡ 0 → CreateDirectoryGiven s path type flags d → PathGiven s path
+directory-path ok g = record { sound = ok; good = g .good; few = path-levels _ (g .good) (g .deep) .0 }
 
 -- what is written, and the blocks named
 module _ {s path : List ℕ} {h k b : ℕ} (v : Vacant s path h k b) (d : ℕ) (ok : check s ≡ 0) (d₁ : 1 ≤ d) (room : d ≤ length (freeBlocks (next s) (blockCount s))) where
@@ -112,14 +91,14 @@ module _ {s path : List ℕ} {h k b : ℕ} (v : Vacant s path h k b) (d : ℕ) (
       let c = chain-first (next s) x (blocksOf s (512 * x)) (D .blocks .some) in
       omega (arith, v .there, c, D .blocks .below 0 (D .blocks .some))
 
-  pub create-directory-room : CreateDirectoryGiven s path d → (first last : ℕ) → first ≡ getD new 0 0 → last ≡ getD new (d - 1) 0 → (t : List ℕ) → t ≡ grown s (blockCount s) 0 new
+  pub create-directory-room : PathGiven s path → placeRefusal s path ≡ 0 → (first last : ℕ) → first ≡ getD new 0 0 → last ≡ getD new (d - 1) 0 → (t : List ℕ) → t ≡ grown s (blockCount s) 0 new
       → (512 * first + 512 ≤ length t) × (512 * last + 512 ≤ length t) × (first < 4294967296) × (h < 4294967296)
-  create-directory-room g first last ef el t et =
+  create-directory-room G placed first last ef el t et =
       let l : length t ≡ 512 * blockCount s = ap length et ∙ taken-length s ok d d₁ room in
       let z = sound-shape s ok in
       let x = taken-at s ok d d₁ room 0 (omega arith) in
       let y = taken-at s ok d d₁ room (d - 1) (omega arith) in
-      let w = home-below (g .given) (g .placed) in
+      let w = home-below G placed in
       (omega arith, omega arith, omega (arith, z .high), omega (arith, z .high))
 
   module _ (first last time : ℕ) (name : List ℕ) (en : name ≡ lastPart (parts path)) (ef : first ≡ getD new 0 0) (el : last ≡ getD new (d - 1) 0) (t u : List ℕ)

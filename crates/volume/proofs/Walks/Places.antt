@@ -1,24 +1,32 @@
 -- The search for the place of a new entry, test by test.
-use mathlib.Core.Path.{_≡_, refl, _∙_}
+use mathlib.Core.Path.{_≡_, refl, sym, _∙_}
 use mathlib.Core.Bool.{Bool, true, false, _&&_}
 use mathlib.Core.List.{List}
 use Prim.Native.Nat.{ℕ, _*_}
+use lib.Dec.{eqb}
 use borrow.Author.Tests.{eq-eqb, ne-eqb}
-use Rattle.layout.specs.Refusals.{require}
+use Rattle.layout.specs.Refusals.{require, firstOf}
 use Rattle.layout.specs.Geometry.{blockCount}
 use Rattle.layout.specs.Directory.{blocksOf, isUsed, freeSlot, directory}
 use Rattle.layout.specs.Walks.Shapes.{DirectoryAt}
 use Rattle.layout.specs.Walks.Paths.{PathGiven, Spotted}
 use Rattle.layout.specs.Walks.Slots.{Stands}
+use Rattle.layout.proofs.Laws.Tests.{require-zero, firstOf-zero}
 use Rattle.layout.proofs.Walks.Homes.{given-home}
 use Rattle.volume.specs.Create.{placeRefusal, createSlot, place}
-use Rattle.volume.specs.Walks.Places.{Searched}
+use Rattle.volume.specs.Walks.Places.{broughtRefusal, Searched}
 
--- a path refused by its form, 9 or 17, whatever comes after
-pub form-first : (a b : Bool) (rest : ℕ) → (require a 9 (require b 17 0) ≡ 0 → ⊥) → require a 9 (require b 17 0) ≡ require (a && true) 9 (require b 17 rest)
-form-first true true rest z = absurd (z refl)
-form-first true false rest z = refl
-form-first false b rest z = refl
+-- refused by what is brought, 9, 17 or 26, whatever comes after
+pub brought-first : (a b c : Bool) (rest : ℕ) → (c ≡ false → rest ≡ 26) → (firstOf (require a 9 (require b 17 0)) (require c 26 0) ≡ 0 → ⊥)
+    → firstOf (require a 9 (require b 17 0)) (require c 26 0) ≡ require (a && true) 9 (require b 17 rest)
+brought-first true true true rest f z = absurd (z refl)
+brought-first true true false rest f z = sym (f refl)
+brought-first true false c rest f z = refl
+brought-first false b c rest f z = refl
+
+pub brought-fine : (form flags r : ℕ) → r ≡ broughtRefusal form flags → r ≡ 0 → (0 ≡ form) × (eqb flags 0 ≡ true)
+unfolding broughtRefusal
+brought-fine form flags r e z = let a = firstOf-zero form _ (sym e ∙ z) in (sym (a .0), require-zero (eqb flags 0) 25 0 (a .1) .0)
 
 pub refused-place : {s path : List ℕ} {number h k b : ℕ} → number ≡ placeRefusal s path → (number ≡ 0 → ⊥) → Searched s path number h k b
 refused-place e ne = record { number-is = e; vacant = λ z. absurd (ne z) }

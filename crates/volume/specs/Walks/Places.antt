@@ -2,10 +2,16 @@
 use Prim.Native.Nat.{ℕ, _<_}
 use mathlib.Core.Path.{_≡_}
 use mathlib.Core.List.{List}
+use lib.Dec.{eqb}
+use Rattle.layout.specs.Refusals.{require, firstOf}
 use Rattle.layout.specs.Geometry.{blockCount}
 use Rattle.layout.specs.Paths.{home}
 use Rattle.layout.specs.Walks.Slots.{entryAt}
 use Rattle.volume.specs.Create.{placeRefusal, createSlot, place}
+
+-- 26, which comes just after 9 and 17, the refusals by the path's form
+unfoldable pub broughtRefusal : (form flags : ℕ) → ℕ
+broughtRefusal form flags = firstOf form (require (eqb flags 0) 26 0)
 
 -- the directory at block h, and the free slot in it, which is in block b
 pub record Vacant (s path : List ℕ) (h slot b : ℕ) : Type 0 where

@@ -42,6 +42,8 @@ pub fn numbers(_: &mut Rng, _: u64, t: &mut Tester) {
         (set_attributes(b"/A", &[b'q'; 4608]), 20),
         (clear_attributes(b"/A"), 0),
         (clear_attributes(b"/A"), 0),
+        (clear_flags(b"/A"), 0),
+        (clear_flags(b"/B"), 10),
         (set_attributes(b"/A", &[b'p'; 512]), 0),
         (delete(b"/A"), 0),
     ] {
@@ -96,6 +98,7 @@ fn every_journaled_call(t: &mut Tester, state: &State) {
     t.change(state, &delete_directory(b"/\x01new\x02"));
     t.change(state, &set_attributes(&path, &[9; 1024]));
     t.change(state, &clear_attributes(&path));
+    t.change(state, &clear_flags(&path));
     t.undo(state);
 }
 

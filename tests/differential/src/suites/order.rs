@@ -10,7 +10,9 @@ use crate::tree::{folders, items, Item};
 use crate::{damage, journals};
 use reference::layout::*;
 use reference::path::Want;
-use reference::{Change, ClearAttributes, Delete, DeleteDirectory, SetAttributes, State, Write};
+use reference::{
+    Change, ClearAttributes, ClearFlags, Delete, DeleteDirectory, SetAttributes, State, Write,
+};
 
 pub fn all(rng: &mut Rng, _: u64, t: &mut Tester) {
     format(rng, t);
@@ -185,7 +187,7 @@ fn looks(rng: &mut Rng, t: &mut Tester) {
 }
 
 fn creates(rng: &mut Rng, t: &mut Tester) {
-    for reasons in subsets(&[1, 8, 9, 17, 10, 11, 13, 15]) {
+    for reasons in subsets(&[1, 8, 9, 17, 26, 10, 11, 13, 15]) {
         t.report.about(format!("create, reasons {reasons:?}"));
         let mut image = image_for(rng, &reasons);
         let journal = journal_for(rng, &reasons, &image, 1);
@@ -194,14 +196,23 @@ fn creates(rng: &mut Rng, t: &mut Tester) {
         let bad_type = reasons.contains(&9) && !bad_path;
         let path = new_path(rng, &reasons, &image, Want::File, bad_path);
         let kind = if bad_type { bad_kind(rng, Want::File) } else { good_kind(rng, Want::File) };
-        let change = create(rng, path, kind);
+        let flags = flags_for(rng, &reasons);
+        let change = create(rng, path, kind, flags);
         let stage = maybe_damage(rng, &reasons, &mut image);
         compare(t, &State { image, journal }, &change, lowest(&reasons, stage));
     }
 }
 
+fn flags_for(rng: &mut Rng, reasons: &[u32]) -> u32 {
+    if reasons.contains(&26) {
+        bad_flags(rng)
+    } else {
+        0
+    }
+}
+
 fn directory_creates(rng: &mut Rng, t: &mut Tester) {
-    for reasons in subsets(&[1, 8, 9, 17, 10, 11, 13, 14, 15]) {
+    for reasons in subsets(&[1, 8, 9, 17, 26, 10, 11, 13, 14, 15]) {
         t.report.about(format!("create of a directory, reasons {reasons:?}"));
         let mut image = small_image_for(rng, &reasons);
         let journal = journal_for(rng, &reasons, &image, 1);
@@ -217,7 +228,8 @@ fn directory_creates(rng: &mut Rng, t: &mut Tester) {
             (_, true) => rng.between(free + 1, MAX_DIRECTORY_BLOCKS) as u32,
             _ => rng.between(1, 9) as u32,
         };
-        let change = create_directory(rng, path, kind, blocks);
+        let flags = flags_for(rng, &reasons);
+        let change = create_directory(rng, path, kind, flags, blocks);
         let stage = maybe_damage(rng, &reasons, &mut image);
         compare(t, &State { image, journal }, &change, lowest(&reasons, stage));
     }
@@ -340,12 +352,19 @@ fn set_for(rng: &mut Rng, reasons: &[u32]) -> (Vec<u8>, Vec<u8>, Vec<u8>) {
 }
 
 fn clears(rng: &mut Rng, t: &mut Tester) {
-    for reasons in subsets(&[1, 8, 9, 17, 10, 15]) {
-        t.report.about(format!("clear of attributes, reasons {reasons:?}"));
+    for (reasons, flags) in
+        subsets(&[1, 8, 9, 17, 10, 15]).into_iter().flat_map(|r| [(r.clone(), false), (r, true)])
+    {
+        let what = if flags { "flags" } else { "attributes" };
+        t.report.about(format!("clear of {what}, reasons {reasons:?}"));
         let mut image = image_for(rng, &reasons);
         let journal = journal_for(rng, &reasons, &image, 1);
         let path = path_for(rng, &reasons, &image, Want::File, reasons.contains(&9));
-        let change = Change::ClearAttributes(ClearAttributes { path });
+        let change = if flags {
+            Change::ClearFlags(ClearFlags { path })
+        } else {
+            Change::ClearAttributes(ClearAttributes { path })
+        };
         let stage = maybe_damage(rng, &reasons, &mut image);
         compare(t, &State { image, journal }, &change, lowest(&reasons, stage));
     }

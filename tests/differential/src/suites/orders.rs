@@ -54,8 +54,8 @@ fn two_changes(rng: &mut Rng, image: &[u8]) -> (Change, Change) {
         let path = [first.path(), b"/", &good_name(rng)].concat();
         let (file, folder) = (good_kind(rng, Want::File), good_kind(rng, Want::Directory));
         match rng.below(2) {
-            0 => create(rng, path, file),
-            _ => create_directory(rng, path, folder, 1),
+            0 => create(rng, path, file, 0),
+            _ => create_directory(rng, path, folder, 0, 1),
         }
     } else {
         any_accepted(rng, image)
@@ -65,7 +65,7 @@ fn two_changes(rng: &mut Rng, image: &[u8]) -> (Change, Change) {
 
 /// A change of any kind, tried again a few times where it is refused.
 fn any_accepted(rng: &mut Rng, image: &[u8]) -> Change {
-    let kind = rng.below(7);
+    let kind = rng.below(8);
     let mut change = changes(rng, image)[kind].clone();
     for _ in 0..8 {
         if reference::volume::change(image, &change).is_ok() {

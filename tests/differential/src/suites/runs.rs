@@ -25,7 +25,7 @@ pub struct Mix {
     delete: usize,
     /// Creates of folders, and deletes.
     folder: usize,
-    /// Sets of attributes, and clears.
+    /// Sets of attributes, and clears of them and of flags.
     attributes: usize,
     undo: usize,
     look: usize,
@@ -127,11 +127,10 @@ pub fn any_call(rng: &mut Rng, replay: &Replay, mix: &Mix) -> Call {
             any_delete_directory(rng, image)
         })
     } else if pick < attributes + mix.attributes {
-        let set = rng.below(3) < 2;
-        Call::Change(if set {
-            any_set_attributes(rng, image)
-        } else {
-            any_clear_attributes(rng, image)
+        Call::Change(match rng.below(4) {
+            0 => any_clear_attributes(rng, image),
+            1 => any_clear_flags(rng, image),
+            _ => any_set_attributes(rng, image),
         })
     } else if pick < looks {
         Call::Undo
@@ -169,6 +168,7 @@ fn brief(call: &Call) -> String {
         Call::Change(DeleteDirectory(_)) => "delete of a directory".into(),
         Call::Change(SetAttributes(s)) => format!("set of {} bytes of attributes", s.data.len()),
         Call::Change(ClearAttributes(_)) => "clear of attributes".into(),
+        Call::Change(ClearFlags(_)) => "clear of flags".into(),
         Call::Undo => "undo".into(),
         Call::Check => "check".into(),
         Call::Lookup { .. } => "lookup".into(),

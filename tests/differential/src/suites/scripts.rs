@@ -156,7 +156,7 @@ fn spoil(rng: &mut Rng, script: &mut Script) {
     let (any, last) = (rng.pick(&script.items), script.items[script.items.len() - 1]);
     let end = script.bytes.len();
     match rng.below(5) {
-        0 => script.bytes[any] = rng.pick(&[0, 14, 255]),
+        0 => script.bytes[any] = rng.pick(&[0, 15, 255]),
         1 => script.bytes.truncate(rng.between(last + 1, end - 1)),
         2 => script.bytes.extend(vec![8; rng.between(1, HEADER - 1)]),
         3 => put_number(&mut script.bytes, last + PATH_LENGTH, (end - last) as u32),
@@ -213,6 +213,7 @@ fn item_of(rng: &mut Rng, call: &Call) -> Vec<u8> {
         Call::Change(Change::SetAttributes(s)) => (11, &s.path, &s.data),
         Call::Change(Change::ClearAttributes(c)) => (12, &c.path, &[]),
         Call::ReadAttributes { path, buffer } => (13, path, buffer),
+        Call::Change(Change::ClearFlags(c)) => (14, &c.path, &[]),
     };
     header[0] = op;
     put_number(&mut header, PATH_LENGTH, path.len() as u32);

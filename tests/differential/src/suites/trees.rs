@@ -34,6 +34,7 @@ pub fn levels(rng: &mut Rng, round: u64, t: &mut Tester) {
         make(t, &mut state, &delete(path), 10);
         make(t, &mut state, &set_attributes(path, &[1; 512]), 10);
         make(t, &mut state, &clear_attributes(path), 10);
+        make(t, &mut state, &clear_flags(path), 10);
         make(t, &mut state, &delete_directory(&file_in(path)), if deepest { 17 } else { 10 });
         make(t, &mut state, &delete_directory(path), 18);
     }
@@ -74,6 +75,7 @@ fn past_the_last(t: &mut Tester, state: &mut State, last: &[u8], depth: usize) {
         make(t, state, &set_attributes(&path, &[1; 512]), file);
         make(t, state, &set_attributes(&path, &[1; 4608]), 20);
         make(t, state, &clear_attributes(&path), file);
+        make(t, state, &clear_flags(&path), file);
         make(t, state, &delete_directory(&path), folder);
         if more > 1 {
             make(t, state, &create(&path), file);

@@ -56,33 +56,37 @@ get64-requires-2 c κs = search needs
 
 returns-2 : tie.Need-returns-2
 unfolding changeAt
-returns-2 c = rw (ne-eqb _ 5 (c .before .before .if1 .left), c .before .if2 .taken, c .before .before .before .get64 .ensures, c .get642 .ensures)
+returns-2 c = rw (c .before .if2 .taken, c .before .before .before .get64 .ensures, c .get642 .ensures)
 
 directory-of-requires : tie.Need-directory-of-requires
 directory-of-requires c κs = search needs
 
 returns-3 : tie.Need-returns-3
 unfolding changeAt
-returns-3 c =
-    c .directory-of .ensures ∙ rw (ne-eqb _ 5 (c .before .before .before .if1 .left), ne-eqb _ 6 (c .before .before .if2 .left), c .before .if3 .taken, c .before .before .before .before .get64 .ensures)
+returns-3 c = c .directory-of .ensures ∙ rw (c .before .if3 .taken, c .before .before .before .before .get64 .ensures)
 
 returns-4 : tie.Need-returns-4
 unfolding changeAt
-returns-4 c = rw (ne-eqb _ 5 (c .before .before .before .if1 .left), ne-eqb _ 6 (c .before .before .if2 .left), ne-eqb _ 9 (c .before .if3 .left), c .if4 .taken)
+returns-4 c = rw (c .if4 .taken)
 
 returns-5 : tie.Need-returns-5
 unfolding changeAt
-returns-5 c = rw (ne-eqb _ 5 (c .before .before .before .before .if1 .left), ne-eqb _ 6 (c .before .before .before .if2 .left), ne-eqb _ 9 (c .before .before .if3 .left), ne-eqb _ 10 (c .before .if4 .left), c .if5 .taken)
+returns-5 c = rw (c .if5 .taken)
 
 returns-6 : tie.Need-returns-6
 unfolding changeAt
-returns-6 c =
-    rw (ne-eqb _ 5 (c .before .before .before .before .before .if1 .left), ne-eqb _ 6 (c .before .before .before .before .if2 .left), ne-eqb _ 9 (c .before .before .before .if3 .left), ne-eqb _ 10 (c .before .before .if4 .left), ne-eqb _ 11 (c .before .if5 .left), c .if6 .taken)
+returns-6 c = rw (c .if6 .taken)
 
 returns-7 : tie.Need-returns-7
 unfolding changeAt
-returns-7 c =
-    rw (ne-eqb _ 5 (c .before .before .before .before .before .if1 .left), ne-eqb _ 6 (c .before .before .before .before .if2 .left), ne-eqb _ 9 (c .before .before .before .if3 .left), ne-eqb _ 10 (c .before .before .if4 .left), ne-eqb _ 11 (c .before .if5 .left), ne-eqb _ 12 (c .if6 .left))
+returns-7 c = rw (c .if7 .taken)
+
+-- none of the ops above
+returns-8 : tie.Need-returns-8
+unfolding changeAt
+returns-8 c =
+    let b = c .before in
+    rw (ne-eqb _ 5 (b .before .before .before .before .before .if1 .left), ne-eqb _ 6 (b .before .before .before .before .if2 .left), ne-eqb _ 9 (b .before .before .before .if3 .left), ne-eqb _ 10 (b .before .before .if4 .left), ne-eqb _ 11 (b .before .if5 .left), ne-eqb _ 12 (b .if6 .left), ne-eqb _ 14 (c .if7 .left))
 
 pub change-of-spec : {M : Type 1} → statement M
 change-of-spec =
@@ -110,4 +114,5 @@ change-of-spec =
     returns-4
     returns-5
     returns-6
-    returns-7)
+    returns-7
+    returns-8)

@@ -53,6 +53,13 @@ clear-attributes-requires : tie.Need-clear-attributes-requires
 unfolding refusal
 clear-attributes-requires c κs = let p = c .before .before .before .before .before .before .pre in (p .0, rw (c .before .enum-told4 .given .1) at (p .1))
 
+enum-told-5 : tie.Need-enum-told-5
+enum-told-5 c = search needs
+
+clear-flags-requires : tie.Need-clear-flags-requires
+unfolding refusal
+clear-flags-requires c κs = let p = c .before .before .before .before .before .before .pre in (p .0, rw (c .before .enum-told5 .given .1) at (p .1))
+
 same-length : tie.Need-same-length
 same-length c = search needs
 
@@ -102,6 +109,13 @@ returns-7 : tie.Need-returns-7
 unfolding after slotGiven
 returns-7 c = rw (c .before .before .before .before .enum-told4 .given .1) (refl, c .before .before .clear-attributes .ensures)
 
+same-length-8 : tie.Need-same-length-8
+same-length-8 c = search needs
+
+returns-8 : tie.Need-returns-8
+unfolding after slotGiven
+returns-8 c = rw (c .before .before .before .before .enum-told5 .given .1) (refl, c .before .before .clear-flags .ensures)
+
 pub make-spec : {M : Type 1} → statement M
 make-spec =
     tie.close
@@ -120,6 +134,8 @@ make-spec =
     set-attributes-requires
     enum-told-4
     clear-attributes-requires
+    enum-told-5
+    clear-flags-requires
     same-length
     returns
     same-length-2
@@ -133,4 +149,6 @@ make-spec =
     same-length-6
     returns-6
     same-length-7
-    returns-7)
+    returns-7
+    same-length-8
+    returns-8)

@@ -52,6 +52,13 @@ clear-attributes-named-requires : tie.Need-clear-attributes-named-requires
 unfolding refusal
 clear-attributes-named-requires c κs = let p = c .before .before .before .before .before .before .before .pre in (p .0, rw (c .before .enum-told4 .given .1) at (p .1), p .2)
 
+enum-told-5 : tie.Need-enum-told-5
+enum-told-5 c = search needs
+
+clear-flags-named-requires : tie.Need-clear-flags-named-requires
+unfolding refusal
+clear-flags-named-requires c κs = let p = c .before .before .before .before .before .before .before .pre in (p .0, rw (c .before .enum-told5 .given .1) at (p .1), p .2)
+
 same-length : tie.Need-same-length
 same-length c = search needs
 
@@ -101,6 +108,13 @@ returns-7 : tie.Need-returns-7
 unfolding named
 returns-7 c = rw (c .before .before .before .before .enum-told4 .given .1) (c .before .before .clear-attributes-named .ensures)
 
+same-length-8 : tie.Need-same-length-8
+same-length-8 c = search needs
+
+returns-8 : tie.Need-returns-8
+unfolding named
+returns-8 c = rw (c .before .before .before .before .enum-told5 .given .1) (c .before .before .clear-flags-named .ensures)
+
 pub mark-named-spec : {M : Type 1} → statement M
 mark-named-spec =
     tie.close
@@ -119,6 +133,8 @@ mark-named-spec =
     set-attributes-named-requires
     enum-told-4
     clear-attributes-named-requires
+    enum-told-5
+    clear-flags-named-requires
     same-length
     returns
     same-length-2
@@ -132,4 +148,6 @@ mark-named-spec =
     same-length-6
     returns-6
     same-length-7
-    returns-7)
+    returns-7
+    same-length-8
+    returns-8)

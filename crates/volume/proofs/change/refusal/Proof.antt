@@ -45,6 +45,12 @@ enum-told-4 c = search needs
 delete-refusal-requires-2 : tie.Need-delete-refusal-requires-2
 delete-refusal-requires-2 c κs = search needs
 
+enum-told-5 : tie.Need-enum-told-5
+enum-told-5 c = search needs
+
+delete-refusal-requires-3 : tie.Need-delete-refusal-requires-3
+delete-refusal-requires-3 c κs = search needs
+
 returns : tie.Need-returns
 unfolding refusal
 returns c = rw (c .before .before .what .given .1) (c .create-refusal .ensures)
@@ -73,6 +79,10 @@ returns-7 : tie.Need-returns-7
 unfolding refusal
 returns-7 c = rw (c .before .enum-told4 .given .1) (c .delete-refusal2 .ensures)
 
+returns-8 : tie.Need-returns-8
+unfolding refusal
+returns-8 c = rw (c .before .enum-told5 .given .1) (c .delete-refusal3 .ensures)
+
 pub refusal-spec : {M : Type 1} → statement M
 refusal-spec =
     tie.close
@@ -91,10 +101,13 @@ refusal-spec =
     set-attributes-refusal-requires
     enum-told-4
     delete-refusal-requires-2
+    enum-told-5
+    delete-refusal-requires-3
     returns
     returns-2
     returns-3
     returns-4
     returns-5
     returns-6
-    returns-7)
+    returns-7
+    returns-8)

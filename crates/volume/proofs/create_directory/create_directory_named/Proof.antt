@@ -1,6 +1,7 @@
+use Rattle.volume.proofs.Laws.Places.{create-directory-given}
 use mathlib.Core.Path.{_∙_}
 use native.Mathlib.Omega.{arith}
-use Rattle.volume.proofs.Walks.CreateDirectory.{create-directory-given, create-directory-marked}
+use Rattle.volume.proofs.Walks.CreateDirectory.{directory-path, create-directory-marked}
 use Rattle.layout.proofs.Walks.Shapes.{sound-shape}
 use borrow.Author.Needs.{needs}
 use Rattle.volume.proofs.create_directory.create_directory_named.Statement.{statement}
@@ -10,8 +11,8 @@ vacant-requires : tie.Need-vacant-requires
 vacant-requires c κs =
     let p = c .before .before .before .pre in
     let a = c .before .before .before .args in
-    let g = create-directory-given (a .image .now) (a .path .now) (a .kind) (a .d) (p .0) (p .1) in
-    (g .given, g .placed)
+    let g = create-directory-given (a .image .now) (a .path .now) (a .kind) (a .flags) (a .d) (p .1) in
+    (directory-path (p .0) g, g .placed)
 
 mark-requires : tie.Need-mark-requires
 mark-requires c κs =
@@ -24,7 +25,7 @@ mark-grown-requires c κs =
     let p = c .before .before .before .before .before .before .before .before .before .pre in
     let a = c .before .before .before .before .before .before .before .before .before .args in
     let h = sound-shape (a .image .now) (p .0) in
-    let g = create-directory-given (a .image .now) (a .path .now) (a .kind) (a .d) (p .0) (p .1) in
+    let g = create-directory-given (a .image .now) (a .path .now) (a .kind) (a .flags) (a .d) (p .1) in
     (h, omega (arith, h .low), g .room, omega (arith, p .2))
 
 same-length : tie.Need-same-length
@@ -34,8 +35,8 @@ returns : tie.Need-returns
 returns c =
     let p = c .before .before .before .before .before .before .before .before .before .before .before .before .pre in
     let a = c .before .before .before .before .before .before .before .before .before .before .before .before .args in
-    let g = create-directory-given (a .image .now) (a .path .now) (a .kind) (a .d) (p .0) (p .1) in
-    c .before .before .mark-grown .ensures ∙ rw (c .before .before .before .before .before .before .mark .ensures) (create-directory-marked (c .before .before .before .before .before .before .before .before .vacant .ensures) (a .d) (p .0) (g .some) (g .room) (a .marks .now))
+    let g = create-directory-given (a .image .now) (a .path .now) (a .kind) (a .flags) (a .d) (p .1) in
+    c .before .before .mark-grown .ensures ∙ rw (c .before .before .before .before .before .before .mark .ensures) (create-directory-marked (c .before .before .before .before .before .before .before .before .vacant .ensures) (a .d) (p .0) (g .least) (g .room) (a .marks .now))
 
 pub create-directory-named-spec : {M : Type 1} → statement M
 create-directory-named-spec =
