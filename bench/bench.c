@@ -16,6 +16,7 @@
 
 #include "bench.h"
 #include "bulgefs.h"
+#include "read_once.h"
 
 #include <math.h>
 #include <stdio.h>
@@ -351,18 +352,6 @@ static int ascending(const void *a, const void *b)
     return (x > y) - (x < y);
 }
 
-/* Reads so many bytes of the image, once. */
-static uint64_t read_once(size_t len)
-{
-    uint64_t sum = 0;
-    for (size_t at = 0; at < len; at += sizeof sum) {
-        uint64_t word;
-        memcpy(&word, image + at, sizeof word);
-        sum += word;
-    }
-    return sum;
-}
-
 /* Makes the calls of one column once and adds the time of each. */
 static void make_column(int column, const uint8_t *path, size_t len, double *sum)
 {
@@ -371,7 +360,7 @@ static void make_column(int column, const uint8_t *path, size_t len, double *sum
         sqlite_calls(path, len, data, LAST_WRITTEN, sum);
     } else if (column == LIMIT) {
         double begin = now();
-        sink = read_once(check_len);
+        sink = read_once(image, check_len);
         double took = now() - begin;
         for (int c = 0; c < CALLS; c++)
             sum[c] += took;

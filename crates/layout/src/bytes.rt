@@ -1,6 +1,6 @@
 // Byte strings, and the field of a name.
-ghost use Prim.Native.Nat.{_+_, _*_, _≤_, _<_};
-ghost use mathlib.Core.Bool.{true};
+ghost use Prim.Native.Nat.{_+_, _*_, _≤_, _<_, max};
+ghost use mathlib.Core.Bool.{true, cond};
 ghost use mathlib.Core.Path.{_≡_};
 ghost use lib.ListN.{length, getD, replicate};
 ghost use lib.Dec.{eqb};
@@ -9,6 +9,7 @@ ghost use Rattle.layout.specs.Bytes.{part, block, splice};
 ghost use Rattle.layout.specs.Directory.{unpadded, goodName};
 ghost use Rattle.layout.specs.Walks.Entries.{allZero, fieldOk};
 use super::limits::MAX_NAME;
+use super::limits::NAME_FIELD;
 
 // The 512 bytes of block b.
 pub fn block<'a>(image: &'a [u8], b: usize) -> &'a [u8]
@@ -21,56 +22,71 @@ pub fn block<'a>(image: &'a [u8], b: usize) -> &'a [u8]
     &image[a..e]
 }
 
-// Whether two byte strings are equal.
+// The larger of two numbers.
+fn larger(a: u8, b: u8) -> u8
+    ensures { λ r. ⌜ r ≡ max a b ⌝ }
+{
+    if a < b { b } else { a }
+}
+
+// i if two bytes differ, else 0.
+fn if_differ(x: u8, y: u8, i: u8) -> u8
+    ensures { λ r. ⌜ (r ≡ cond (eqb x y) 0 i) × (r ≤ i) ⌝ }
+{
+    if x == y {
+        return 0;
+    }
+    i
+}
+
+// Whether two byte strings are equal. This loop and the next two have no branch, so that they are compiled to steps of 16 bytes.
 pub fn equal(a: &[u8], b: &[u8]) -> bool
     ensures { λ r. ⌜ r ≡ same (now (a .entry)) (now (b .entry)) ⌝ }
 {
     if a.len() != b.len() {
         return false;
     }
+    let mut worst = 0;
     for i in 0..a.len() {
-        if a[i] != b[i] {
-            return false;
-        }
+        worst = larger(worst, if_differ(a[i], b[i], 1));
     }
-    true
+    worst == 0
 }
 
 // Whether every byte is 0.
-fn all_zero(s: &[u8]) -> bool
+pub fn all_zero(s: &[u8]) -> bool
     ensures { λ r. ⌜ r ≡ allZero (now (s .entry)) ⌝ }
 {
+    let mut worst = 0;
     for i in 0..s.len() {
-        if s[i] != 0 {
-            return false;
-        }
+        worst = larger(worst, s[i]);
     }
-    true
+    worst == 0
 }
 
-// How many bytes stand before the first zero.
-fn name_length(field: &[u8]) -> usize
-    ensures { λ r. ⌜ r ≡ length (unpadded (now (field .entry))) ⌝ }
-{
-    for i in 0..field.len() {
-        if field[i] == 0 {
-            return i;
-        }
-    }
-    field.len()
-}
-
-// Whether a field of 80 bytes holds a good name and zeros after it.
+// Whether a field of 80 bytes holds a good name and zeros after it: as many bytes are not 0 as stand up to the last such, and none is `/`.
 pub fn name_ok(field: &[u8]) -> bool
     requires { ⌜ length (now field) ≡ 80 ⌝ }
     ensures { λ r. ⌜ r ≡ fieldOk (now (field .entry)) ⌝ }
 {
-    let z = 0;
-    let k = name_length(field);
-    if !good_name(&field[z..k]) {
+    let mut count = 0;
+    let mut last = 0;
+    let mut clean = 0;
+    let mut i = 0;
+    while i < NAME_FIELD {
+        let x = field[i];
+        i = i + 1;
+        count = count + if_differ(x, 0, 1);
+        last = larger(last, if_differ(x, 0, i as u8));
+        clean = clean + if_differ(x, b'/', 1);
+    }
+    if count != last {
         return false;
     }
-    all_zero(&field[k..])
+    if clean != 80 {
+        return false;
+    }
+    0 < count
 }
 
 // Whether a name has 1 to 80 bytes, none of them 0 or `/`.

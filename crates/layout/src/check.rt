@@ -5,7 +5,9 @@ ghost use lib.ListN.{length};
 ghost use Rattle.layout.specs.Limits.{maxBlocks, smallBlocks};
 ghost use Rattle.layout.specs.Bytes.{zeros};
 ghost use Rattle.layout.specs.Geometry.{tableBlocks};
+ghost use Rattle.layout.specs.Table.{next};
 ghost use Rattle.layout.specs.Check.{check, stage1, stage2, stage7};
+ghost use Rattle.layout.specs.Walks.Chains.{countUsed};
 ghost use Rattle.layout.specs.Walks.Shapes.{Shape, Room};
 ghost use Rattle.layout.specs.Walks.Stages.{visited, walkRoot, headerOk, countsOk, headStage, bodyStage};
 use super::limits::MAX_BLOCKS;
@@ -81,12 +83,11 @@ fn counted(header: &[u8], n: usize, used: usize) -> bool
     get32(header, 24) as usize == n - used
 }
 
-// Stage 7: the counts.
-fn counts_ok(image: &[u8], n: usize) -> bool
-    requires { ⌜ Shape (now image) n ⌝ }
+// Stage 7: the counts, when so many entries below n are in use.
+fn counts_ok(image: &[u8], n: usize, used: usize) -> bool
+    requires { ⌜ (Shape (now image) n) × (used ≡ countUsed (next (now image)) 0 n) ⌝ }
     ensures { λ r. ⌜ r ≡ stage7 (now (image .entry)) ⌝ }
 {
-    let used = super::table::count_used(image, n);
     counted(super::bytes::block(image, 0), n, used)
 }
 
@@ -96,10 +97,11 @@ fn tables(image: &[u8], t: usize, n: usize, dirs: &[u8], marks: &mut [u8]) -> u3
         × (128 * t ≤ length (now marks)) × (now marks ≡ zeros (length (now marks))) ⌝ }
     ensures { λ r. ⌜ r ≡ bodyStage (now (image .entry)) ⌝ }
 {
-    if !super::chains::table_ok(image, t, n, dirs, marks) {
+    let used = super::chains::table_used(image, t, n, dirs, marks);
+    if used == 0 {
         return 6;
     }
-    if !counts_ok(image, n) {
+    if !counts_ok(image, n, used) {
         return 7;
     }
     0

@@ -6,6 +6,7 @@ ghost use Rattle.layout.specs.Limits.{maxLevels};
 ghost use Rattle.layout.specs.Table.{next, chain};
 ghost use Rattle.layout.specs.Directory.{slotAt, typeOf};
 ghost use Rattle.layout.specs.Walks.Chains.{walked};
+ghost use Rattle.layout.specs.Walks.Names.{NoteRoom};
 ghost use Rattle.layout.specs.Walks.Shapes.{Room, DirectoryAt};
 ghost use Rattle.layout.specs.Walks.Slots.{entryAt};
 ghost use Rattle.layout.specs.Walks.Stages.{childEntry, followChild, visited, walkEntry, walkEntries, walkChild, walkRoot};
@@ -67,16 +68,19 @@ fn directory_check(
     b: usize,
     d: usize,
     left: usize,
+    prints: &mut [usize],
+    places: &mut [usize],
+    seen: &mut [u8],
     marks: &mut [u8],
 ) -> u32
-    requires { ⌜ (Room (now image) t n (now marks)) × (DirectoryAt (now image) n b d) × (left ≤ maxLevels) ⌝ }
+    requires { ⌜ (Room (now image) t n (now marks)) × (DirectoryAt (now image) n b d) × (left ≤ maxLevels) × (NoteRoom (now prints) (now places) (now seen)) ⌝ }
     ensures { λ r. ⌜ visited r (now (marks .exit))
         ≡ walkEntries (walkChild left (now (image .entry)) n b) (now (image .entry)) (chain (next (now (image .entry))) b d) d (now (marks .entry)) ⌝ }
 {
     if end_type(image, n, b, d) != 0xFF {
         return 5;
     }
-    let bad = super::names::bad_slot(image, n, b, d);
+    let bad = super::names::bad_slot(image, n, b, d, prints, places, seen);
     let mut at = b;
     let mut k = 1;
     let mut slots = 4 * d - 2;
@@ -84,7 +88,7 @@ fn directory_check(
         if k == bad {
             return 5;
         }
-        let why = entry_check(image, t, n, b, at, k, left, marks);
+        let why = entry_check(image, t, n, b, at, k, left, prints, places, seen, marks);
         if why != 0 {
             return why;
         }
@@ -104,9 +108,12 @@ fn entry_check(
     at: usize,
     k: usize,
     left: usize,
+    prints: &mut [usize],
+    places: &mut [usize],
+    seen: &mut [u8],
     marks: &mut [u8],
 ) -> u32
-    requires { ⌜ (Room (now image) t n (now marks)) × (at < n) × (left ≤ maxLevels) ⌝ }
+    requires { ⌜ (Room (now image) t n (now marks)) × (at < n) × (left ≤ maxLevels) × (NoteRoom (now prints) (now places) (now seen)) ⌝ }
     ensures { λ r. ⌜ visited r (now (marks .exit)) ≡ walkEntry (walkChild left (now (image .entry)) n b) (now (image .entry)) (entryAt at k) (now (marks .entry)) ⌝ }
 {
     if !super::directory::is_directory(super::directory::type_at(image, at, k)) {
@@ -120,12 +127,20 @@ fn entry_check(
     }
     let child = number_at(image, at, k, 4);
     let d = number_at(image, child, 0, 12);
-    directory_check(image, t, n, child, d, left - 1, marks)
+    directory_check(image, t, n, child, d, left - 1, prints, places, seen, marks)
 }
 
-// The root and all below it: stages 4 and 5 of the whole tree.
-pub fn visit(image: &[u8], t: usize, n: usize, marks: &mut [u8]) -> u32
-    requires { ⌜ Room (now image) t n (now marks) ⌝ }
+// The root and all below it, with room to note the slots of one directory after the other.
+fn visit_with(
+    image: &[u8],
+    t: usize,
+    n: usize,
+    prints: &mut [usize],
+    places: &mut [usize],
+    seen: &mut [u8],
+    marks: &mut [u8],
+) -> u32
+    requires { ⌜ (Room (now image) t n (now marks)) × (NoteRoom (now prints) (now places) (now seen)) ⌝ }
     ensures { λ r. ⌜ visited r (now (marks .exit)) ≡ walkRoot (now (image .entry)) n (now (marks .entry)) ⌝ }
 {
     let root = t + 1;
@@ -133,5 +148,27 @@ pub fn visit(image: &[u8], t: usize, n: usize, marks: &mut [u8]) -> u32
         return 4;
     }
     let d = number_at(image, root, 0, 12);
-    directory_check(image, t, n, root, d, MAX_LEVELS, marks)
+    directory_check(
+        image,
+        t,
+        n,
+        root,
+        d,
+        MAX_LEVELS,
+        prints,
+        places,
+        seen,
+        marks,
+    )
+}
+
+// The root and all below it: stages 4 and 5 of the whole tree.
+pub fn visit(image: &[u8], t: usize, n: usize, marks: &mut [u8]) -> u32
+    requires { ⌜ Room (now image) t n (now marks) ⌝ }
+    ensures { λ r. ⌜ visited r (now (marks .exit)) ≡ walkRoot (now (image .entry)) n (now (marks .entry)) ⌝ }
+{
+    let mut prints = super::names::no_slots();
+    let mut places = super::names::no_slots();
+    let mut seen = super::names::no_names();
+    visit_with(image, t, n, &mut prints, &mut places, &mut seen, marks)
 }

@@ -1,31 +1,35 @@
 -- STAGE 6: the chains of all entries of the marked blocks, clause by clause; and that this is the rule, where just the directory blocks are marked.
-use Prim.Native.Nat.{ℕ, _+_, _-_, _*_, _≤_, _<_}
+use Prim.Native.Nat.{ℕ, zero, suc, _+_, _-_, _*_, _≤_, _<_}
 use mathlib.Core.Bool.{Bool, true, false, not, cond, _&&_, _||_, Bool·not-not, false≢true}
 use mathlib.Core.List.{List, [], _∷_, _++_, append-nil, map}
 use mathlib.Core.Path.{_≡_, refl, sym, ap, _∙_}
 use native.Mathlib.Omega.{arith}
 use lib.Dec.{eqb}
 use lib.ListN.{length, getD}
-use borrow.Author.Tests.{eq-eqb, ne-eqb}
+use borrow.Author.Tests.{eq-eqb, ne-eqb, eqb-true, eqb-false}
+use Rattle.layout.specs.Limits.{minBlocks}
 use Rattle.layout.specs.Lists.{interval, every, has, distinct, select, keep, joined}
-use Rattle.layout.specs.Bytes.{zeros}
+use Rattle.layout.specs.Bytes.{zeros, part}
 use Rattle.layout.specs.Geometry.{blockCount, tableBlocks}
 use Rattle.layout.specs.Table.{next, chainOk}
 use Rattle.layout.specs.Directory.{typeOf, firstBlock, blocksOf, attributeBlock, attributeSize, isFile}
 use Rattle.layout.specs.Check.{fileChains, owned, tableOk, stage6, allChains}
-use Rattle.layout.specs.Walks.Chains.{Walk, walked, follow, followAll, allOnes, restFree}
+use Rattle.layout.specs.Walks.Chains.{Walk, walked, follow, followAll, allOnes, countUsed}
+use Rattle.layout.specs.Walks.Entries.{allZero}
 use Rattle.layout.specs.Walks.Shapes.{Shape}
 use Rattle.layout.specs.Walks.Slots.{entryAt}
 use Rattle.layout.specs.Walks.Stages.{slotChains, followFile, followSlot, followSlots, isMarked, followBlocks, followTable}
-use Rattle.layout.proofs.Laws.Bytes.{length-zeros}
+use Rattle.layout.proofs.Laws.Bytes.{length-zeros, getD-part}
 use Rattle.layout.proofs.Laws.Lists.{In, every-same, interval-next, has-eqb-in, in-has-eqb, select-in, select-distinct}
-use Rattle.layout.proofs.Laws.Joins.{select-has, interval-in, join-map, join-join, join-append}
+use Rattle.layout.proofs.Laws.Joins.{select-has, select-none, in-interval, interval-in, join-map, join-join, join-append}
 use Rattle.layout.proofs.Laws.Tests.{and-split}
 use Rattle.layout.proofs.Laws.Visits.{Tree, dirBlocks}
 use Rattle.layout.proofs.Laws.Trees.{block-above}
 use Rattle.layout.proofs.Laws.Sound.{quad, entryChains, entryChainsOf, any-order}
 use Rattle.layout.proofs.Walks.Marks.{Marked, marked-zeros, Tied, followAll-tied}
+use Rattle.layout.proofs.Walks.Names.{allZero-byte}
 use Rattle.layout.proofs.Walks.Shapes.{shape-blockCount}
+use Rattle.layout.proofs.Walks.Used.{rest-counted, owned-in}
 
 -- chains after others
 module _ (v : ℕ → ℕ) (n : ℕ) where
@@ -44,6 +48,23 @@ module _ (v : ℕ → ℕ) (n : ℕ) where
           ≡ (let x : Walk = cond t (followAll v n cs (w .marks)) w in cond (x .ok) (followAll v n ds (x .marks)) x)
       go true e h = h
       go false e h = sym (ap (λ (b : Bool). cond b (followAll v n ds (w .marks)) w) e)
+
+-- what is selected of an interval, in two parts
+select-two : (p : ℕ → Bool) (a j k : ℕ) → k ≤ j → select p (interval a j) ≡ select p (interval a k) ++ select p (interval (a + k) (j - k))
+select-two p a j zero h =
+    let e : a + 0 ≡ a = omega arith in
+    let d : j - 0 ≡ j = omega arith in
+    rw (e, d)
+select-two p a zero (suc k) h = absurd (omega arith)
+select-two p a (suc j) (suc k) h =
+    let e : a + suc k ≡ suc a + k = omega arith in
+    let d : suc j - suc k ≡ j - k = omega arith in
+    rw (e, d) (go (p a) (select-two p (suc a) j k (omega arith)))
+  where
+    go : (t : Bool) → select p (interval (suc a) j) ≡ select p (interval (suc a) k) ++ select p (interval (suc a + k) (j - k))
+        → keep t a (select p (interval (suc a) j)) ≡ keep t a (select p (interval (suc a) k)) ++ select p (interval (suc a + k) (j - k))
+    go true r = ap (λ (l : List ℕ). a ∷ l) r
+    go false r = r
 
 -- one chain
 followAll-one : (v : ℕ → ℕ) (n first blocks : ℕ) (m : List ℕ) → followAll v n ((first, blocks) ∷ []) m ≡ follow v n blocks first m
@@ -116,24 +137,32 @@ module _ (s : List ℕ) (n : ℕ) (ms : List ℕ) (b : ℕ) (m : List ℕ) where
     abbrev chainsIn : ℕ → List (ℕ × ℕ)
     chainsIn x = joined (λ k. slotChains s (entryAt x k)) (interval 0 4)
 
-    kept : (t : Bool) (xs : List ℕ) → joined chainsIn (keep t b xs) ≡ joined chainsIn (keep t b []) ++ joined chainsIn xs
-    kept t xs = ap (joined chainsIn) (two t) ∙ join-append chainsIn (keep t b []) xs
-      where
-        two : (t : Bool) → keep t b xs ≡ keep t b [] ++ xs
-        two true = refl
-        two false = refl
-
-    blocks-suc : 0 < j → followBlocks s n ms b j m ≡ (let w : Walk = followBlocks s n ms b 1 m in cond (w .ok) (followBlocks s n ms (b + 1) (j - 1) (w .marks)) w)
+    two-parts : (k : ℕ) → k ≤ j
+        → followBlocks s n ms b j m ≡ (let w : Walk = followBlocks s n ms b k m in cond (w .ok) (followBlocks s n ms (b + k) (j - k) (w .marks)) w)
     unfolding followBlocks
-    blocks-suc h =
-        rw (interval-next b j h) (ap (λ (cs : List (ℕ × ℕ)). followAll (next s) n cs m) (kept (isMarked ms b) (select (isMarked ms) (interval (b + 1) (j - 1))))
-        ∙ followAll-append (next s) n (joined chainsIn (keep (isMarked ms b) b [])) (joined chainsIn (select (isMarked ms) (interval (b + 1) (j - 1)))) m)
+    two-parts k h =
+        ap (λ (bs : List ℕ). followAll (next s) n (joined chainsIn bs) m) (select-two (isMarked ms) b j k h)
+        ∙ rw (join-append chainsIn (select (isMarked ms) (interval b k)) (select (isMarked ms) (interval (b + k) (j - k))))
+        (followAll-append (next s) n (joined chainsIn (select (isMarked ms) (interval b k))) (joined chainsIn (select (isMarked ms) (interval (b + k) (j - k)))) m)
 
-    pub followBlocks-next : 0 < j → (m′ : List ℕ) → walked true m′ ≡ followBlocks s n ms b 1 m → followBlocks s n ms b j m ≡ followBlocks s n ms (b + 1) (j - 1) m′
-    followBlocks-next h m′ e = blocks-suc h ∙ rw (← e)
+    -- the first k, and the others
+    pub followBlocks-next : (k : ℕ) → k ≤ j → (m′ : List ℕ) → walked true m′ ≡ followBlocks s n ms b k m → followBlocks s n ms b j m ≡ followBlocks s n ms (b + k) (j - k) m′
+    followBlocks-next k h m′ e = two-parts k h ∙ rw (← e)
 
-    pub followBlocks-stop : 0 < j → (m′ : List ℕ) → walked false m′ ≡ followBlocks s n ms b 1 m → followBlocks s n ms b j m ≡ walked false m′
-    followBlocks-stop h m′ e = blocks-suc h ∙ rw (← e)
+    pub followBlocks-stop : (k : ℕ) → k ≤ j → (m′ : List ℕ) → walked false m′ ≡ followBlocks s n ms b k m → followBlocks s n ms b j m ≡ walked false m′
+    followBlocks-stop k h m′ e = two-parts k h ∙ rw (← e)
+
+    -- none of them is marked
+    pub followBlocks-none : (w : ℕ) → w ≡ j → true ≡ allZero (part ms b w) → walked true m ≡ followBlocks s n ms b j m
+    unfolding followBlocks followAll
+    followBlocks-none w e t =
+        let z : select (isMarked ms) (interval b j) ≡ [] =
+        select-none (isMarked ms) (interval b j) (λ x i u.
+        let l = in-interval b j x i in
+        let q : b + (x - b) ≡ x = omega (arith, l .0) in
+        let y : getD ms x 0 ≡ 0 = ap (λ (i : ℕ). getD ms i 0) (sym q) ∙ sym (getD-part ms b w (x - b) (omega (arith, l, e))) ∙ allZero-byte (part ms b w) 0 (x - b) (sym t) (omega arith) in
+        false≢true (sym (ap not (eq-eqb (getD ms x 0) 0 y)) ∙ u)) in
+        rw z
 
 -- the whole table
 module _ (s : List ℕ) (t n : ℕ) (ms m m′ : List ℕ) where
@@ -146,9 +175,14 @@ module _ (s : List ℕ) (t n : ℕ) (ms m m′ : List ℕ) where
     unfolding followTable
     followTable-ones h = rw (← e, ← h)
 
-    pub followTable-rest : true ≡ allOnes (next s) 0 (t + 1) → restFree (next s) m′ (t + 1) (128 * t - (t + 1)) ≡ followTable s t n ms m
-    unfolding followTable
-    followTable-rest h = rw (← e, ← h)
+    module _ (h : true ≡ allOnes (next s) 0 (t + 1)) (c : ℕ) (ec : c ≡ countUsed (next s) 0 (128 * t)) (x : ℕ) (ex : x ≡ countUsed (λ b. getD m′ b 0) 0 (128 * t)) where
+      pub followTable-other : (c ≡ t + 1 + x → ⊥) → false ≡ followTable s t n ms m
+      unfolding followTable
+      followTable-other d = rw (← e, ← h, ← ec, ← ex, ne-eqb c (t + 1 + x) d)
+
+      pub followTable-all : c ≡ t + 1 + x → true ≡ followTable s t n ms m
+      unfolding followTable
+      followTable-all d = rw (← e, ← h, ← ec, ← ex, eq-eqb c (t + 1 + x) d)
 
 -- the entries of a block, and those of the marked blocks
 quad-is : (b : ℕ) → map (entryAt b) (interval 0 4) ≡ quad b
@@ -171,13 +205,20 @@ marked-chains s ms n = each (blocksIn ms n) ∙ sym (join-join (entryChains s) q
         rw (e, each bs)
 
 -- the walk from no marks is the rule on its chains
-rest-tied : (v : ℕ → ℕ) (m os : List ℕ) (a k : ℕ) → Marked m os → every (λ b. eqb (v b) 0 || has eqb b os) (interval a k) ≡ restFree v m a k
-unfolding restFree
+rest-tied : (v : ℕ → ℕ) (m os : List ℕ) (a k : ℕ) → Marked m os
+    → every (λ b. eqb (v b) 0 || has eqb b os) (interval a k) ≡ every (λ b. eqb (v b) 0 || not (eqb (getD m b 0) 0)) (interval a k)
 rest-tied v m os a k g =
     every-same (λ b. eqb (v b) 0 || has eqb b os) (λ b. eqb (v b) 0 || not (eqb (getD m b 0) 0)) (interval a k)
     (λ x i. ap (λ (t : Bool). eqb (v x) 0 || t) (sym (ap not (g .at x) ∙ Bool·not-not (has eqb x os))))
 
-module _ (s : List ℕ) (n : ℕ) (ms : List ℕ) (size : ℕ) (high : n ≤ size) where
+marked-in : (m os : List ℕ) → Marked m os → (b : ℕ) → (getD m b 0 ≡ 0 → ⊥) → In b os
+marked-in m os g b h = go (has eqb b os) refl
+  where
+    go : (t : Bool) → has eqb b os ≡ t → In b os
+    go true e = has-eqb-in b os e
+    go false e = absurd (h (eqb-true (getD m b 0) 0 (g .at b ∙ ap not e)))
+
+module _ (s : List ℕ) (n : ℕ) (low : minBlocks ≤ n) (ms : List ℕ) (size : ℕ) (high : n ≤ size) where
   abbrev cs : List (ℕ × ℕ)
   cs = joined (λ x. joined (λ k. slotChains s (entryAt x k)) (interval 0 4)) (select (isMarked ms) (interval 0 n))
 
@@ -187,6 +228,9 @@ module _ (s : List ℕ) (n : ℕ) (ms : List ℕ) (size : ℕ) (high : n ≤ siz
     where
       m : List ℕ
       m = zeros size
+
+      m′ : List ℕ
+      m′ = followAll (next s) n cs m .marks
 
       os : List ℕ
       os = owned (next s) cs
@@ -203,20 +247,33 @@ module _ (s : List ℕ) (n : ℕ) (ms : List ℕ) (size : ℕ) (high : n ≤ siz
       tied : Tied (followAll (next s) n cs m) (all && distinct eqb os) os (length m)
       tied = followAll-tied (next s) n cs m [] (let l = length-zeros size in omega arith) (marked-zeros size) refl
 
-      free : Bool
-      free = restFree (next s) (followAll (next s) n cs m .marks) (tableBlocks n + 1) (128 * tableBlocks n - (tableBlocks n + 1))
+      counted : Bool
+      counted = eqb (countUsed (next s) 0 (128 * tableBlocks n)) (tableBlocks n + 1 + countUsed (λ b. getD m′ b 0) 0 (128 * tableBlocks n))
 
       none : (a p x : Bool) → a && p ≡ false → false ≡ a && (p && x)
       none true true x z = absurd (false≢true (sym z))
       none true false x z = refl
       none false p x z = refl
 
-      go : (t : Bool) → followAll (next s) n cs m .ok ≡ t → followAll (next s) n cs m .ok && (ones && free) ≡ all && (distinct eqb os && (ones && rest))
+      free : all ≡ true → Marked m′ os → ones ≡ true → rest ≡ counted
+      free good g o =
+          rest-tied (next s) m′ os (tableBlocks n + 1) (128 * tableBlocks n - (tableBlocks n + 1)) g
+          ∙ rest-counted (next s) (λ b. getD m′ b 0) (tableBlocks n + 1) (128 * tableBlocks n) (omega (arith, low)) o
+          (λ b h. below b h (eqb (getD m′ b 0) 0) refl)
+          (λ b h z. owned-in (next s) n low cs good b (marked-in m′ os g b h) .2 z)
+        where
+          below : (b : ℕ) → b < tableBlocks n + 1 → (t : Bool) → eqb (getD m′ b 0) 0 ≡ t → getD m′ b 0 ≡ 0
+          below b h true e = eqb-true (getD m′ b 0) 0 e
+          below b h false e = absurd (let q = owned-in (next s) n low cs good b (marked-in m′ os g b (eqb-false (getD m′ b 0) 0 e)) in omega (arith, q .0))
+
+      both : (t : Bool) → ones ≡ t → (ones ≡ true → rest ≡ counted) → t && counted ≡ t && rest
+      both true o f = sym (f o)
+      both false o f = refl
+
+      go : (t : Bool) → followAll (next s) n cs m .ok ≡ t → followAll (next s) n cs m .ok && (ones && counted) ≡ all && (distinct eqb os && (ones && rest))
       go true e =
           let p = and-split all (distinct eqb os) (sym (tied .ok) ∙ e) in
-          let r : rest ≡ free = rest-tied (next s) (followAll (next s) n cs m .marks) os (tableBlocks n + 1) (128 * tableBlocks n - (tableBlocks n + 1))
-          (tied .marks e) in
-          rw (e, p .0, p .1, r)
+          rw (e, p .0, p .1) (both ones refl (free (p .0) (tied .marks e)))
       go false e = rw e (none all (distinct eqb os) (ones && rest) (sym (tied .ok) ∙ e))
 
 -- THE LAW
@@ -237,7 +294,7 @@ module _ (s : List ℕ) (n : ℕ) (ms : List ℕ) (shape : Shape s n) (T : Tree 
   stage6-tied size room =
       let bl : List ℕ = select (isMarked ms) (interval 0 n) in
       let z : blockCount s ≡ n = shape-blockCount s n shape in
-      followTable-tied s n ms size room
+      followTable-tied s n (shape .low) ms size room
       ∙ ap (tableOk (next s) n) (marked-chains s ms n)
       ∙ sym (any-order s n T (shape .low) bl (select-distinct (isMarked ms) 0 n) block-in in-block)
       ∙ ap (λ (k : ℕ). tableOk (next s) k (allChains s)) (sym z)

@@ -23,6 +23,7 @@ use Rattle.layout.proofs.Laws.Tests.{and-split, firstOf-refused}
 use Rattle.layout.proofs.Laws.Visits.{Tree, dirBlocks, tree, visit-tree}
 use Rattle.layout.proofs.Walks.Marks.{Marked}
 use Rattle.layout.proofs.Walks.Owned.{stage6-tied}
+use Rattle.layout.proofs.Walks.Used.{stage6-counted}
 use Rattle.layout.proofs.Walks.Shapes.{shape-blockCount}
 use Rattle.layout.proofs.Walks.Tree.{visit-tied}
 
@@ -169,6 +170,9 @@ module _ (s : List ℕ) (n : ℕ) (shape : Shape s n) (r : ℕ) (m : List ℕ) (
       body-table =
           let q : faultOf (visitRoot s) ≡ 0 = sym met-fault ∙ z in
           rw (q, ← table-stage ok more enough e)
+
+      pub bodyStage-used : ok ≡ true → countUsed (next s) 0 (128 * tableBlocks n) ≡ countUsed (next s) 0 n
+      bodyStage-used h = stage6-counted s n shape (sym (table-stage ok more enough e) ∙ h)
 
       pub bodyStage-6 : ok ≡ false → 6 ≡ bodyStage s
       bodyStage-6 h = sym (body-table ∙ rw h)

@@ -1,7 +1,8 @@
 -- The stages of the check, as the code takes them: chains and directories with marks, the header by itself, and the stages in parts.
 use Prim.Native.Nat.{ℕ, zero, suc, _+_, _-_, _*_}
-use mathlib.Core.Bool.{Bool, false, not, cond, _&&_}
+use mathlib.Core.Bool.{Bool, true, false, not, cond, _&&_}
 use mathlib.Core.List.{List, [], _∷_}
+use mathlib.Core.Path.{_≡_}
 use lib.Dec.{eqb, ltb}
 use lib.ListN.{getD}
 use Rattle.layout.specs.Limits.{maxLevels}
@@ -12,7 +13,7 @@ use Rattle.layout.specs.Geometry.{tableBlocks, rootBlock}
 use Rattle.layout.specs.Table.{next}
 use Rattle.layout.specs.Directory.{slotAt, typeOf, firstBlock, blocksOf, isFile, isDirectory, directory}
 use Rattle.layout.specs.Check.{stage1, stage2, stage3, slotOk, newName, visitRoot, faultOf, fileChains, stage6, stage7}
-use Rattle.layout.specs.Walks.Chains.{Walk, walked, follow, followAll, allOnes, restFree}
+use Rattle.layout.specs.Walks.Chains.{Walk, walked, follow, followAll, allOnes, countUsed}
 use Rattle.layout.specs.Walks.Entries.{selfOk}
 use Rattle.layout.specs.Walks.Slots.{entryAt}
 
@@ -92,11 +93,16 @@ isMarked ms b = not (eqb (getD ms b 0) 0)
 unfoldable pub followBlocks : List ℕ → ℕ → List ℕ → ℕ → ℕ → List ℕ → Walk
 followBlocks s n ms b j m = followAll (next s) n (joined (λ x. joined (λ k. slotChains s (entryAt x k)) (interval 0 4)) (select (isMarked ms) (interval b j))) m
 
--- the chains, the first entries and the others
+-- the chains, the first entries, and that just the marked of the others are in use
 unfoldable pub followTable : List ℕ → ℕ → ℕ → List ℕ → List ℕ → Bool
 followTable s t n ms m =
     let w : Walk = followBlocks s n ms 0 n m in
-    w .ok && (allOnes (next s) 0 (t + 1) && restFree (next s) (w .marks) (t + 1) (128 * t - (t + 1)))
+    w .ok && (allOnes (next s) 0 (t + 1) && eqb (countUsed (next s) 0 (128 * t)) (t + 1 + countUsed (λ b. getD (w .marks) b 0) 0 (128 * t)))
+
+-- 0 if these are not met, else how many entries are in use
+pub record TableUsed (s : List ℕ) (t n : ℕ) (ms m : List ℕ) (r : ℕ) : Type 0 where
+  pub none : r ≡ 0 → false ≡ followTable s t n ms m
+  pub some : (r ≡ 0 → ⊥) → (true ≡ followTable s t n ms m) × (r ≡ countUsed (next s) 0 (128 * t))
 
 -- the header's numbers, and its counts
 unfoldable pub headerOk : List ℕ → ℕ → Bool

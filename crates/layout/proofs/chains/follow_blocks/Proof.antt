@@ -18,20 +18,27 @@ abbrev μ-loop : tie.MeasureT-loop
 loop-holds : tie.Need-loop-holds Inv-loop μ-loop
 loop-holds c = (refl, omega arith, refl)
 
-follow-marked-requires : tie.Need-follow-marked-requires Inv-loop μ-loop
-follow-marked-requires c κs = let p = c .before .before .before .before .before .before .pre in (record { shape = p .0 .shape; table = p .0 .table; marks = omega (arith, c .before .before .loop .inv .0, p .0 .marks) }, omega arith, p .1)
+step-requires : tie.Need-step-requires Inv-loop μ-loop
+step-requires c κs = omega arith
+
+follow-group-requires : tie.Need-follow-group-requires Inv-loop μ-loop
+follow-group-requires c κs =
+    let p = c .before .before .before .before .before .before .before .pre in
+    (record { shape = p .0 .shape; table = p .0 .table; marks = omega (arith, c .before .before .before .loop .inv .0, p .0 .marks) }, omega arith, p .1)
 
 same-length : tie.Need-same-length Inv-loop μ-loop
 same-length c = omega arith
 
 returns : tie.Need-returns Inv-loop μ-loop
 returns c =
-    let l = c .before .before .before .before .before .before .loop in
-    let t : c .before .before .before .follow-marked .result ≡ false = not-true _ (c .if1 .taken) in
-    sym (l .inv .2 ∙ followBlocks-stop _ _ _ _ _ _ (omega arith) _ (rw t at (c .before .before .before .follow-marked .ensures)))
+    let g = c .before .before .before in
+    let l = g .before .before .before .before .loop in
+    let k = g .before .before .step in
+    let t : g .follow-group .result ≡ false = not-true _ (c .if1 .taken) in
+    sym (l .inv .2 ∙ followBlocks-stop _ _ _ _ _ _ (k .result) (k .ensures .1) _ (rw t at (g .follow-group .ensures)))
 
 add-b : tie.Need-add-b Inv-loop μ-loop
-add-b c = let p = c .before .before .before .before .before .before .before .before .before .before .pre .0 .shape in omega arith
+add-b c = let p = c .before .before .before .before .before .before .before .before .before .before .before .pre .0 .shape in omega arith
 
 sub-left : tie.Need-sub-left Inv-loop μ-loop
 sub-left c = omega arith
@@ -41,9 +48,11 @@ loop-less c = omega arith
 
 loop-again : tie.Need-loop-again Inv-loop μ-loop
 loop-again c =
-    let l = c .before .before .before .before .before .before .loop in
-    let t : c .before .before .before .follow-marked .result ≡ true = not-false _ (c .if1 .left) in
-    (omega arith, omega arith, l .inv .2 ∙ followBlocks-next _ _ _ _ _ _ (omega arith) _ (rw t at (c .before .before .before .follow-marked .ensures)))
+    let g = c .before .before .before in
+    let l = g .before .before .before .before .loop in
+    let k = g .before .before .step in
+    let t : g .follow-group .result ≡ true = not-false _ (c .if1 .left) in
+    (omega arith, omega arith, l .inv .2 ∙ followBlocks-next _ _ _ _ _ _ (k .result) (k .ensures .1) _ (rw t at (g .follow-group .ensures)))
 
 same-length-2 : tie.Need-same-length-2 Inv-loop μ-loop
 same-length-2 c = omega arith
@@ -60,7 +69,8 @@ follow-blocks-spec =
     Inv-loop
     μ-loop
     loop-holds
-    follow-marked-requires
+    step-requires
+    follow-group-requires
     same-length
     returns
     add-b

@@ -1,8 +1,8 @@
 use Prim.Native.Nat.{_+_}
 use native.Mathlib.Omega.{arith}
 use borrow.Author.Needs.{needs}
-use Rattle.layout.proofs.table.word.Statement.{statement}
-use Rattle.layout.proofs.table.word.Tie as tie
+use Rattle.layout.proofs.number.word.Statement.{statement}
+use Rattle.layout.proofs.number.word.Tie as tie
 
 shared-slice-read-a : tie.Need-shared-slice-read-a
 shared-slice-read-a c = search needs
