@@ -13,7 +13,8 @@ use Rattle.layout.specs.Table.{next, setNext, chain, endsAfter, occupied}
 use Rattle.layout.specs.Walks.Chains.{allOnes, restFree}
 use Rattle.layout.proofs.Laws.Tests.{accept-refused}
 use Rattle.volume.specs.Entries.{linked, taken, freed}
-use Rattle.chain_table.specs.Numbers.{valueIn, entriesOf, Held, lowestFree, linkedIn, takenIn, freedIn}
+use Rattle.volume.specs.Search.{lowestFree}
+use Rattle.chain_table.specs.Numbers.{valueIn, entriesOf, Held, linkedIn, takenIn, freedIn}
 use Rattle.chain_table.specs.Transfer.{tableRefusal, loadTable, storeTable}
 use Rattle.chain_table.specs.Runs.{TableRunTheorem}
 use Rattle.layout.proofs.Laws.Values.{chain-same, ends-same, occupied-agree, ones-same, restFree-same}

@@ -1,13 +1,12 @@
 -- The chain table held as numbers (FORMAT.md, 12: "a lent run of 32-bit numbers, one per block"). A question is asked of the values, a function from block
 -- numbers: of an image `next s`, of numbers `valueIn xs`. So the layout's definitions say what each question answers on either.
-use Prim.Native.Nat.{ℕ, zero, suc, _-_, _<_}
+use Prim.Native.Nat.{ℕ, zero, suc, _<_}
 use mathlib.Core.List.{List, map}
 use mathlib.Core.Path.{_≡_}
 use lib.ListN.{length, getD, set}
 use Rattle.layout.specs.Lists.{interval, joined}
 use Rattle.layout.specs.Bytes.{bytes4, splice}
 use Rattle.layout.specs.Table.{next}
-use Rattle.volume.specs.Walks.Searches.{freeFrom}
 
 -- the value of entry b; past the last number it is 0
 abbrev pub valueIn : List ℕ → ℕ → ℕ
@@ -25,10 +24,6 @@ stored s xs = splice s 512 (joined bytes4 xs)
 pub record Held (s xs : List ℕ) (n : ℕ) : Type 0 where
   pub size : length xs ≡ n
   pub same : (b : ℕ) → b < n → valueIn xs b ≡ next s b
-
--- the lowest free block from a on, or n
-unfoldable pub lowestFree : (ℕ → ℕ) → ℕ → ℕ → ℕ
-lowestFree v a n = getD (freeFrom v a (n - a)) 0 n
 
 -- the volume's changes of the table, on the numbers: block b linked after the block `last` (0: there is none), taken, freed
 unfoldable pub linkedIn : List ℕ → ℕ → ℕ → List ℕ

@@ -8,7 +8,8 @@ ghost use Rattle.layout.specs.Lists.{lastOr};
 ghost use Rattle.layout.specs.Geometry.{tableBlocks};
 ghost use Rattle.layout.specs.Table.{chain, endsAfter, occupied};
 ghost use Rattle.layout.specs.Walks.Chains.{allOnes, restFree};
-ghost use Rattle.chain_table.specs.Numbers.{valueIn, lowestFree};
+ghost use Rattle.volume.specs.Search.{lowestFree};
+ghost use Rattle.chain_table.specs.Numbers.{valueIn};
 
 // The value of entry b.
 pub fn value(numbers: &[u32], b: usize) -> u32

@@ -1,5 +1,6 @@
 -- THE LAWS of the changes, by what they speak of.
 pub mod Table
+pub mod Notes
 pub mod Entries
 pub mod Frame
 pub mod Data

@@ -19,6 +19,9 @@ use Rattle.layout.specs.Directory.{firstBlock, blocksOf, isFile, isDirectory, i
 use Rattle.layout.specs.Check.{check}
 use Rattle.layout.specs.Paths.{parts, pathSlot, entryOf, fileRefusal}
 use Rattle.layout.specs.Looks.{lookup, lookupRefusal, read, lookInPlace, readAttributes}
+use Rattle.volume.specs.Entries.{taken}
+use Rattle.volume.specs.Search.{lowestFree, Exact, notedFull, searched}
+use Rattle.volume.specs.Walks.Searches.{Takeable, Renoted}
 use Rattle.volume.specs.Format.{formatRefusal, formatted}
 use Rattle.volume.specs.Write.{needed, newBlocks}
 use Rattle.volume.specs.Delete.{allBlocks}
@@ -39,6 +42,7 @@ use Rattle.volume.proofs.Laws.Acts.{acts, others-untouched, create-dire
 use Rattle.volume.proofs.Laws.Shown.{read-shown, attributes-read, look-shown, not-shown, splice-long, lookup-kept, own-lookup, own-read, own-look, file-owner, chains-apart, directory-apart, directory-owner, write-path}
 use Rattle.volume.proofs.Laws.Alike.{lookup-alike, read-alike, look-alike, attributes-alike}
 use Rattle.volume.proofs.Laws.ShownFlags as shown-flags
+use Rattle.volume.proofs.Laws.Notes as noted
 use Rattle.volume.proofs.Laws.Orders as orders
 use Rattle.volume.proofs.Laws.Inside as inside
 use Rattle.layout.proofs.Laws.Looks.{look-empty as empty-refused, look-empty-only as refused-empty}
@@ -57,6 +61,18 @@ pub no-room : (s path : List ℕ) (offset : ℕ) (bytes : List ℕ) (time : ℕ)
     → (refusal s (write path offset bytes time) ≡ 14 → NoRoom s path offset (length bytes)) × (NoRoom s path offset (length bytes) → refusal s (write path offset bytes time) ≡ 14)
 unfolding refusal
 no-room s path offset bytes time = (refused-14 s path offset (length bytes), lacking-14 s path offset (length bytes))
+
+-- L3. By notes that are right the search gives the lowest free block; its answer does not depend on the entries of a block noted as full; and when a block
+-- is taken, the notes are right if that of its own table block is made anew.
+pub search-lowest : (notes : List ℕ) (v : ℕ → ℕ) (n : ℕ) → Exact v n notes → (a : ℕ) → searched notes v a n ≡ lowestFree v a n
+search-lowest = noted.search-lowest
+
+pub search-any-full : (notes : List ℕ) (v w : ℕ → ℕ) (a n : ℕ) → ((b : ℕ) → b < n → notedFull notes b ≡ false → w b ≡ v b) → searched notes w a n ≡ searched notes v a n
+search-any-full = noted.search-any-full
+
+pub notes-kept : (s : List ℕ) (n last b : ℕ) (notes notes′ : List ℕ) → Takeable s n last b → Exact (next s) n notes → Renoted (next (taken s n last b)) n (b / 128) notes notes′
+    → Exact (next (taken s n last b)) n notes′
+notes-kept = noted.notes-kept
 
 -- Look in place "hands back an empty part exactly if it refuses or i is not below the file's blocks", on any image.
 pub look-empty : (s path : List ℕ) (i : ℕ) → (lookupRefusal s path ≢ 0) ⊎ (blocksOf s (entryOf isFile s path) ≤ i) → lookInPlace s path i ≡ []

@@ -5,6 +5,7 @@ pub mod Marks
 pub mod Format
 pub mod Release
 pub mod Delete
+pub mod Notes
 pub mod Grow
 pub mod Vacant
 pub mod Attributes

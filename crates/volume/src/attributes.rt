@@ -106,8 +106,7 @@ fn fill_blocks(image: &mut [u8], n: usize, bytes: &[u8]) -> usize
     ensures bytes { λ r. ⌜ now (image .exit) ≡ put (grown (now (image .entry)) n 0 (take (length (now (bytes .entry)) / 512) (freeBlocks (next (now (image .entry))) n))) (take (length (now (bytes .entry)) / 512) (freeBlocks (next (now (image .entry))) n)) 0 (now (bytes .entry)) ⌝ }
 {
     let k = bytes.len() / 512;
-    let first = super::table::next_free(image, 0, n);
-    super::table::grow(image, n, 0, k);
+    let first = super::table::grow(image, n, 0, k);
     super::data::put_data(image, n, first, k, 0, bytes);
     first
 }

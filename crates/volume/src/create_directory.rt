@@ -87,8 +87,7 @@ fn take_blocks(image: &mut [u8], d: usize) -> Span
     ensures last { λ r. ⌜ r .last ≡ getD (take d (freeBlocks (next (now (image .entry))) (blockCount (now (image .entry))))) (d - 1) 0 ⌝ }
 {
     let n = image.len() / 512;
-    let first = super::table::next_free(image, 0, n);
-    super::table::grow(image, n, 0, d);
+    let first = super::table::grow(image, n, 0, d);
     let last = layout::table::nth(image, n, first, d, d - 1);
     Span {
         first: first,

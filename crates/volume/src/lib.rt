@@ -11,6 +11,7 @@ mod file;
 mod flags;
 pub mod format;
 mod marks;
+mod notes;
 pub mod number;
 mod place;
 mod slot;

@@ -1,19 +1,18 @@
 // Write, on an image that the caller has checked.
 ghost use mathlib.Core.Path.{_≡_};
-ghost use mathlib.Core.List.{_++_};
-ghost use Prim.Native.Nat.{_+_, _-_, _*_, _≤_, _<_, max};
-ghost use lib.ListN.{length, getD, take};
+ghost use Prim.Native.Nat.{_+_, _-_, _≤_, _<_, max};
+ghost use lib.ListN.{length};
 ghost use Rattle.layout.specs.Limits.{maxData};
 ghost use Rattle.layout.specs.Lists.{lastOr};
-ghost use Rattle.layout.specs.Geometry.{tableBlocks, blockCount, blocksFor};
-ghost use Rattle.layout.specs.Table.{next, chain, freeBlocks};
+ghost use Rattle.layout.specs.Geometry.{blockCount, blocksFor};
+ghost use Rattle.layout.specs.Table.{next, chain};
 ghost use Rattle.layout.specs.Check.{check};
 ghost use Rattle.layout.specs.Directory.{isFile};
 ghost use Rattle.layout.specs.Paths.{entryOf};
 ghost use Rattle.layout.specs.Walks.Shapes.{ChainBelow};
 ghost use Rattle.volume.specs.Write.{writeRefusal, writeAt, written, writeNamed};
 ghost use Rattle.volume.specs.Walks.Marks.{marked};
-ghost use Rattle.volume.specs.Walks.Writes.{Planned};
+ghost use Rattle.volume.specs.Walks.Writes.{startOf, Planned};
 use layout::limits::MAX_DATA;
 
 // The larger of two numbers.
@@ -67,27 +66,24 @@ fn last_block(image: &[u8], n: usize, first: usize, blocks: usize) -> usize
     layout::table::nth(image, n, first, blocks, blocks - 1)
 }
 
-// The first block of a chain that takes k blocks more; 0: it has none.
-fn start_block(image: &[u8], n: usize, first: usize, blocks: usize, k: usize) -> usize
-    requires { ⌜ (512 * tableBlocks n + 512 ≤ length (now image)) × (k ≤ length (freeBlocks (next (now image)) n)) ⌝ }
-    ensures { λ r. ⌜ r ≡ getD (chain (next (now (image .entry))) first blocks ++ take k (freeBlocks (next (now (image .entry))) n)) 0 0 ⌝ }
+// The first block of a file that had `held` blocks from `first` on, when the first block taken is `taken`.
+fn start_block(held: usize, first: usize, taken: usize) -> usize
+    ensures { λ r. ⌜ r ≡ startOf held first taken ⌝ }
 {
-    if blocks != 0 {
-        return first;
+    if held == 0 {
+        return taken;
     }
-    if k == 0 {
-        return 0;
-    }
-    super::table::next_free(image, 0, n)
+    first
 }
 
-// What an accepted write does: where the entry is, the block to link behind, and the file's numbers after it.
+// What an accepted write does: where the entry is, the block to link behind, the file's blocks so far, and its numbers after it.
 struct Plan {
     slot: usize,
     block: usize,
     last: usize,
     taken: usize,
-    start: usize,
+    held: usize,
+    first: usize,
     size: usize,
     blocks: usize,
 }
@@ -95,7 +91,7 @@ struct Plan {
 // The plan of an accepted write.
 fn plan_write(image: &[u8], path: &[u8], offset: usize, count: usize) -> Plan
     requires { ⌜ (check (now image) ≡ 0) × (writeRefusal (now image) (now path) offset count ≡ 0) ⌝ }
-    ensures { λ r. ⌜ Planned (now (image .entry)) (entryOf isFile (now (image .entry)) (now (path .entry))) offset count (r .slot) (r .block) (r .last) (r .taken) (r .start) (r .size) (r .blocks) ⌝ }
+    ensures { λ r. ⌜ Planned (now (image .entry)) (entryOf isFile (now (image .entry)) (now (path .entry))) offset count (r .slot) (r .block) (r .last) (r .taken) (r .held) (r .first) (r .size) (r .blocks) ⌝ }
 {
     let f = super::file::locate(image, path);
     let first = f.first;
@@ -104,14 +100,14 @@ fn plan_write(image: &[u8], path: &[u8], offset: usize, count: usize) -> Plan
     let n = image.len() / 512;
     let k = needed(size, blocks, offset, count);
     let last = last_block(image, n, first, blocks);
-    let start = start_block(image, n, first, blocks, k);
     let end = larger(size, offset + count);
     Plan {
         slot: f.slot,
         block: f.block,
         last: last,
         taken: k,
-        start: start,
+        held: blocks,
+        first: first,
         size: end,
         blocks: blocks + k,
     }
@@ -124,9 +120,10 @@ pub fn write(image: &mut [u8], path: &[u8], offset: usize, bytes: &[u8], time: u
 {
     let p = plan_write(image, path, offset, bytes.len());
     let n = image.len() / 512;
-    super::table::grow(image, n, p.last, p.taken);
-    super::data::put_data(image, n, p.start, p.blocks, offset, bytes);
-    super::file::set_file(image, p.block, p.slot, p.start, p.size, p.blocks, time);
+    let taken = super::table::grow(image, n, p.last, p.taken);
+    let start = start_block(p.held, p.first, taken);
+    super::data::put_data(image, n, start, p.blocks, offset, bytes);
+    super::file::set_file(image, p.block, p.slot, start, p.size, p.blocks, time);
 }
 
 // Marks the blocks that hold one of `count` bytes written at an offset, of the chain of k blocks from `first` on.

@@ -18,9 +18,9 @@ use Rattle.layout.specs.Walks.Chains.{restFree, countUsed}
 use Rattle.layout.proofs.Laws.Bytes.{length-bytes4, splice-nil, splice-append, length-joined4}
 use Rattle.layout.proofs.Laws.Chains.{nth, length-chain}
 use Rattle.layout.proofs.Laws.Lists.{interval-next}
-use Rattle.volume.specs.Walks.Searches.{freeFrom}
-use Rattle.volume.proofs.Walks.Grow.{free-none, free-skip, free-here}
-use Rattle.chain_table.specs.Numbers.{valueIn, lowestFree, linkedIn}
+use Rattle.volume.specs.Search.{lowestFree}
+use Rattle.volume.proofs.Laws.Notes.{first-none, first-here, first-skip}
+use Rattle.chain_table.specs.Numbers.{valueIn, linkedIn}
 
 -- numbers filled in ascending order: those below i have their values, and one more
 pub fill-more : (v : ℕ → ℕ) (xs : List ℕ) (i x : ℕ) → i < length xs → ((b : ℕ) → b < i → valueIn xs b ≡ v b) → x ≡ v i
@@ -86,17 +86,15 @@ module _ (v : ℕ → ℕ) (m : List ℕ) (a n : ℕ) where
 module _ (v : ℕ → ℕ) (a n : ℕ) where
   pub search-next : a < n → v a ≢ 0 → lowestFree v a n ≡ lowestFree v (a + 1) n
   unfolding lowestFree
-  search-next h z =
-      let e : n - a - 1 ≡ n - (a + 1) = omega arith in
-      ap (λ (bs : List ℕ). getD bs 0 n) (free-skip v a (n - a) (omega arith) z ∙ ap (freeFrom v (a + 1)) e)
+  search-next h z = first-skip (λ b. eqb (v b) 0) n a h (ne-eqb (v a) 0 z)
 
   pub search-here : a < n → v a ≡ 0 → lowestFree v a n ≡ a
   unfolding lowestFree
-  search-here h z = ap (λ (bs : List ℕ). getD bs 0 n) (free-here v a (n - a) (omega arith) z)
+  search-here h z = first-here (λ b. eqb (v b) 0) n a h (eq-eqb (v a) 0 z)
 
   pub search-end : n ≤ a → lowestFree v a n ≡ n
   unfolding lowestFree
-  search-end h = ap (λ (bs : List ℕ). getD bs 0 n) (free-none v a (n - a) (omega arith))
+  search-end h = first-none (λ b. eqb (v b) 0) n a h
 
 pub count-occupied : (v : ℕ → ℕ) (n : ℕ) → countUsed v 0 n ≡ occupied v n
 unfolding countUsed occupied

@@ -2,7 +2,7 @@
 use Prim.Native.Nat.{ℕ, _+_, _*_, _/_, _%_, _≤_, _<_}
 use mathlib.Core.Path.{_≡_, refl, sym, ap, _∙_, subst}
 use mathlib.Core.Bool.{Bool, true, false, _&&_}
-use mathlib.Core.List.{List, [], _∷_, _++_}
+use mathlib.Core.List.{List, [], _∷_}
 use native.Mathlib.Omega.{arith}
 use lib.Dec.{eqb, leb}
 use lib.ListN.{length, getD, take, length-take}
@@ -220,7 +220,7 @@ module _ {s : List ℕ} {n : ℕ} (bytes : List ℕ) (f : Fillable s n (length b
   abbrev fresh : List ℕ
   fresh = take (length bytes / 512) (freeBlocks (next s) n)
 
-  pub fill-one : 1 ≤ length bytes / 512
+  fill-one : 1 ≤ length bytes / 512
   fill-one = omega (arith, f .some, f .whole)
 
   module _ (t : List ℕ) (et : t ≡ grown s n 0 (take (length bytes / 512) (freeBlocks (next s) n))) (b : ℕ) (eb : b ≡ getD (take (length bytes / 512) (freeBlocks (next s) n)) 0 0) where

@@ -1,61 +1,85 @@
--- The blocks that are free when those of a chain are freed: the walk along the chain, and the test of one block.
-use Prim.Native.Nat.{ℕ, _-_, _<_}
-use mathlib.Core.Path.{_≡_, refl, sym, ap, _∙_}
-use mathlib.Core.Bool.{Bool, true, false, cond}
-use mathlib.Core.List.{List, []}
+-- The blocks that are free when those of a chain are freed: the walk along the chain for the lowest, and the lower one of it and a free block.
+use Prim.Native.Nat.{ℕ, _-_, _≤_, _<_, min}
+use mathlib.Core.Path.{_≡_, refl, sym, ap, subst, _∙_}
+use mathlib.Core.Bool.{Bool, true, false, cond, _||_}
+use mathlib.Core.List.{List}
 use native.Mathlib.Omega.{arith}
 use lib.Dec.{eqb}
-use borrow.Author.Tests.{eq-eqb, ne-eqb, eqb-false}
+use lib.ListN.{length}
+use borrow.Author.Tests.{eq-eqb, ne-eqb}
 use Rattle.layout.specs.Lists.{has}
 use Rattle.layout.specs.Table.{next, chain}
 use Rattle.layout.specs.Walks.Shapes.{ChainBelow}
-use Rattle.volume.specs.Walks.Searches.{without}
-use Rattle.layout.proofs.Laws.Tests.{true-not-false}
+use Rattle.volume.specs.Search.{lowestFree, Exact, searched}
+use Rattle.volume.specs.Walks.Searches.{without, freeFrom, First, FirstFree}
+use Rattle.volume.proofs.Laws.Notes.{first-of, first-either, first-same, search-lowest}
+use Rattle.volume.proofs.Walks.Grow.{first-free}
 use Rattle.layout.proofs.Laws.Chains.{chain-suc, chain-none}
 use Rattle.layout.proofs.Walks.Shapes.{run-rest}
 
--- the walk that looks for block x
-pub record Seeking (s : List ℕ) (n x : ℕ) (goal : Bool) (b left : ℕ) : Type 0 where
+-- the walk that looks for the lowest block from `from` on
+pub record Nearing (s : List ℕ) (n from : ℕ) (goal : List ℕ) (lowest b left : ℕ) : Type 0 where
   pub run : ChainBelow s n b left
-  pub same : goal ≡ has eqb x (chain (next s) b left)
+  pub high : lowest ≤ n
+  pub join : (r : ℕ) → First (λ x. has eqb x (chain (next s) b left)) from n r → First (λ x. has eqb x goal) from n (min lowest r)
 
-module _ {s : List ℕ} {n x : ℕ} {goal : Bool} {b left : ℕ} (w : Seeking s n x goal b left) where
-  pub seek-end : left ≡ 0 → false ≡ goal
-  seek-end e = sym (w .same ∙ ap (has eqb x) (chain-none (next s) b left e))
+pub nearing : (s : List ℕ) (n from first k : ℕ) → ChainBelow s n first k → Nearing s n from (chain (next s) first k) n first k
+nearing s n from first k run =
+    record {
+      run = run;
+      high = omega arith;
+      join = λ r f. let e : min n r ≡ r = omega (arith, f .high) in subst (λ (x : ℕ). First (λ y. has eqb y (chain (next s) first k)) from n x) (sym e) f;
+    }
 
-  module _ (pos : 0 < left) where
-    pub seek-met : b ≡ x → true ≡ goal
-    seek-met e = sym (w .same ∙ ap (has eqb x) (chain-suc (next s) b left pos) ∙ rw (eq-eqb x b (sym e)))
+-- block b, if it is not below `from`
+module _ (n from b : ℕ) (below : b < n) where
+  pub ahead-none : b < from → First (λ x. eqb x b) from n n
+  ahead-none h = record { high = omega arith; before = λ c l u. ne-eqb c b (λ e. omega arith); met = λ k. absurd (omega arith) }
 
-    pub seek-turn : (b ≡ x → ⊥) → Seeking s n x goal (next s b) (left - 1)
-    seek-turn ne = record { run = run-rest (w .run) pos; same = w .same ∙ ap (has eqb x) (chain-suc (next s) b left pos) ∙ rw (ne-eqb x b (λ e. ne (sym e))) }
+  pub ahead-here : from ≤ b → First (λ x. eqb x b) from n b
+  ahead-here h = record { high = omega arith; before = λ c l u. ne-eqb c b (λ e. omega arith); met = λ k. (h, eq-eqb b b refl) }
+
+least-of : (a b c : ℕ) → min a (min b c) ≡ min (min a b) c
+least-of a b c = omega arith
+
+module _ {s : List ℕ} {n from : ℕ} {goal : List ℕ} {lowest b left : ℕ} (w : Nearing s n from goal lowest b left) where
+  pub nearest : left ≡ 0 → First (λ x. has eqb x goal) from n lowest
+  nearest e =
+      let none : First (λ x. has eqb x (chain (next s) b left)) from n n =
+      record { high = omega arith; before = λ c l u. ap (has eqb c) (chain-none (next s) b left e); met = λ k. absurd (omega arith) } in
+      let q : min lowest n ≡ lowest = omega (arith, w .high) in
+      subst (λ (x : ℕ). First (λ y. has eqb y goal) from n x) q (w .join n none)
+
+  pub near-turn : (x : ℕ) → 0 < left → First (λ y. eqb y b) from n x → Nearing s n from goal (min lowest x) (next s b) (left - 1)
+  near-turn x pos f =
+      record {
+        run = run-rest (w .run) pos;
+        high = omega (arith, w .high);
+        join = λ r g.
+            subst (λ (y : ℕ). First (λ z. has eqb z goal) from n y) (least-of lowest x r)
+            (w .join (min x r)
+            (first-same (λ y. eqb y b || has eqb y (chain (next s) (next s b) (left - 1))) (λ y. has eqb y (chain (next s) b left)) from n (min x r)
+            (λ y h. ap (has eqb y) (chain-suc (next s) b left pos))
+            (first-either (λ y. eqb y b) (λ y. has eqb y (chain (next s) (next s b) (left - 1))) from n x r f g)));
+      }
 
 -- a block is free, or one of those freed
 module _ (v : ℕ → ℕ) (bs : List ℕ) (b : ℕ) where
-  pub without-free : v b ≡ 0 → without v bs b ≡ 0
+  vacant-test : eqb (without v bs b) 0 ≡ (eqb (v b) 0 || has eqb b bs)
   unfolding without
-  without-free z = rw z (always (has eqb b bs))
+  vacant-test = go (has eqb b bs) (eqb (v b) 0) refl
     where
-      always : (t : Bool) → _≡_ {A = ℕ} (cond t 0 0) 0
-      always true = refl
-      always false = refl
+      go : (t u : Bool) → eqb (v b) 0 ≡ u → eqb (cond t 0 (v b)) 0 ≡ (u || t)
+      go true true e = refl
+      go true false e = refl
+      go false true e = e
+      go false false e = e
 
-  pub without-in : has eqb b bs ≡ true → without v bs b ≡ 0
-  unfolding without
-  without-in h = rw h
-
-  pub without-other : has eqb b bs ≡ false → without v bs b ≡ v b
-  unfolding without
-  without-other h = rw h
-
-  pub vacant-free : v b ≡ 0 → true ≡ eqb (without v bs b) 0
-  vacant-free z = sym (eq-eqb (without v bs b) 0 (without-free z))
-
-  pub vacant-used : (v b ≡ 0 → ⊥) → (r : Bool) → r ≡ has eqb b bs → r ≡ eqb (without v bs b) 0
-  vacant-used ne true h = sym (eq-eqb (without v bs b) 0 (without-in (sym h)))
-  vacant-used ne false h = sym (ne-eqb (without v bs b) 0 (λ z. ne (sym (without-other (sym h)) ∙ z)))
-
--- with no block freed the values are as they are
-pub without-none : (v : ℕ → ℕ) (b : ℕ) → without v [] b ≡ v b
-unfolding without
-without-none v b = refl
+-- the lower one of a free block and a block of the chain
+pub vacant-first : (notes : List ℕ) (v : ℕ → ℕ) (bs : List ℕ) (a n b c : ℕ) → Exact v n notes → a ≤ n → 0 < length (freeFrom (without v bs) a (n - a))
+    → b ≡ searched notes v a n → First (λ x. has eqb x bs) a n c → FirstFree (without v bs) a (n - a) (min b c)
+unfolding lowestFree
+vacant-first notes v bs a n b c exact h some e f =
+    first-free (without v bs) a n (min b c) h some
+    (first-same (λ x. eqb (v x) 0 || has eqb x bs) (λ x. eqb (without v bs x) 0) a n (min b c) (λ x l. vacant-test v bs x)
+    (first-either (λ x. eqb (v x) 0) (λ x. has eqb x bs) a n b c (subst (λ (x : ℕ). First (λ y. eqb (v y) 0) a n x) (sym (e ∙ search-lowest notes v n exact a)) (first-of (λ y. eqb (v y) 0) n a)) f))

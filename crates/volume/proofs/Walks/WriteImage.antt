@@ -5,7 +5,7 @@ use mathlib.Core.Bool.{true}
 use mathlib.Core.List.{List, _++_}
 use mathlib.Core.Logic.{⊎-elim}
 use native.Mathlib.Omega.{arith}
-use lib.ListN.{length, take}
+use lib.ListN.{length, getD, take}
 use borrow.Author.Tests.{lt-ltb}
 use Rattle.layout.specs.Lists.{lastOr}
 use Rattle.layout.specs.Bytes.{be32}
@@ -19,7 +19,7 @@ use Rattle.volume.specs.Entries.{grown}
 use Rattle.volume.specs.Write.{newSize, newBlocks, put, setFile, writeAt, writeRefusal}
 use Rattle.volume.specs.Walks.Data.{Placed}
 use Rattle.volume.specs.Walks.Searches.{Growable}
-use Rattle.volume.specs.Walks.Writes.{Planned}
+use Rattle.volume.specs.Walks.Writes.{startOf, Planned}
 use Rattle.volume.proofs.Laws.Places.{At, WriteGiven, write-given}
 use Rattle.volume.proofs.Laws.Framed.{at-entry}
 use Rattle.volume.proofs.Walks.Write.{path-given, at-typed}
@@ -35,7 +35,7 @@ use Rattle.layout.proofs.Laws.Looks.{path-file}
 use Rattle.layout.proofs.Laws.Owners.{file-used, free-count}
 
 module _ (s path : List ℕ) (offset : ℕ) (bytes : List ℕ) (ok : check s ≡ 0) (r : writeRefusal s path offset (length bytes) ≡ 0)
-    {slot b last taken start size blocks : ℕ} (p : Planned s (entryOf isFile s path) offset (length bytes) slot b last taken start size blocks)
+    {slot b last taken held first size blocks : ℕ} (p : Planned s (entryOf isFile s path) offset (length bytes) slot b last taken held first size blocks)
   where
     abbrev e : ℕ
     e = entryOf isFile s path
@@ -105,33 +105,40 @@ module _ (s path : List ℕ) (offset : ℕ) (bytes : List ℕ) (ok : check s ≡
     unfolding entryOf
     size-is = blocks-is ∙ all-size s S e E file offset (length bytes) (path-file s path (path-given s path offset (length bytes) r) ok .blocks) (given .room) ∙ ap blocksFor (sym (p .bytes))
 
-    chain-is : chain (next larger) start blocks ≡ old ++ new
-    unfolding entryOf
-    chain-is = rw (blocks-is, p .first) (larger-blocks s S d (A .home-in) k (A .named .low) (A .named .high) (A .named .typed) offset bytes 0 (given .room))
-
     length-is : length larger ≡ 512 * n
     unfolding entryOf
     length-is = larger-length s S d (A .home-in) k (A .named .low) (A .named .high) (A .named .typed) offset bytes 0 (given .room)
 
-    module _ (t : List ℕ) (et : t ≡ grown s n last (take taken (freeBlocks (next s) n))) where
-      pub write-placed : Placed t n start blocks offset (length bytes)
-      unfolding newSize
-      write-placed =
-          rw (et, taken-is)
-          (record { whole = length-is; low = S .least; high = S .most; inside = rw chain-is (in-every (inVolume n) (old ++ new) in-volume); fits = omega (arith, size-is, p .bytes) })
+    -- the image with the blocks taken, the first of which is x
+    module _ (t : List ℕ) (et : t ≡ grown s n last (take taken (freeBlocks (next s) n))) (x : ℕ) (ex : x ≡ getD (take taken (freeBlocks (next s) n)) 0 0)
+        (start : ℕ) (es : start ≡ startOf held first x)
+      where
+        first-is : start ≡ getD (old ++ new) 0 0
+        unfolding newBlocks
+        first-is = es ∙ p .start x (ex ∙ rw (p .taking))
 
-      module _ (u : List ℕ) (eu : u ≡ put t (chain (next t) start blocks) offset bytes) where
-        put-is : u ≡ put larger (old ++ new) offset bytes
-        put-is = eu ∙ rw (et, taken-is, chain-is)
-
-        pub write-settable : (512 * b + 512 ≤ length u) × (start < 4294967296) × (size < 4294967296) × (blocks < 4294967296)
+        chain-is : chain (next larger) start blocks ≡ old ++ new
         unfolding entryOf
-        write-settable =
-            let l : length u ≡ 512 * n = ap length put-is ∙ put-length n (S .least) (old ++ new) larger offset bytes length-is (all-below s S e E file offset (length bytes)) in
-            let f : start < 4294967296 = rw (p .first) (first-small s S d (A .home-in) k (A .named .low) (A .named .high) (A .named .typed) offset bytes 0 (given .room)) in
-            let m : blocks ≤ n = rw blocks-is (few s S d (A .home-in) k (A .named .low) (A .named .high) (A .named .typed) offset bytes 0 (given .room)) in
-            (omega (arith, p .inside), f, omega (arith, size-is, S .most), omega (arith, S .most))
+        chain-is = rw (blocks-is, first-is) (larger-blocks s S d (A .home-in) k (A .named .low) (A .named .high) (A .named .typed) offset bytes 0 (given .room))
 
-        pub write-done : (time : ℕ) → setFile u (entryAt b slot) start size blocks time ≡ writeAt s e offset bytes time
-        unfolding writeAt
-        write-done time = rw (put-is, p .place, p .first, p .bytes, p .number)
+        pub write-placed : Placed t n start blocks offset (length bytes)
+        unfolding newSize
+        write-placed =
+            rw (et, taken-is)
+            (record { whole = length-is; low = S .least; high = S .most; inside = rw chain-is (in-every (inVolume n) (old ++ new) in-volume); fits = omega (arith, size-is, p .bytes) })
+
+        module _ (u : List ℕ) (eu : u ≡ put t (chain (next t) start blocks) offset bytes) where
+          put-is : u ≡ put larger (old ++ new) offset bytes
+          put-is = eu ∙ rw (et, taken-is, chain-is)
+
+          pub write-settable : (512 * b + 512 ≤ length u) × (start < 4294967296) × (size < 4294967296) × (blocks < 4294967296)
+          unfolding entryOf
+          write-settable =
+              let l : length u ≡ 512 * n = ap length put-is ∙ put-length n (S .least) (old ++ new) larger offset bytes length-is (all-below s S e E file offset (length bytes)) in
+              let f : start < 4294967296 = rw first-is (first-small s S d (A .home-in) k (A .named .low) (A .named .high) (A .named .typed) offset bytes 0 (given .room)) in
+              let m : blocks ≤ n = rw blocks-is (few s S d (A .home-in) k (A .named .low) (A .named .high) (A .named .typed) offset bytes 0 (given .room)) in
+              (omega (arith, p .inside), f, omega (arith, size-is, S .most), omega (arith, S .most))
+
+          pub write-done : (time : ℕ) → setFile u (entryAt b slot) start size blocks time ≡ writeAt s e offset bytes time
+          unfolding writeAt
+          write-done time = rw (put-is, p .place, first-is, p .bytes, p .number)

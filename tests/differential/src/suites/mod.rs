@@ -3,6 +3,7 @@
 mod blank;
 mod broken;
 mod fixed;
+mod full;
 mod kept;
 mod lister;
 mod names;
@@ -47,6 +48,7 @@ pub const SUITES: &[Suite] = &[
     Suite { name: "orders", rounds: |n| n, run: orders::run },
     Suite { name: "kept", rounds: |n| n.div_ceil(5), run: kept::run },
     Suite { name: "blank", rounds: |n| n, run: blank::run },
+    Suite { name: "full", rounds: |n| n.div_ceil(4), run: full::run },
     Suite { name: "runs", rounds: |n| n, run: runs::run },
     Suite { name: "long", rounds: |n| n.div_ceil(250), run: runs::long },
     Suite { name: "large", rounds: |n| n.div_ceil(50), run: runs::large },

@@ -2,7 +2,8 @@ use Prim.Native.Nat.{_-_}
 use mathlib.Core.Path.{_≡_, refl, sym, _∙_}
 use native.Mathlib.Omega.{arith}
 use lib.ListN.{length}
-use Rattle.chain_table.specs.Numbers.{valueIn, lowestFree}
+use Rattle.volume.specs.Search.{lowestFree}
+use Rattle.chain_table.specs.Numbers.{valueIn}
 use Rattle.chain_table.proofs.Laws.Turns.{search-next, search-here, search-end}
 use Rattle.chain_table.proofs.questions.lowest_free.Statement.{statement}
 use Rattle.chain_table.proofs.questions.lowest_free.Tie as tie

@@ -1,4 +1,3 @@
-use mathlib.Core.Path.{sym, _∙_}
 use borrow.Author.Tests.{lt-leb, le-leb}
 use Rattle.volume.proofs.attributes.whole_blocks.Statement.{statement}
 use Rattle.volume.proofs.attributes.whole_blocks.Tie as tie

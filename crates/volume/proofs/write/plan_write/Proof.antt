@@ -1,8 +1,7 @@
 use native.Mathlib.Omega.{arith}
 use borrow.Author.Needs.{needs}
 use Rattle.layout.proofs.Walks.Looks.{located-below}
-use Rattle.volume.proofs.Walks.Plan.{plan-sizes, room-given, planned}
-use Rattle.layout.proofs.Walks.Shapes.{sound-shape}
+use Rattle.volume.proofs.Walks.Plan.{plan-sizes, planned}
 use Rattle.volume.proofs.write.plan_write.Statement.{statement}
 use Rattle.volume.proofs.Walks.Write.{path-given}
 use Rattle.volume.proofs.write.plan_write.Tie as tie
@@ -20,46 +19,25 @@ last-block-requires c κs =
     let p = c .before .before .before .before .pre in
     located-below (c .before .locate .ensures .0) (path-given _ _ _ _ (p .1)) (p .0)
 
-start-block-requires : tie.Need-start-block-requires
-start-block-requires c κs =
-    let locate = c .before .before .locate in
-    let p = c .before .before .before .before .before .pre in
-    let h = sound-shape _ (p .0) in
-    (omega arith, room-given _ _ _ _ (p .0) (p .1) (locate .ensures .0) _ (c .before .needed .ensures))
-
 add-larger : tie.Need-add-larger
 add-larger c =
-    let locate = c .before .before .before .locate in
-    let p = c .before .before .before .before .before .before .pre in
-    omega (arith, plan-sizes _ _ _ _ (p .0) (p .1) (locate .ensures .0))
+    let p = c .before .before .before .before .before .pre in
+    omega (arith, plan-sizes _ _ _ _ (p .0) (p .1) (c .before .before .locate .ensures .0))
 
 larger-requires : tie.Need-larger-requires
 larger-requires c κs = search needs
 
-add-t14 : tie.Need-add-t14
-add-t14 c =
-    let needed = c .before .before .before .needed in
-    let locate = c .before .before .before .before .locate in
-    let p = c .before .before .before .before .before .before .before .pre in
-    omega (arith, plan-sizes _ _ _ _ (p .0) (p .1) (locate .ensures .0), needed .ensures)
+add-t13 : tie.Need-add-t13
+add-t13 c =
+    let p = c .before .before .before .before .before .before .pre in
+    omega (arith, plan-sizes _ _ _ _ (p .0) (p .1) (c .before .before .before .locate .ensures .0), c .before .before .needed .ensures)
 
 returns : tie.Need-returns
 returns c =
-    let last-block = c .before .before .last-block in
-    let needed = c .before .before .before .needed in
-    let locate = c .before .before .before .before .locate in
-    let p = c .before .before .before .before .before .before .before .pre in
-    planned _ _ _ _ (p .0) (p .1) (locate .ensures .0) _ (needed .ensures) _ _ _ (last-block .ensures) (c .before .start-block .ensures) (c .larger .ensures)
+    let p = c .before .before .before .before .before .before .pre in
+    planned _ _ _ _ (p .0) (p .1) (c .before .before .before .locate .ensures .0) _ (c .before .before .needed .ensures) _ _ (c .before .last-block .ensures) (c .larger .ensures)
 
 pub plan-write-spec : {M : Type 1} → statement M
 plan-write-spec =
     tie.close
-    (tie.spec
-    locate-requires
-    needed-requires
-    last-block-requires
-    start-block-requires
-    add-larger
-    larger-requires
-    add-t14
-    returns)
+    (tie.spec locate-requires needed-requires last-block-requires add-larger larger-requires add-t13 returns)
