@@ -664,3 +664,104 @@ bulgefs_changed ENTRY(undo)(uint8_t *image, size_t image_len,
     put32(journal + 1, (uint32_t)last);
     return (bulgefs_changed){BULGEFS_OK, (uint32_t)length};
 }
+
+/* ---- salvage ---- */
+
+/*
+ * Claims a chain of count blocks; last gets its last block, 0 if it has none.
+ * False, and nothing claimed, if it meets a number outside or a claimed block.
+ */
+static bool claim(const uint8_t *image, const volume *v, uint32_t first, uint32_t count,
+                  block_set *claimed, uint32_t *last)
+{
+    uint32_t b = first;
+    *last = 0;
+    for (uint32_t i = 0; i < count; i++) {
+        if (b <= v->t || b >= v->n || has(claimed, b)) {
+            for (b = first; i > 0; i--, b = next_of(image, b))
+                take_off(claimed, b);
+            return false;
+        }
+        add(claimed, b);
+        *last = b;
+        b = next_of(image, b);
+    }
+    return true;
+}
+
+/* Ends a chain with its last block; gives the code. */
+static uint8_t end_chain(uint8_t *image, uint32_t last)
+{
+    if (last == 0 || next_of(image, last) == 1)
+        return BULGEFS_KEPT;
+    set_next(image, last, 1);
+    return BULGEFS_END_MENDED;
+}
+
+/* A slot between the first and the last; gives its code. */
+static uint8_t salvage_slot(uint8_t *image, const volume *v, const directory *root, uint32_t s,
+                            block_set *claimed)
+{
+    uint8_t *slot = image + slot_at(root, s);
+    uint32_t last;
+    if (slot[TYPE] == TYPE_FREE)
+        return BULGEFS_KEPT;
+    bool good = good_entry(slot) && name_is_new(image, root, s);
+    if (!good || !claim(image, v, get32(slot + FIRST), get32(slot + BLOCKS), claimed, &last)) {
+        memset(slot, 0, SLOT);
+        return good ? BULGEFS_FILE_LOST : BULGEFS_ENTRY_LOST;
+    }
+    uint8_t code = end_chain(image, last);
+    if (!claim(image, v, get32(slot + ATTRIBUTE_BLOCK), get32(slot + ATTRIBUTE_SIZE), claimed,
+               &last)) {
+        memset(slot + ATTRIBUTE_BLOCK, 0, 8);
+        return BULGEFS_ATTRIBUTES_LOST;
+    }
+    return code | end_chain(image, last);
+}
+
+/* All that no file claims, and the counts. */
+static void put_table(uint8_t *image, const volume *v, const block_set *claimed)
+{
+    uint32_t occupied = 0;
+    for (uint32_t b = 0; b < v->t * ENTRIES; b++) {
+        bool used = b <= v->t || (b < v->n && has(claimed, b));
+        occupied += used;
+        if (b <= v->t)
+            set_next(image, b, 1);
+        if (used || next_of(image, b) == 0)
+            continue;
+        set_next(image, b, 0);
+        if (b < v->n)
+            memset(image + (size_t)b * BLOCK, 0, BLOCK);
+    }
+    put32(image + OCCUPIED, occupied);
+    put32(image + FREE, v->n - occupied);
+}
+
+uint32_t ENTRY(salvage)(uint8_t *image, size_t image_len, uint8_t *report, size_t report_len)
+{
+    volume v;
+    expected self;
+    directory root;
+    block_set claimed = {{0}};
+    uint32_t number = check_header(image, image_len, &v, &self);
+    if (number != BULGEFS_OK)
+        return number;
+    if (!good_self(image, &v, &self, &claimed))
+        return BULGEFS_BAD_SELF;
+    open_directory(image, self.first, &root);
+    for (uint32_t s = 1; s < end_slot(&root); s++)
+        if (is_directory(image[slot_at(&root, s) + TYPE]))
+            return BULGEFS_BAD_SLOT;
+    if (report_len <= end_slot(&root))
+        return BULGEFS_BAD_ARGUMENT;
+    report[0] = BULGEFS_KEPT;
+    for (uint32_t s = 1; s < end_slot(&root); s++)
+        report[s] = salvage_slot(image, &v, &root, s, &claimed);
+    uint8_t *end = image + slot_at(&root, end_slot(&root));
+    report[end_slot(&root)] = end[TYPE] == TYPE_END ? BULGEFS_KEPT : BULGEFS_END_MENDED;
+    end[TYPE] = TYPE_END;
+    put_table(image, &v, &claimed);
+    return BULGEFS_OK;
+}

@@ -80,6 +80,11 @@ static void add(block_set *set, uint32_t b)
     set->bits[b / 8] |= (uint8_t)(1u << (b % 8));
 }
 
+static void take_off(block_set *set, uint32_t b)
+{
+    set->bits[b / 8] &= (uint8_t)~(1u << (b % 8));
+}
+
 static uint32_t blocks_for(uint32_t size)
 {
     return size / BLOCK + (size % BLOCK != 0);
@@ -348,9 +353,9 @@ static void set_geometry(volume *v, size_t len)
     v->t = (v->n + ENTRIES - 1) / ENTRIES;
 }
 
-static uint32_t check(const uint8_t *image, size_t len, volume *v)
+/* Stages 1 to 3; on success root says what stage 4 asks of the root. */
+static uint32_t check_header(const uint8_t *image, size_t len, volume *v, expected *root)
 {
-    block_set seen = {{0}};
     if (!good_length(len))
         return BULGEFS_BAD_LENGTH;
     set_geometry(v, len);
@@ -360,8 +365,17 @@ static uint32_t check(const uint8_t *image, size_t len, volume *v)
         || get32(image + ROOT) != v->t + 1)
         return BULGEFS_BAD_GEOMETRY;
     uint32_t first = v->t + 1;
-    expected root = {first, first, get32(image + (size_t)first * BLOCK + BLOCKS), NULL};
-    uint32_t number = check_directory(image, v, &root, 0, &seen);
+    *root = (expected){first, first, get32(image + (size_t)first * BLOCK + BLOCKS), NULL};
+    return BULGEFS_OK;
+}
+
+static uint32_t check(const uint8_t *image, size_t len, volume *v)
+{
+    block_set seen = {{0}};
+    expected root;
+    uint32_t number = check_header(image, len, v, &root);
+    if (number == BULGEFS_OK)
+        number = check_directory(image, v, &root, 0, &seen);
     if (number != BULGEFS_OK)
         return number;
     if (!good_table(image, v, &seen))

@@ -45,6 +45,7 @@ bulgefs_changed baseline_clear_attributes(uint8_t *, size_t, uint8_t *, size_t, 
 bulgefs_changed baseline_clear_flags(uint8_t *, size_t, uint8_t *, size_t, const uint8_t *,
                                      size_t);
 bulgefs_changed baseline_undo(uint8_t *, size_t, uint8_t *, size_t);
+uint32_t baseline_salvage(uint8_t *, size_t, uint8_t *, size_t);
 
 /* The calls of one side. */
 typedef struct {
@@ -68,6 +69,7 @@ typedef struct {
                                         size_t);
     bulgefs_changed (*clear_flags)(uint8_t *, size_t, uint8_t *, size_t, const uint8_t *, size_t);
     bulgefs_changed (*undo)(uint8_t *, size_t, uint8_t *, size_t);
+    uint32_t (*salvage)(uint8_t *, size_t, uint8_t *, size_t);
 } side;
 
 /* The columns of figures; the first two are sides that are called alike. */
@@ -76,18 +78,19 @@ enum { OURS, BASELINE, SIDES, LIMIT = SIDES, SQLITE, COLUMNS };
 static const side sides[SIDES] = {
     {bulgefs_check, bulgefs_lookup, bulgefs_read, bulgefs_write, bulgefs_delete,
      bulgefs_create_directory, bulgefs_delete_directory, bulgefs_set_attributes,
-     bulgefs_read_attributes, bulgefs_clear_attributes, bulgefs_clear_flags, bulgefs_undo},
+     bulgefs_read_attributes, bulgefs_clear_attributes, bulgefs_clear_flags, bulgefs_undo,
+     bulgefs_salvage},
     {baseline_check, baseline_lookup, baseline_read, baseline_write, baseline_delete,
      baseline_create_directory, baseline_delete_directory, baseline_set_attributes,
      baseline_read_attributes, baseline_clear_attributes, baseline_clear_flags,
-     baseline_undo},
+     baseline_undo, baseline_salvage},
 };
 
 static const char *const call_names[CALLS] = {"check", "lookup", "read", "write", "delete",
                                               "delete 64 blocks", "create directory",
                                               "delete directory", "set attributes",
                                               "read attributes", "clear attributes", "clear flags",
-                                              "undo"};
+                                              "undo", "salvage"};
 
 static const uint32_t block_counts[] = {16, 64, 256, 1024, 4096, 16384, 65536};
 /* The last lie in folders, a hundred in each; all others in the root. */
@@ -111,8 +114,8 @@ static size_t image_len;
 /* Bytes of header, table and directories: the first of the image, as no directory came later. */
 static size_t check_len;
 
-/* Whether the volume has the file of many blocks. */
-static int has_large;
+/* Whether the volume has the file of many blocks, and whether its root holds no folder. */
+static int has_large, is_flat;
 
 /* Seconds per call; 0 where the files do not fit, or there is no such call. */
 static double measured[CALLS][FILES][NS][COLUMNS];
@@ -197,6 +200,7 @@ static int make_volume(uint32_t n, uint32_t files)
         return 0;
     uint32_t spare = n - used - 8;
     has_large = spare >= LARGE_BLOCKS + files;
+    is_flat = folders == 0;
     spare -= has_large ? LARGE_BLOCKS : 0;
     image_len = (size_t)n * 512;
     check_len = (size_t)used * 512;
@@ -264,6 +268,15 @@ static void clear_flags(const side *s, const uint8_t *path, size_t len, double *
     require(number | s->undo(image, image_len, journal, JOURNAL).number, "a timed call");
 }
 
+/* Salvages a volume that is sound, and so stays as it is. */
+static void salvage(const side *s, double *sum)
+{
+    double begin = now();
+    uint32_t number = s->salvage(image, image_len, buffer, sizeof buffer);
+    sum[SALVAGE] += now() - begin;
+    require(number, "a timed call");
+}
+
 /* Makes every call once and adds the time of each. */
 static void make_calls(const side *s, const uint8_t *path, size_t len, double *sum)
 {
@@ -304,15 +317,25 @@ static void make_calls(const side *s, const uint8_t *path, size_t len, double *s
     clear_flags(s, path, len, sum);
     if (has_large)
         delete_large(s, sum);
+    if (is_flat)
+        salvage(s, sum);
+}
+
+/* Breaks the table: every third entry behind the directories. */
+static void spoil(uint8_t *s)
+{
+    for (size_t b = check_len / 512; b < image_len / 512; b += 3)
+        s[512 + 4 * b + 3] ^= 1;
 }
 
 /* Ends the program if the two sides differ in an answer, the image or the journal. */
 static void compare_sides(const uint8_t *path, size_t len)
 {
-    static uint8_t images[SIDES][sizeof image], journals[SIDES][JOURNAL], buffers[SIDES][8192];
+    static uint8_t images[SIDES][sizeof image], journals[SIDES][JOURNAL], buffers[SIDES][8192 + 256];
     bulgefs_found found[SIDES];
     bulgefs_created created[SIDES];
     bulgefs_changed changed[SIDES][10];
+    uint32_t salvaged[SIDES];
     for (int s = 0; s < SIDES; s++) {
         uint8_t *i = images[s], *j = journals[s];
         bulgefs_changed *c = changed[s];
@@ -334,10 +357,13 @@ static void compare_sides(const uint8_t *path, size_t len)
                                                0x20, 1, 2, 3, 0, NEW_BLOCKS, 5);
         *c++ = sides[s].delete_directory(i, image_len, j, JOURNAL, new_folder, NEW_FOLDER);
         *c++ = sides[s].delete(i, image_len, j, JOURNAL, large, LARGE);
+        spoil(i);
+        salvaged[s] = sides[s].salvage(i, image_len, buffers[s] + 8192, 256);
     }
     if (memcmp(&found[OURS], &found[BASELINE], sizeof found[OURS]) != 0
         || memcmp(&created[OURS], &created[BASELINE], sizeof created[OURS]) != 0
         || memcmp(changed[OURS], changed[BASELINE], sizeof changed[OURS]) != 0
+        || salvaged[OURS] != salvaged[BASELINE]
         || memcmp(buffers[OURS], buffers[BASELINE], sizeof buffers[OURS]) != 0
         || memcmp(images[OURS], images[BASELINE], image_len) != 0
         || memcmp(journals[OURS], journals[BASELINE], JOURNAL) != 0) {

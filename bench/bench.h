@@ -6,7 +6,7 @@
 #include <stdint.h>
 
 enum { CHECK, LOOKUP, READ, WRITE, DELETE, DELETE_LARGE, CREATE_DIRECTORY, DELETE_DIRECTORY,
-       SET_ATTRIBUTES, READ_ATTRIBUTES, CLEAR_ATTRIBUTES, CLEAR_FLAGS, UNDO, CALLS };
+       SET_ATTRIBUTES, READ_ATTRIBUTES, CLEAR_ATTRIBUTES, CLEAR_FLAGS, UNDO, SALVAGE, CALLS };
 
 /* Seconds since some time. */
 double now(void);
@@ -15,9 +15,9 @@ double now(void);
  * The same work in SQLite, in memory, with statements prepared beforehand: a
  * table of paths and contents.  check is its integrity check, lookup and read
  * select by path, write and delete stand in a savepoint, undo rolls that back;
- * deleted content is zeroed (secure_delete).  It has no folders and no attributes.  Without
- * SQLite's development package sqlite_version says NULL, and the others do
- * nothing.
+ * deleted content is zeroed (secure_delete).  It has no folders, no attributes
+ * and no salvage.  Without SQLite's development package sqlite_version says
+ * NULL, and the others do nothing.
  */
 const char *sqlite_version(void);
 void sqlite_start(void);

@@ -1,7 +1,8 @@
 /*
  * A small installer: keeps one settings file per serial number on a volume, in
  * a folder for each venue, with the box's purchase beside it as attributes,
- * changes some of them, and takes the changes back one by one.
+ * changes some of them, and takes the changes back one by one.  Then it salvages
+ * what is whole of another volume, which was half written.
  *
  * Usage: installer [FOLDER]
  * With a folder, image and journal are left there: changed.img and
@@ -372,6 +373,63 @@ static void try_refusals(void)
     show_refusal("create", "/port", c.number);
 }
 
+/* ---- a volume that was half written ---- */
+
+static uint8_t laptop[BULGEFS_IMAGE_SIZE(16)], laptop_journal[16384];
+
+/* Makes a file in the laptop's root, with so many bytes of these. */
+static void store(const char *path, const char *data, size_t len)
+{
+    bulgefs_created c = bulgefs_create(laptop, sizeof laptop, laptop_journal,
+                                       sizeof laptop_journal, bytes(path), strlen(path),
+                                       BULGEFS_PLAIN_FILE, 0, 0, 0, 0, 1);
+    require(c.number, "create", path);
+    bulgefs_changed w = bulgefs_write(laptop, sizeof laptop, laptop_journal,
+                                      sizeof laptop_journal, bytes(path), strlen(path), 0,
+                                      bytes(data), len, 2);
+    require(w.number, "write", path);
+}
+
+/* Three files; the table, block 1, is left as it was when there was one. */
+static void write_half(void)
+{
+    static const uint8_t volume_name[BULGEFS_VOLUME_NAME_SIZE] = "laptop";
+    static const char list[600] = "boxes";
+    bulgefs_uuid uuid = {{1}};
+    uint8_t table[BULGEFS_BLOCK_SIZE];
+    require(bulgefs_format(laptop, sizeof laptop, ROOT_BLOCKS, 0, uuid, volume_name,
+                           sizeof volume_name), "format", "the laptop");
+    require(bulgefs_journal_start(laptop_journal, sizeof laptop_journal), "start", "the laptop");
+    store("/SN2001", "baud=9600", 9);
+    memcpy(table, laptop + sizeof table, sizeof table);
+    store("/SN2002", "baud=19200", 10);
+    store("/list", list, sizeof list);
+    memcpy(laptop + sizeof table, table, sizeof table);
+}
+
+/* A journal of before is not the salvaged image's own: it is started anew. */
+static void salvage(void)
+{
+    static const char *const words[] = {"kept", "entry lost", "file lost", "end mended",
+                                        "attributes lost"};
+    static const char *const paths[] = {"/SN2001", "/SN2002", "/list"};
+    uint8_t report[BULGEFS_MAX_REPORT];
+    printf("\nSalvage of a volume whose table is older than the rest\n");
+    write_half();
+    show_refusal("check", "the laptop", bulgefs_check(laptop, sizeof laptop));
+    require(bulgefs_salvage(laptop, sizeof laptop, report, sizeof report), "salvage",
+            "the laptop");
+    require(bulgefs_journal_start(laptop_journal, sizeof laptop_journal), "start", "the laptop");
+    show_refusal("check", "the laptop", bulgefs_check(laptop, sizeof laptop));
+    for (int i = 0; i < 3; i++) {
+        bulgefs_part p = bulgefs_look_in_place(laptop, sizeof laptop, bytes(paths[i]),
+                                               strlen(paths[i]), 0);
+        printf("  slot %d %-7s %-11s %.*s\n", i + 1, paths[i], words[report[i + 1]],
+               p.length > 0 ? (int)p.length : 1,
+               p.length > 0 ? (const char *)laptop + p.start : "-");
+    }
+}
+
 /*
  * Leaves a file to look at.  This is not how to save settings: against a loss
  * of power, image and journal go into one new file that is renamed over the
@@ -411,6 +469,7 @@ int main(int argc, char **argv)
     printf("\nInstalled, and after undo\n");
     bool equal = same("image", images[UNDONE], images[INSTALLED], sizeof image);
     equal = same("journal", journals[UNDONE], journals[INSTALLED], sizeof journal) && equal;
+    salvage();
 
     if (argc > 1) {
         leave(argv[1], "changed.img", images[CHANGED], sizeof image);

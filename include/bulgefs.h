@@ -32,7 +32,8 @@
  *     Image and journal are memory; how they reach a disk is up to you.  Keep
  *     both in one file, write a new one, fsync it, rename it over the old one
  *     and fsync the directory.  An image that was half written is refused
- *     (1 to 7), and then undo is refused too.
+ *     (1 to 7), and then undo is refused too.  bulgefs_salvage keeps what is
+ *     whole of it, if its root holds no directory.
  *   - A file's bytes have no checksum.  The check finds damage to the header,
  *     the table and the form of directories; a flipped bit in a file's bytes,
  *     a time or a user is not found.
@@ -51,10 +52,10 @@
  *     undo, until bulgefs_journal_start zeroes it.
  *
  * Cost
- *   Every call but format and journal start checks the image first: it reads
- *   the header, the table and all directories, and no file's bytes.  That is
- *   linear in the blocks, and in the names of a directory a comparison of
- *   every two fingerprints; what the call itself does is small beside it.  A
+ *   Every call but format, journal start and salvage checks the image first:
+ *   it reads the header, the table and all directories, and no file's bytes.
+ *   That is linear in the blocks, and in the names of a directory a comparison
+ *   of every two fingerprints; what the call itself does is small beside it.  A
  *   change also reads the journal's record heads.  docs/PERFORMANCE.md has
  *   figures.  No call needs more stack than BULGEFS_STACK.
  *
@@ -106,6 +107,7 @@ extern "C" {
 #define BULGEFS_MAX_ATTRIBUTE_BLOCKS 8u      /* blocks of a file's attributes          */
 #define BULGEFS_MIN_JOURNAL        5u        /* bytes in the smallest journal          */
 #define BULGEFS_MAX_JOURNAL        67108864u /* bytes in the largest journal           */
+#define BULGEFS_MAX_REPORT         256u      /* bytes of a report for any salvage      */
 #define BULGEFS_STACK              262144u   /* bytes of stack that suffice for a call */
 
 /* Types.  The 64 of each kind are all treated alike; take the plain one. */
@@ -188,6 +190,15 @@ enum bulgefs_number {
     BULGEFS_TOO_MANY_BLOCKS = 20, /* more than 8 blocks of attributes; just after 9    */
     BULGEFS_BAD_TABLE_SIZE  = 21, /* entry_count is not the number of blocks; after 9  */
     BULGEFS_BAD_FLAGS       = 26  /* creates: flags other than 0; just after 17        */
+};
+
+/* What bulgefs_salvage did with a slot of the root. */
+enum bulgefs_code {
+    BULGEFS_KEPT            = 0,  /* nothing                                           */
+    BULGEFS_ENTRY_LOST      = 1,  /* cleared it: its entry was bad                     */
+    BULGEFS_FILE_LOST       = 2,  /* cleared it: its file's chain was bad              */
+    BULGEFS_END_MENDED      = 3,  /* ended a chain at the file's size; last slot: type */
+    BULGEFS_ATTRIBUTES_LOST = 4   /* kept the file and took its attributes away        */
 };
 
 /* The keyword for a function that stands in a header; C89 has none. */
@@ -492,6 +503,47 @@ uint32_t bulgefs_load_table(const uint8_t *image, size_t image_len,
 BULGEFS_CHECKED
 uint32_t bulgefs_store_table(uint8_t *image, size_t image_len,
                              const uint32_t *entries, size_t entry_count);
+
+/*
+ * Makes a broken volume sound again, in place, and keeps the files of the root
+ * that are whole.  Header and root directory must be in order, and the root
+ * must hold no directory.  A sound image does not change.
+ *
+ * The slots of the root are taken in ascending order, and each file that is
+ * kept claims its blocks.  report[k] gets the code of slot k, for all 4 * d
+ * slots of a root of d blocks; 256 bytes are enough for any, and the rest of
+ * the report stays as it is.
+ *
+ *   BULGEFS_KEPT             the slot is as it was, and so are all bytes of
+ *                            its file; free slots, and slot 0, have it too
+ *   BULGEFS_ENTRY_LOST       the entry is none of a file (type, name, sizes,
+ *                            first block, attribute fields), or a file that
+ *                            was kept before has its name; all its bytes are 0
+ *   BULGEFS_FILE_LOST        the file's chain leads outside the volume or back
+ *                            into itself, or meets a block of the root or of a
+ *                            file that was kept before; all bytes of the entry
+ *                            are 0
+ *   BULGEFS_END_MENDED       the chain of the file, or of its attributes, did
+ *                            not end with its last block and does now; in the
+ *                            last slot the end type was put back
+ *   BULGEFS_ATTRIBUTES_LOST  the chain of the attributes is bad, and the file
+ *                            was kept without them; its own chain may have got
+ *                            its end as well
+ *
+ * Then the rest of the table and the counts are put right.  Blocks that no
+ * file has are free; all bytes of those that were not become 0, as by
+ * bulgefs_delete, and blocks that were free before keep theirs.
+ *
+ * It takes no journal, and there is no undo: keep a copy of the image.  The
+ * journal of before is not the image's own any more, and nothing refuses it:
+ * call bulgefs_journal_start after a salvage.
+ * Refusals: 1 to 4 (of directories, the root alone), BULGEFS_BAD_SLOT (the root
+ * holds an entry of a directory's type), BULGEFS_BAD_ARGUMENT (report_len below
+ * 4 * d).
+ */
+BULGEFS_CHECKED
+uint32_t bulgefs_salvage(uint8_t *image, size_t image_len,
+                         uint8_t *report, size_t report_len);
 
 #ifdef __cplusplus
 }

@@ -138,7 +138,7 @@ typedef struct {
 #define STAGES     0xFEu
 #define BIT(n)     (1u << (n))
 #define PATH       (BIT(9) | BIT(10) | BIT(17))
-#define MAY(set, n) ((n) <= 26 && ((set) | 1u) >> (n) & 1u)
+#define MAY(set, n) ((n) <= 20 && ((set) | 1u) >> (n) & 1u)
 
 static void call_looks(const material *m)
 {
@@ -351,6 +351,26 @@ static void call_table(const material *m)
     }
 }
 
+/* Salvage, with a report for the largest root, with a shorter one, and with none. */
+static void call_salvage(const material *m)
+{
+    static const uint8_t blank[BULGEFS_MAX_REPORT];
+    size_t lengths[] = {sizeof blank, random_below(sizeof blank), 0};
+    for (size_t i = 0; i < sizeof lengths / sizeof lengths[0]; i++) {
+        buffer image = lend(m->image, m->image_len);
+        buffer report = lend(blank, lengths[i]);
+        uint32_t number = bulgefs_salvage(image.at, image.len, report.at, report.len);
+        expect(MAY(0x3Eu | BIT(9), number), "salvage: number");
+        expect(number != 0 || bulgefs_check(image.at, image.len) == 0, "salvage: sound");
+        expect(number == 0 || (unchanged(&image) && unchanged(&report)),
+               "salvage: refused without a change");
+        if (bulgefs_check(m->image, m->image_len) == 0)
+            expect(unchanged(&image) && unchanged(&report), "salvage: a sound image stays");
+        give_back(&image);
+        give_back(&report);
+    }
+}
+
 static void call_all(const material *m)
 {
     for (place = HEAP; place < PLACES; place++) {
@@ -358,6 +378,7 @@ static void call_all(const material *m)
         call_changes(m);
         call_makers(m);
         call_table(m);
+        call_salvage(m);
     }
 }
 
@@ -531,6 +552,17 @@ static void damage_slot(uint8_t *image, size_t n)
     image[root * 512 + slot * 128 + fields[random_below(11)]] = values[random_below(6)];
 }
 
+/* Turns the folders of the root into files that are empty: salvage refuses folders. */
+static void drop_folders(uint8_t *image, size_t n)
+{
+    size_t root = ((n + 127) / 128 + 1) * 512;
+    for (size_t at = root + 128; at < root + 4 * 512 && at < n * 512; at += 128)
+        if (image[at] >= 0x20 && image[at] <= 0x5F) {
+            image[at] = 0x60;
+            memset(image + at + 4, 0, 12);
+        }
+}
+
 /* Good volumes, and volumes and journals with a few bytes changed. */
 static void damaged_volumes(void)
 {
@@ -557,6 +589,8 @@ static void damaged_volumes(void)
                 damage_chain(image, n);
             if (round % 5 == 4)
                 damage_slot(image, n);
+            if (round % 2 == 1)
+                drop_folders(image, n);
             if (round % 4 == 1)
                 journal[random_below(9)] ^= (uint8_t)(1u << random_below(8));
             if (round % 4 == 2)
@@ -720,6 +754,55 @@ static void flags(void)
     expect(memcmp(image, before, sizeof image) == 0, "flags: as it was");
 }
 
+/*
+ * A volume of 16 blocks whose root has two: a file with a bad last value and
+ * bad attributes, one whose chain runs into the first one's, one with no name,
+ * no end type and wrong counts.  Only the first one is left.
+ */
+static void salvaged(void)
+{
+    static const uint8_t codes[8] = {0, 4, 2, 1, 0, 0, 0, 3}, none[8];
+    static uint8_t image[16 * 512], once[16 * 512], journal[16384], data[1024], got[1024];
+    uint8_t report[9];
+    bulgefs_uuid uuid = {{0}};
+    fill_random(data, sizeof data);
+    expect(bulgefs_format(image, sizeof image, 2, 1, uuid, volume_name, 128) == 0, "salv: format");
+    expect(bulgefs_journal_start(journal, sizeof journal) == 0, "salv: start");
+    for (char name = 'A'; name <= 'C'; name++) {
+        uint8_t path[2] = {'/', (uint8_t)name};
+        expect(bulgefs_create(image, sizeof image, journal, sizeof journal, path, 2, 0x60, 0, 0, 0,
+                              0, 2).number == 0, "salv: create");
+        expect(bulgefs_write(image, sizeof image, journal, sizeof journal, path, 2, 0, data, 600,
+                             3).number == 0, "salv: write");
+    }
+    expect(bulgefs_set_attributes(image, sizeof image, journal, sizeof journal,
+                                  (const uint8_t *)"/A", 2, data, 1024).number == 0, "salv: set");
+    /* A has blocks 4 and 5 and attributes 10 and 11, B has 6 and 7, C has 8 and 9. */
+    put_number(image + 512 + 4 * 5, 0);
+    put_number(image + 512 + 4 * 10, 4);
+    put_number(image + 512 + 4 * 6, 5);
+    image[2 * 512 + 3 * 128 + 48] = 0;
+    image[3 * 512 + 3 * 128] = 0;
+    image[24] = 1;
+    report[8] = 0xEE;
+    expect(bulgefs_salvage(image, sizeof image, report, 7) == BULGEFS_BAD_ARGUMENT, "salv: short");
+    expect(bulgefs_salvage(image, sizeof image, report, 9) == 0, "salv: number");
+    expect(memcmp(report, codes, 8) == 0 && report[8] == 0xEE, "salv: report");
+    expect(bulgefs_check(image, sizeof image) == 0, "salv: sound");
+    bulgefs_filled r = bulgefs_read(image, sizeof image, (const uint8_t *)"/A", 2, 0, got, 1024);
+    expect(r.number == 0 && r.count == 600 && memcmp(got, data, 600) == 0, "salv: kept");
+    r = bulgefs_read_attributes(image, sizeof image, (const uint8_t *)"/A", 2, got, 1024);
+    expect(r.number == 0 && r.count == 0, "salv: no attributes");
+    expect(bulgefs_lookup(image, sizeof image, (const uint8_t *)"/B", 2).number == 10
+               && bulgefs_lookup(image, sizeof image, (const uint8_t *)"/C", 2).number == 10,
+           "salv: gone");
+    expect(!holds(image + 6 * 512, 6 * 512, data + 100, 16), "salv: blank");
+    memcpy(once, image, sizeof image);
+    expect(bulgefs_salvage(image, sizeof image, report, 8) == 0, "salv: again");
+    expect(memcmp(report, none, 8) == 0 && memcmp(image, once, sizeof image) == 0,
+           "salv: twice is once");
+}
+
 /* The largest image and the longest journal. */
 static void largest(void)
 {
@@ -749,6 +832,7 @@ int main(void)
     freed_blocks();
     attributes();
     flags();
+    salvaged();
     largest();
     printf("%lu passed, %lu failed\n", passed, failed);
     return failed == 0 ? 0 : 1;

@@ -87,6 +87,22 @@ static void clear_flags(void)
     number = bulgefs_clear_flags(image, image_len, journal, journal_len, path, 2).number;
 }
 
+static void salvage(void)
+{
+    static uint8_t report[BULGEFS_MAX_REPORT];
+    number = bulgefs_salvage(image, image_len, report, sizeof report);
+}
+
+/* The same on a volume that is not sound: no end type, and a block that nobody has. */
+static void salvage_broken(void)
+{
+    size_t n = image_len / 512, end = (n + 127) / 128 + 64;
+    image[end * 512 + 3 * 128] = 0;
+    image[512 + 4 * (n - 1)] = 1;
+    salvage();
+    number = number == 0 ? bulgefs_check(image, image_len) : number;
+}
+
 static void delete(void)
 {
     number = bulgefs_delete(image, image_len, journal, journal_len, path, 2).number;
@@ -101,7 +117,9 @@ static const struct {
     {"load_table", load}, {"store_table", store},
     {"set_attributes", set_attributes}, {"set_attributes again", set_attributes},
     {"read_attributes", read_attributes}, {"clear_attributes", clear_attributes}, {"undo", undo},
-    {"clear_flags", clear_flags}, {"undo", undo}, {"delete", delete}, {"undo", undo},
+    {"clear_flags", clear_flags}, {"undo", undo},
+    {"salvage", salvage}, {"salvage, broken", salvage_broken},
+    {"delete", delete}, {"undo", undo},
 };
 
 /* The bytes of stack that a call takes. */

@@ -75,6 +75,11 @@ static void answers(void)
     expect(sizeof(bulgefs_filled) == 8 && sizeof(bulgefs_part) == 8, "filled, part");
     expect(sizeof(bulgefs_created) == 12 && sizeof(bulgefs_changed) == 8, "created, changed");
     expect(BULGEFS_VERSION >= 700u && strlen(BULGEFS_VERSION_TEXT) >= 5, "version");
+    expect(BULGEFS_MAX_REPORT == BULGEFS_SLOTS_PER_BLOCK * BULGEFS_MAX_DIRECTORY_BLOCKS,
+           "BULGEFS_MAX_REPORT");
+    expect(BULGEFS_KEPT == 0 && BULGEFS_ENTRY_LOST == 1 && BULGEFS_FILE_LOST == 2
+               && BULGEFS_END_MENDED == 3 && BULGEFS_ATTRIBUTES_LOST == 4,
+           "codes");
     expect(BULGEFS_PLAIN_FILE >= BULGEFS_MIN_FILE_TYPE
                && BULGEFS_PLAIN_DIRECTORY >= BULGEFS_MIN_DIRECTORY_TYPE,
            "plain types");

@@ -6,6 +6,7 @@ ghost use Rattle.layout.specs.Looks.{LookupAnswer, ReadAnswer, Extent, lookup, 
 ghost use Rattle.volume.specs.Change.{Change as ChangeAsked, create, write, delete, createDirectory, deleteDirectory, setAttributes, clearAttributes, clearFlags, slotGiven};
 ghost use Rattle.volume.specs.Format.{formatRefusal, formatted};
 ghost use Rattle.chain_table.specs.Transfer.{loadTable, storeTable};
+ghost use Rattle.salvage.specs.Salvage.{SalvageAnswer, salvage};
 ghost use Rattle.journal.specs.Journal.{startRefusal, afterStart};
 ghost use Rattle.journal.specs.Answers.{changedAnswer};
 ghost use Rattle.journal.specs.Run.{State, state, changed, undone, changeAnswer, afterChange, undoAnswer, afterUndo};
@@ -143,6 +144,13 @@ pub extern "C" fn bulgefs_journal_start(journal: &mut [u8]) -> u32
     ensures bytes { λ _. ⌜ now (journal .exit) ≡ afterStart (now (journal .entry)) ⌝ }
 {
     journal::start::start(journal)
+}
+
+#[no_mangle]
+pub extern "C" fn bulgefs_salvage(image: &mut [u8], report: &mut [u8]) -> u32
+    ensures { λ r. ⌜ _≡_ {A = SalvageAnswer} (record { number = r; image = now (image .exit); report = now (report .exit) }) (salvage (now (image .entry)) (now (report .entry))) ⌝ }
+{
+    salvage::salvage::salvage(image, report)
 }
 
 // The answer of a change, by its fields.

@@ -55,7 +55,7 @@ fn numbered(header: &[u8], n: usize) -> bool
 }
 
 // Stages 1 to 3.
-fn head(image: &[u8]) -> u32
+pub fn head(image: &[u8]) -> u32
     ensures { λ r. ⌜ r ≡ headStage (now (image .entry)) ⌝ }
 {
     if !sized(image) {

@@ -8,7 +8,7 @@ pub mod directory;
 pub mod file;
 pub mod geometry;
 pub mod limits;
-mod names;
+pub mod names;
 pub mod number;
 pub mod path;
 pub mod reading;

@@ -19,7 +19,7 @@ use super::limits::NAME_FIELD;
 const FILTER: usize = 4093;
 
 // The fingerprint of a field of 80 bytes: its words, each by a weight of its own, added up.
-fn fingerprint(field: &[u8]) -> usize
+pub fn fingerprint(field: &[u8]) -> usize
     requires { ⌜ length (now field) ≡ 80 ⌝ }
     ensures { λ r. ⌜ r ≡ fingerprint (now (field .entry)) ⌝ }
 {
@@ -66,7 +66,7 @@ fn same_names(image: &[u8], b: usize, k: usize, c: usize, i: usize) -> bool
 }
 
 // Whether a slot before k is used and has the name of slot k, in block b, which is used and whose fingerprint is noted.
-fn name_in(
+pub fn name_in(
     image: &[u8],
     first: usize,
     d: usize,

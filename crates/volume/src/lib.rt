@@ -1,5 +1,6 @@
 // The volume: what changes an image. The call is `format::format`, on any bytes. The changes are for the journal above, as one value (`change`): its
-// refusal, its named blocks as marks and the change itself, on an image that the caller has checked. `number` writes numbers.
+// refusal, its named blocks as marks and the change itself, on an image that the caller has checked. `number` writes numbers, `table` and `file` the
+// parts of an image that salvage puts right too.
 mod attributes;
 pub mod change;
 mod create;
@@ -7,7 +8,7 @@ mod create_directory;
 mod data;
 mod delete;
 mod delete_directory;
-mod file;
+pub mod file;
 mod flags;
 pub mod format;
 mod marks;
@@ -15,5 +16,5 @@ mod notes;
 pub mod number;
 mod place;
 mod slot;
-mod table;
+pub mod table;
 mod write;

@@ -33,28 +33,28 @@ fn put_other(rng: &mut Rng, image: &mut [u8], at: usize) -> Option<()> {
     Some(())
 }
 
-fn file_where(rng: &mut Rng, image: &[u8], test: fn(&Item) -> bool) -> Option<Item> {
+pub fn file_where(rng: &mut Rng, image: &[u8], test: fn(&Item) -> bool) -> Option<Item> {
     let files: Vec<Item> = files(image).into_iter().filter(test).collect();
     (!files.is_empty()).then(|| rng.pick(&files))
 }
 
-fn any_file(rng: &mut Rng, image: &[u8]) -> Option<Item> {
+pub fn any_file(rng: &mut Rng, image: &[u8]) -> Option<Item> {
     file_where(rng, image, |_| true)
 }
 
-fn file_with_blocks(rng: &mut Rng, image: &[u8]) -> Option<Item> {
+pub fn file_with_blocks(rng: &mut Rng, image: &[u8]) -> Option<Item> {
     file_where(rng, image, |f| f.blocks >= 1)
 }
 
-fn long_file(rng: &mut Rng, image: &[u8]) -> Option<Item> {
+pub fn long_file(rng: &mut Rng, image: &[u8]) -> Option<Item> {
     file_where(rng, image, |f| f.blocks >= 2)
 }
 
-fn file_with_attributes(rng: &mut Rng, image: &[u8]) -> Option<Item> {
+pub fn file_with_attributes(rng: &mut Rng, image: &[u8]) -> Option<Item> {
     file_where(rng, image, |f| f.attribute_size >= 1)
 }
 
-fn long_attributes(rng: &mut Rng, image: &[u8]) -> Option<Item> {
+pub fn long_attributes(rng: &mut Rng, image: &[u8]) -> Option<Item> {
     file_where(rng, image, |f| f.attribute_size >= 2)
 }
 
@@ -79,12 +79,12 @@ fn own_self(folder: &Item) -> usize {
     folder.first as usize * BLOCK
 }
 
-fn last_of(image: &[u8], item: &Item) -> usize {
+pub fn last_of(image: &[u8], item: &Item) -> usize {
     *item.chain(image).last().unwrap()
 }
 
 /// A free block above the table. A table block's entry may be damaged already.
-fn free_block(rng: &mut Rng, image: &[u8]) -> Option<usize> {
+pub fn free_block(rng: &mut Rng, image: &[u8]) -> Option<usize> {
     let (_, t) = n_t(image);
     let free: Vec<usize> = free_blocks(image).into_iter().filter(|&b| b > t).collect();
     (!free.is_empty()).then(|| rng.pick(&free))
@@ -115,14 +115,14 @@ fn new_name(home: &Directory) -> Vec<u8> {
 }
 
 /// A block number that no chain may hold.
-fn outside(rng: &mut Rng, image: &[u8]) -> u32 {
+pub fn outside(rng: &mut Rng, image: &[u8]) -> u32 {
     let (n, t) = n_t(image);
     let any = rng.next() as u32 | 0x8000_0000;
     rng.pick(&[n as u32, n as u32 + 1, t as u32, 1.max(t as u32 / 2), 4096.max(n as u32), 65536, any, u32::MAX]).max(1)
 }
 
 /// A value that is not 1 although one of its bytes may be.
-fn not_one(rng: &mut Rng) -> u32 {
+pub fn not_one(rng: &mut Rng) -> u32 {
     rng.pick(&[0, 0x0000_0101, 0x0001_0001, 0x0100_0001, 0x0100_0000, u32::MAX])
 }
 
@@ -151,13 +151,13 @@ fn join_chain(image: &mut [u8], chain: &[usize], last: usize) {
 }
 
 /// Sets the two attribute fields of a file or folder.
-fn put_fields(image: &mut [u8], item: &Item, block: u32, size: u32) -> Option<()> {
+pub fn put_fields(image: &mut [u8], item: &Item, block: u32, size: u32) -> Option<()> {
     put_number(image, item.at + slot::ATTRIBUTE_BLOCK, block);
     put_number(image, item.at + slot::ATTRIBUTE_SIZE, size);
     Some(())
 }
 
-fn last_attribute(image: &[u8], file: &Item) -> usize {
+pub fn last_attribute(image: &[u8], file: &Item) -> usize {
     *file.attributes(image).last().unwrap()
 }
 
@@ -169,12 +169,12 @@ fn other_where(rng: &mut Rng, image: &[u8], file: &Item, test: fn(&Item) -> bool
 }
 
 /// Sets a file's size and its size in blocks to match.
-fn resize(image: &mut [u8], file: &Item, size: u32) {
+pub fn resize(image: &mut [u8], file: &Item, size: u32) {
     put_number(image, file.at + slot::SIZE, size);
     put_number(image, file.at + slot::BLOCKS, size.div_ceil(512));
 }
 
-fn rename(image: &mut [u8], item: &Item, field: &[u8]) {
+pub fn rename(image: &mut [u8], item: &Item, field: &[u8]) {
     image[item.at + slot::NAME..item.at + SLOT].copy_from_slice(field);
 }
 
@@ -950,6 +950,11 @@ pub fn comes_first(low: &Clause, high: &Clause) -> bool {
     let of_tree = |clause: &Clause| clause.stage == 4 || clause.stage == 5;
     let of_root = ROOT.iter().any(|clause| std::ptr::eq(clause, low));
     low.stage < high.stage && (of_root || !of_tree(low) || !of_tree(high))
+}
+
+/// The clauses of stages 1 to 4 that concern no folder.
+pub fn of_root() -> impl Iterator<Item = &'static Clause> {
+    [LENGTH, HEADER, ROOT].into_iter().flatten().filter(|clause| clause.stage <= 4)
 }
 
 pub fn clauses() -> impl Iterator<Item = &'static Clause> {

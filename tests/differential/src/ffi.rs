@@ -118,4 +118,7 @@ extern "C" {
 
     pub fn bulgefs_store_table(image: *mut u8, image_len: usize,
                                entries: *const u32, entry_count: usize) -> u32;
+
+    pub fn bulgefs_salvage(image: *mut u8, image_len: usize,
+                           report: *mut u8, report_len: usize) -> u32;
 }

@@ -82,6 +82,15 @@ pub fn build_tree(rng: &mut Rng, n: usize, d: usize, fill: Fill, folders: Folder
     finish(rng, image)
 }
 
+/// A sound image of n blocks without folders.
+pub fn flat(rng: &mut Rng, n: usize) -> Vec<u8> {
+    let most = (n - table_blocks(n) - 1).min(MAX_DIRECTORY_BLOCKS);
+    let few = most.min(4);
+    let d = if rng.once_in(8) { rng.between(1, most) } else { rng.between(1, few) };
+    let fill = rng.pick(&[Fill::Some, Fill::Some, Fill::Slots, Fill::Blocks]);
+    build_tree(rng, n, d, fill, Folders::None)
+}
+
 /// The largest image, with eight folders of the most blocks, each in the one
 /// before.
 pub fn deepest(rng: &mut Rng, fill: Fill) -> Vec<u8> {

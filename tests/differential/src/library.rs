@@ -46,6 +46,11 @@ pub fn store_table(image: &mut Lent, numbers: &Lent) -> u32 {
     unsafe { ffi::bulgefs_store_table(image.mut_ptr(), image.len(), entries, count) }
 }
 
+pub fn salvage(image: &mut Lent, report: &mut Lent) -> u32 {
+    let (at, len, into) = (image.mut_ptr(), image.len(), report.mut_ptr());
+    unsafe { ffi::bulgefs_salvage(at, len, into, report.len()) }
+}
+
 /// An image and a journal that are lent together.
 pub struct Pair {
     pub image: Lent,

@@ -20,6 +20,7 @@ pub enum Entry {
     Undo,
     LoadTable,
     StoreTable,
+    Salvage,
 }
 
 /// Every entry point, and the numbers that it can answer. Look in place has
@@ -43,6 +44,33 @@ const ENTRIES: [(Entry, &str, &[u32]); 18] = [
     (Entry::Undo, "undo", &[0, 1, 2, 3, 4, 5, 6, 7, 8, 16]),
     (Entry::LoadTable, "load_table", &[0, 1, 2, 3, 4, 5, 6, 7, 21]),
     (Entry::StoreTable, "store_table", &[0, 1, 2, 3, 4, 5, 6, 7, 21]),
+    (Entry::Salvage, "salvage", &[0, 1, 2, 3, 4, 5, 9]),
+];
+
+/// What salvages must have met at least once, beside their numbers.
+#[derive(Clone, Copy, Debug, PartialEq, Eq)]
+pub enum Met {
+    /// A code of a slot before the end.
+    Code(u8),
+    /// Code 4, and the file's own last value put right as well.
+    BothCodes,
+    /// A last value that was 0.
+    FreeLast,
+    EndType,
+    /// A block that became free, and blank.
+    Freed,
+}
+
+const MET: [(Met, &str); 9] = [
+    (Met::Code(0), "code 0"),
+    (Met::Code(1), "code 1"),
+    (Met::Code(2), "code 2"),
+    (Met::Code(3), "code 3"),
+    (Met::Code(4), "code 4"),
+    (Met::BothCodes, "codes 3 and 4 at once"),
+    (Met::FreeLast, "a last value of 0"),
+    (Met::EndType, "an end type"),
+    (Met::Freed, "a block freed"),
 ];
 
 const NUMBERS: usize = 27;
@@ -52,6 +80,7 @@ pub struct Report {
     passed: u64,
     failed: u64,
     hits: [[u64; NUMBERS]; ENTRIES.len()],
+    met: [u64; MET.len()],
     /// Suite and round of the case at hand, and what it is about.
     suite: &'static str,
     round: u64,
@@ -65,6 +94,7 @@ impl Report {
             passed: 0,
             failed: 0,
             hits: [[0; NUMBERS]; ENTRIES.len()],
+            met: [0; MET.len()],
             suite: "",
             round: 0,
             seed: 0,
@@ -95,6 +125,13 @@ impl Report {
         self.hits[row][number as usize] += 1;
         let troubles: Vec<String> = troubles.into_iter().flatten().collect();
         self.case(ENTRIES[row].1, troubles);
+    }
+
+    /// Takes note of what a salvage met.
+    pub fn met(&mut self, what: Met) {
+        if let Some(row) = MET.iter().position(|m| m.0 == what) {
+            self.met[row] += 1;
+        }
     }
 
     /// Counts one case that is not a call: the plan of a test against the
@@ -131,8 +168,9 @@ impl Report {
         (self.passed, self.failed)
     }
 
-    /// How often each entry point answered each number. A number that an
-    /// entry point can answer and never did is a failure if `all` is set.
+    /// How often each entry point answered each number, and what salvages met.
+    /// A number that an entry point can answer and never did is a failure if
+    /// `all` is set, and so is something that no salvage met.
     pub fn table(&mut self, all: bool) {
         print!("{:<14}", "number");
         for number in 0..NUMBERS {
@@ -158,6 +196,12 @@ impl Report {
                 }
             }
             println!();
+        }
+        for ((_, name), &hits) in MET.iter().zip(&self.met) {
+            println!("salvage, {name}: {hits}");
+            if hits == 0 {
+                missing.push(format!("no salvage met {name}"));
+            }
         }
         if all {
             for what in missing {

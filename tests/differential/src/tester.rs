@@ -4,7 +4,7 @@ use crate::ffi;
 use crate::lent::Lent;
 use crate::library::{self, Pair};
 use crate::report::{Entry, Report};
-use reference::{Change, State};
+use reference::{Change, Salvaged, State};
 
 pub struct Tester {
     pub report: Report,
@@ -169,6 +169,25 @@ impl Tester {
         ];
         self.report.call(Entry::StoreTable, number, troubles);
         lent.content().to_vec()
+    }
+
+    /// A salvage. Gives what the library made of image and report, if both
+    /// sides accept them.
+    pub fn salvage(&mut self, image: &[u8], report: &[u8]) -> Option<Salvaged> {
+        let (mut lent, mut lent_report) = (self.lend(image), self.lend(report));
+        let got = library::salvage(&mut lent, &mut lent_report);
+        let result = reference::salvage(image, report);
+        let number = number_of(&result);
+        let unchanged = |_| Salvaged { image: image.to_vec(), report: report.to_vec() };
+        let after = result.unwrap_or_else(unchanged);
+        let troubles = [
+            unequal(got, number),
+            lent.trouble("image", &after.image),
+            lent_report.trouble("report", &after.report),
+        ];
+        self.report.call(Entry::Salvage, number, troubles);
+        let (image, report) = (lent.content().to_vec(), lent_report.content().to_vec());
+        (got == 0 && number == 0).then_some(Salvaged { image, report })
     }
 
     /// A change. Gives the reference's number.

@@ -11,12 +11,23 @@ pub fn check(image: &[u8]) -> u32 {
 
 /// Refuses an image that is not sound.
 pub fn sound(image: &[u8]) -> Result<(), Refusal> {
-    require(length(image), 1)?;
-    require(signature(image), 2)?;
-    require(geometry(image), 3)?;
+    header(image)?;
     directories(image)?;
     require(chains(image), 6)?;
     require(counts(image), 7)
+}
+
+/// Stages 1 to 3.
+fn header(image: &[u8]) -> Result<(), Refusal> {
+    require(length(image), 1)?;
+    require(signature(image), 2)?;
+    require(geometry(image), 3)
+}
+
+/// Stages 1 to 3, and stage 4 of the root alone. Gives the root's blocks.
+pub fn sound_root(image: &[u8]) -> Result<Vec<usize>, Refusal> {
+    header(image)?;
+    directory_blocks(image, &expected_root(image))
 }
 
 fn require(met: bool, number: Refusal) -> Result<(), Refusal> {
@@ -49,10 +60,7 @@ fn geometry(image: &[u8]) -> bool {
 
 /// Stages 4 and 5 of the whole tree: the first fault met gives the number.
 fn directories(image: &[u8]) -> Result<(), Refusal> {
-    let root = root_block(block_count(image)) as u32;
-    let d = number(image, root as usize * BLOCK + slot::BLOCKS);
-    let mut met = BTreeSet::new();
-    directory(image, &Expected { first: root, parent: root, d, name: None }, 0, &mut met)
+    directory(image, &expected_root(image), 0, &mut BTreeSet::new())
 }
 
 /// What a directory must say of itself: of a child its entry has it, of the root
@@ -65,6 +73,12 @@ struct Expected<'a> {
     name: Option<&'a [u8]>,
 }
 
+fn expected_root(image: &[u8]) -> Expected<'static> {
+    let root = root_block(block_count(image)) as u32;
+    let d = number(image, root as usize * BLOCK + slot::BLOCKS);
+    Expected { first: root, parent: root, d, name: None }
+}
+
 /// A directory `level` levels below the root: stage 4, the end slot, then each
 /// slot with all that is below it. `met` are the blocks of directories so far.
 fn directory(
@@ -74,8 +88,7 @@ fn directory(
     met: &mut BTreeSet<usize>,
 ) -> Result<(), Refusal> {
     require(level <= MAX_LEVELS, 4)?;
-    let blocks = right_chain(image, expected.first, expected.d).ok_or(4u32)?;
-    require(right_self_entry(image, expected), 4)?;
+    let blocks = directory_blocks(image, expected)?;
     require(blocks.into_iter().all(|b| met.insert(b)), 4)?;
 
     let offsets = slot_offsets(image, expected.first as usize);
@@ -97,6 +110,13 @@ fn directory(
     Ok(())
 }
 
+/// The blocks of a directory whose chain and self entry meet stage 4.
+fn directory_blocks(image: &[u8], expected: &Expected) -> Result<Vec<usize>, Refusal> {
+    let blocks = right_chain(image, expected.first, expected.d).ok_or(4u32)?;
+    require(right_self_entry(image, expected), 4)?;
+    Ok(blocks)
+}
+
 /// The chain of a directory: d different blocks, 1 to 64, the last with value 1.
 fn right_chain(image: &[u8], first: u32, d: u32) -> Option<Vec<usize>> {
     let blocks = chain(image, first, d as usize)?;
@@ -116,7 +136,7 @@ fn right_self_entry(image: &[u8], expected: &Expected) -> bool {
 }
 
 /// The clauses of stage 5 for one slot in use, but for names equal to others.
-fn right_entry(image: &[u8], entry: &Entry) -> bool {
+pub fn right_entry(image: &[u8], entry: &Entry) -> bool {
     let field = &image[entry.at + slot::NAME..entry.at + SLOT];
     let name = is_good_name(&entry.name) && field[entry.name.len()..].iter().all(|&b| b == 0);
     let sizes = if entry.is_directory() {

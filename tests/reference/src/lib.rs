@@ -11,6 +11,7 @@ pub mod layout;
 pub mod listing;
 pub mod path;
 pub mod replay;
+pub mod salvage;
 pub mod table;
 pub mod views;
 pub mod volume;
@@ -20,6 +21,7 @@ pub use check::check;
 pub use journal::{apply, start, undo, Applied, State, Undone};
 pub use listing::list;
 pub use replay::{Answer, Call, Replay};
+pub use salvage::{salvage, Salvaged};
 pub use table::{load_table, store_table};
 pub use volume::{
     format, look_in_place, lookup, read, read_attributes, Change, ClearAttributes, ClearFlags,

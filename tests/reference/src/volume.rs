@@ -388,7 +388,7 @@ fn clear_flags(image: &[u8], c: &ClearFlags) -> Result<Changed, Refusal> {
 }
 
 /// The two attribute fields of a file.
-fn put_attributes(image: &mut [u8], file: &Entry, first: usize, count: usize) {
+pub(crate) fn put_attributes(image: &mut [u8], file: &Entry, first: usize, count: usize) {
     put_number(image, file.at + slot::ATTRIBUTE_BLOCK, first as u32);
     put_number(image, file.at + slot::ATTRIBUTE_SIZE, count as u32);
 }
@@ -410,7 +410,7 @@ fn lowest_free(image: &[u8], count: usize) -> Result<Vec<usize>, Refusal> {
     free.get(..count).map(|blocks| blocks.to_vec()).ok_or(14)
 }
 
-fn blank(image: &mut [u8], blocks: &[usize]) {
+pub(crate) fn blank(image: &mut [u8], blocks: &[usize]) {
     for &b in blocks {
         image[b * BLOCK..(b + 1) * BLOCK].fill(0);
     }
@@ -429,7 +429,7 @@ pub(crate) fn bytes_of(image: &[u8], blocks: &[usize]) -> Vec<u8> {
 }
 
 /// Makes the header's counts those of the table.
-fn recount(image: &mut [u8]) {
+pub(crate) fn recount(image: &mut [u8]) {
     let free = free_blocks(image).len();
     let occupied = block_count(image) - free;
     put_number(image, header::OCCUPIED, occupied as u32);

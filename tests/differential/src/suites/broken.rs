@@ -24,6 +24,10 @@ fn every_call(rng: &mut Rng, t: &mut Tester, sound: &[u8], image: &[u8]) {
         t.change(&state, &change);
     }
     t.undo(&state);
+    // Its own suites make most salvages.
+    if rng.once_in(4) {
+        t.salvage(image, &buffer);
+    }
 }
 
 /// Every clause of every stage three times, one at a time.

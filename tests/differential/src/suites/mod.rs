@@ -10,6 +10,7 @@ mod names;
 mod order;
 mod orders;
 mod runs;
+mod salvage;
 mod scripts;
 mod sound;
 mod tables;
@@ -44,6 +45,10 @@ pub const SUITES: &[Suite] = &[
     Suite { name: "journals", rounds: |n| n.div_ceil(4), run: broken::journals },
     Suite { name: "tables", rounds: |n| n, run: tables::run },
     Suite { name: "tables_largest", rounds: |_| 1, run: tables::largest },
+    Suite { name: "salvage", rounds: |n| 20 * n, run: salvage::run },
+    Suite { name: "salvage_clauses", rounds: |n| n.div_ceil(100), run: salvage::clauses },
+    Suite { name: "salvage_codes", rounds: |n| n.div_ceil(10), run: salvage::codes },
+    Suite { name: "salvage_largest", rounds: |_| 1, run: salvage::largest },
     Suite { name: "order", rounds: |n| n.div_ceil(25), run: order::all },
     Suite { name: "orders", rounds: |n| n, run: orders::run },
     Suite { name: "kept", rounds: |n| n.div_ceil(5), run: kept::run },

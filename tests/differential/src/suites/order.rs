@@ -25,6 +25,7 @@ pub fn all(rng: &mut Rng, _: u64, t: &mut Tester) {
     sets(rng, t);
     clears(rng, t);
     undos(rng, t);
+    salvages(rng, t);
 }
 
 /// All subsets of the reasons, each in the order of refusals.
@@ -380,5 +381,39 @@ fn undos(rng: &mut Rng, t: &mut Tester) {
         let stage = maybe_damage(rng, &reasons, &mut image);
         let number = t.undo(&State { image, journal });
         t.report.agree("plan", number, lowest(&reasons, stage));
+    }
+}
+
+/// The reason 1 is damage of stages 1 to 4 here; of the later ones salvage has
+/// to put right what there is.
+fn salvages(rng: &mut Rng, t: &mut Tester) {
+    for reasons in subsets(&[1, 5, 9]) {
+        t.report.about(format!("salvage, reasons {reasons:?}"));
+        let n = images::small_n(rng);
+        let mut image = images::flat(rng, n);
+        let slots = slot_offsets(&image, root_block(n));
+        image[header::FREE] ^= rng.byte();
+        image[slots[slots.len() - 1]] = rng.byte();
+        if reasons.contains(&5) {
+            image[slots[rng.between(1, slots.len() - 2)]] = rng.between(0x20, 0x5F) as u8;
+        }
+        let short = reasons.contains(&9);
+        let len = if short { rng.below(slots.len()) } else { rng.between(slots.len(), 300) };
+        let stage = if reasons.contains(&1) { damage_root(rng, &mut image) } else { 0 };
+        let report = rng.bytes(len);
+        t.salvage(&image, &report);
+        let number = reference::salvage(&image, &report).err().unwrap_or(0);
+        t.report.agree("plan", number, lowest(&reasons, stage));
+    }
+}
+
+/// Damage of stages 1 to 4 that concerns no folder; gives the stage.
+fn damage_root(rng: &mut Rng, image: &mut Vec<u8>) -> u32 {
+    let all: Vec<_> = damage::of_root().collect();
+    loop {
+        let clause = all[rng.below(all.len())];
+        if (clause.make)(rng, image).is_some() {
+            return clause.stage;
+        }
     }
 }

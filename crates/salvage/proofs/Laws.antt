@@ -1,0 +1,11 @@
+pub mod Walked
+pub mod Places
+pub mod Done
+pub mod Steps
+pub mod Runs
+pub mod Puts
+pub mod Final
+pub mod Result
+pub mod Fixed
+pub mod Holders
+pub mod Kept
