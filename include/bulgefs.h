@@ -285,6 +285,15 @@ BULGEFS_CHECKED
 uint32_t bulgefs_check(const uint8_t *image, size_t image_len);
 
 /*
+ * A second check, for the bench: it gives the same number as bulgefs_check on
+ * every image, and finds it by walking every chain anew for each block.  Its
+ * time grows with the square of the blocks (docs/PLAIN-CHECK.md).
+ * Refusals: 1 to 7.
+ */
+BULGEFS_CHECKED
+uint32_t bulgefs_plain_check(const uint8_t *image, size_t image_len);
+
+/*
  * Makes an empty volume of the whole image and writes every byte of it.  The
  * root directory gets root_blocks blocks, room for 4 * root_blocks - 2 files
  * and directories.  time is stored as both times of the root.  The volume name

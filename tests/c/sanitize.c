@@ -148,6 +148,7 @@ static void call_looks(const material *m)
 
     uint32_t number = bulgefs_check(image.at, image.len);
     expect(MAY(STAGES, number), "check: number");
+    expect(bulgefs_plain_check(image.at, image.len) == number, "plain_check: number");
 
     bulgefs_found f = bulgefs_lookup(image.at, image.len, path.at, path.len);
     expect(MAY(STAGES | PATH, f.number), "lookup: number");

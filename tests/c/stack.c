@@ -25,6 +25,7 @@ static const uint8_t path[] = "/f";
 static const uint8_t data[4096] = {1};
 
 static void check(void) { number = bulgefs_check(image, image_len); }
+static void plain_check(void) { number = bulgefs_plain_check(image, image_len); }
 static void lookup(void) { number = bulgefs_lookup(image, image_len, path, 2).number; }
 static void start(void) { number = bulgefs_journal_start(journal, journal_len); }
 static void undo(void) { number = bulgefs_undo(image, image_len, journal, journal_len).number; }
@@ -114,7 +115,7 @@ static const struct {
 } calls[] = {
     {"format", format}, {"journal_start", start}, {"create", create}, {"write", write_data},
     {"check", check},   {"lookup", lookup},       {"read", read_data}, {"look_in_place", look},
-    {"load_table", load}, {"store_table", store},
+    {"plain_check", plain_check}, {"load_table", load}, {"store_table", store},
     {"set_attributes", set_attributes}, {"set_attributes again", set_attributes},
     {"read_attributes", read_attributes}, {"clear_attributes", clear_attributes}, {"undo", undo},
     {"clear_flags", clear_flags}, {"undo", undo},

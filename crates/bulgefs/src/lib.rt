@@ -61,6 +61,13 @@ pub extern "C" fn bulgefs_check(image: &[u8]) -> u32
 }
 
 #[no_mangle]
+pub extern "C" fn bulgefs_plain_check(image: &[u8]) -> u32
+    ensures { λ r. ⌜ r ≡ check (now (image .entry)) ⌝ }
+{
+    plain_check::check::plain_check(image)
+}
+
+#[no_mangle]
 pub extern "C" fn bulgefs_lookup(image: &[u8], path: &[u8]) -> Found
     ensures { λ r. ⌜ _≡_ {A = LookupAnswer} (record { number = r .number; slot = r .slot; size = r .size; blocks = r .blocks }) (lookup (now (image .entry)) (now (path .entry))) ⌝ }
 {

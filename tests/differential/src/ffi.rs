@@ -49,6 +49,8 @@ pub struct Changed {
 extern "C" {
     pub fn bulgefs_check(image: *const u8, image_len: usize) -> u32;
 
+    pub fn bulgefs_plain_check(image: *const u8, image_len: usize) -> u32;
+
     pub fn bulgefs_format(image: *mut u8, image_len: usize,
                           root_blocks: u32, time: u64, uuid: Uuid,
                           volume_name: *const u8, volume_name_len: usize) -> u32;

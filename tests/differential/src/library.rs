@@ -8,6 +8,10 @@ pub fn check(image: &Lent) -> u32 {
     unsafe { ffi::bulgefs_check(image.ptr(), image.len()) }
 }
 
+pub fn plain_check(image: &Lent) -> u32 {
+    unsafe { ffi::bulgefs_plain_check(image.ptr(), image.len()) }
+}
+
 pub fn format(image: &mut Lent, d: u32, time: u64, uuid: [u8; 16], name: &Lent) -> u32 {
     let (at, len, uuid) = (image.mut_ptr(), image.len(), Uuid { bytes: uuid });
     unsafe { ffi::bulgefs_format(at, len, d, time, uuid, name.ptr(), name.len()) }

@@ -3,6 +3,7 @@
 #[derive(Clone, Copy, Debug, PartialEq, Eq)]
 pub enum Entry {
     Check,
+    PlainCheck,
     Format,
     Lookup,
     Read,
@@ -25,8 +26,9 @@ pub enum Entry {
 
 /// Every entry point, and the numbers that it can answer. Look in place has
 /// no number; its row counts what look up would have answered.
-const ENTRIES: [(Entry, &str, &[u32]); 18] = [
+const ENTRIES: [(Entry, &str, &[u32]); 20] = [
     (Entry::Check, "check", &[0, 1, 2, 3, 4, 5, 6, 7]),
+    (Entry::PlainCheck, "plain_check", &[0, 1, 2, 3, 4, 5, 6, 7]),
     (Entry::Format, "format", &[0, 1, 9, 14]),
     (Entry::Lookup, "lookup", &[0, 1, 2, 3, 4, 5, 6, 7, 9, 10, 17]),
     (Entry::Read, "read", &[0, 1, 2, 3, 4, 5, 6, 7, 9, 10, 12, 17]),

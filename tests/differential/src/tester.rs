@@ -6,6 +6,10 @@ use crate::library::{self, Pair};
 use crate::report::{Entry, Report};
 use reference::{Change, Salvaged, State};
 
+/// The longest image that the plain check is run on: its time grows with the
+/// square of the length.
+const PLAIN_MOST: usize = 512 * 4096;
+
 pub struct Tester {
     pub report: Report,
     /// The lister program, if it is to be tested.
@@ -44,6 +48,11 @@ impl Tester {
         let expected = reference::check(image);
         let troubles = [unequal(got, expected), lent.trouble("image", image)];
         self.report.call(Entry::Check, expected, troubles);
+        if image.len() <= PLAIN_MOST {
+            let got = library::plain_check(lent);
+            let troubles = [unequal(got, expected), lent.trouble("image", image)];
+            self.report.call(Entry::PlainCheck, expected, troubles);
+        }
     }
 
     pub fn format(&mut self, image: &[u8], d: u32, time: u64, uuid: [u8; 16], volume_name: &[u8]) {
