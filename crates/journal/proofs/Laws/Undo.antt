@@ -64,7 +64,7 @@ module _ (kept-sound : KeptSound) {n size : ℕ} (p : State) (c : Change) (m : R
       let k = blockCount (p .image) in
       let ns = named (p .image) c in
       let in-record = ascending-all k ns (framed .one) (has-eqb-in (framed .one) ns (framed .listed)) (framed .inside (framed .one) (framed .listed)) in
-      appended k (p .image) (sz .whole) (sz .most) bs (ascending-below k ns) (ascending-rising k ns) (in-some (framed .one) bs in-record)
+      appended k (p .image) (omega (arith, sz .whole)) (sz .most) bs (ascending-below k ns) (ascending-rising k ns) (in-some (framed .one) bs in-record)
       (p .journal) (m .shaped) (well (p .journal) k (acc .well-formed)) (acc .fits)
 
   abbrev q : State

@@ -77,7 +77,7 @@ module _ (c : Change) (s j : List ℕ) where
     unfolding recordOf
     record-some e =
         let z = sound s (w .sound) in
-        omega (arith, length-record (blockCount s) s (z .whole) (z .most) (ascending (blockCount s) (named s c)) (ascending-below (blockCount s) (named s c)))
+        omega (arith, length-record (blockCount s) s (omega (arith, z .whole)) (z .most) (ascending (blockCount s) (named s c)) (ascending-below (blockCount s) (named s c)))
 
     number-is : refusal s c ≡ 0 → changeRefusal (state s j) c ≡ roomRefusal j (recordOf (state s j) c)
     unfolding changeRefusal roomRefusal
@@ -109,14 +109,14 @@ module _ (c : Change) (s j : List ℕ) where
 
 -- the marked blocks, recorded
 pub marks-ready : (s j m : List ℕ) → Ready s j → blockCount s ≤ length m → Marks s m (blockCount s)
-marks-ready s j m w k = let z = sound s (w .sound) in record { whole = z .whole; blocks = z .most; marks = k }
+marks-ready s j m w k = let z = sound s (w .sound) in record { whole = omega (arith, z .whole); blocks = z .most; marks = k }
 
 module _ (s j m : List ℕ) (w : Ready s j) where
   long : (size : ℕ) → size ≡ 4 + 516 * length (markedFrom m 0 (blockCount s)) → length (recordMarked s m) ≡ size
   long size e =
       let z = sound s (w .sound) in
       let low = rw sub-zero at (marked-below m 0 (blockCount s) (omega arith)) in
-      length-record (blockCount s) s (z .whole) (z .most) (markedFrom m 0 (blockCount s)) low ∙ sym e
+      length-record (blockCount s) s (omega (arith, z .whole)) (z .most) (markedFrom m 0 (blockCount s)) low ∙ sym e
 
   pub not-recorded : (size : ℕ) → size ≡ 4 + 516 * length (markedFrom m 0 (blockCount s)) → length j < used j + size
       → Recorded j (recordMarked s m) 0 j

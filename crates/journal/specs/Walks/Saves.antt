@@ -1,6 +1,5 @@
 -- Saving the marked blocks of an image.
 use Prim.Native.Nat.{ℕ, _*_, _≤_}
-use mathlib.Core.Path.{_≡_}
 use mathlib.Core.List.{List}
 use mathlib.Core.Bool.{not}
 use lib.ListN.{length, getD}
@@ -12,8 +11,8 @@ use Rattle.layout.specs.Limits.{maxBlocks}
 unfoldable pub markedFrom : List ℕ → ℕ → ℕ → List ℕ
 markedFrom m a k = select (λ b. not (eqb (getD m b 0) 0)) (interval a k)
 
--- an image of n blocks, with a mark for each block
+-- an image of n blocks or more, with a mark for each of them
 pub record Marks (s m : List ℕ) (n : ℕ) : Type 0 where
-  pub whole : length s ≡ 512 * n
+  pub whole : 512 * n ≤ length s
   pub blocks : n ≤ maxBlocks
   pub marks : n ≤ length m

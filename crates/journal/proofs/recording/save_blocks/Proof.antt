@@ -1,103 +1,70 @@
 -- What is left to save, saved from here, gives what all gives from the start.
-use mathlib.Core.Path.{_≡_, _∙_}
-use Prim.Native.Nat.{_+_, _-_, _*_}
+use mathlib.Core.Path.{sym, _∙_}
+use Prim.Native.Nat.{_+_, _-_}
 use native.Mathlib.Omega.{arith}
-use lib.ListN.{length-take, length-drop}
+use Rattle.journal.specs.Walks.Saves.{markedFrom}
 use Rattle.journal.proofs.recording.save_blocks.Statement.{statement}
 use Rattle.journal.proofs.recording.save_blocks.Tie as tie
-use Rattle.layout.proofs.Laws.Bytes.{lent}
-use Rattle.journal.proofs.Laws.Records.{piece, length-piece}
-use Rattle.journal.proofs.Walks.Saves.{Saving, save-start, save-skip, save-room, save-one, save-end}
+use Rattle.journal.proofs.Walks.Saves.{marks-fewer, Saving, save-all, save-room, save-more, save-none}
 
 abbrev Inv-loop : tie.InvT-loop
-Inv-loop image journal₀ marks n at p₀ b₀ journal p b = Saving image marks journal₀ n at journal p b
+Inv-loop image journal₀ marks n at p₀ b₀ journal p b = Saving image marks journal₀ (markedFrom marks 0 n) at n journal p b
 
 abbrev μ-loop : tie.MeasureT-loop
 μ-loop image journal₀ marks n at p₀ b₀ journal p b = n - b
 
 loop-holds : tie.Need-loop-holds Inv-loop μ-loop
-loop-holds c = save-start _ _ _ _ _
+loop-holds c = save-all _ _ _ _ _
 
-shared-slice-read-if1 : tie.Need-shared-slice-read-if1 Inv-loop μ-loop
-shared-slice-read-if1 c = omega arith
+add-loop : tie.Need-add-loop Inv-loop μ-loop
+add-loop c = omega arith
 
 add-b : tie.Need-add-b Inv-loop μ-loop
 add-b c = omega arith
+
+count-marked-requires : tie.Need-count-marked-requires Inv-loop μ-loop
+count-marked-requires c κs = (omega arith, omega arith, omega arith)
 
 loop-less : tie.Need-loop-less Inv-loop μ-loop
 loop-less c = omega arith
 
 loop-again : tie.Need-loop-again Inv-loop μ-loop
-loop-again c = save-skip _ _ _ _ _ _ _ _ (c .before .before .before .loop .inv) (omega arith) (c .if1 .taken)
-
-mul-a : tie.Need-mul-a Inv-loop μ-loop
-mul-a c = omega arith
-
-add-e : tie.Need-add-e Inv-loop μ-loop
-add-e c = omega arith
-
-add-q : tie.Need-add-q Inv-loop μ-loop
-add-q c =
+loop-again c =
     let l = c .before .before .before .loop in
     let p = c .before .before .before .before .before .before .before .pre in
-    let r = save-room _ _ _ _ _ _ _ _ (l .inv) (omega arith) (c .if1 .left) (p .1) in
-    omega arith
+    save-none _ _ _ _ _ _ _ _ _ (l .inv) (p .0) (p .1) (l .b + 64) (omega arith) (omega arith) (sym (c .before .count-marked .ensures .0) ∙ c .if1 .taken)
 
-sub-save-block : tie.Need-sub-save-block Inv-loop μ-loop
-sub-save-block c = omega arith
-
-part-save-block-start : tie.Need-part-save-block-start Inv-loop μ-loop
-part-save-block-start c = omega arith
-
-part-save-block-end : tie.Need-part-save-block-end Inv-loop μ-loop
-part-save-block-end c = omega arith
-
-sub-save-block-2 : tie.Need-sub-save-block-2 Inv-loop μ-loop
-sub-save-block-2 c = omega arith
-
-part-save-block-start-2 : tie.Need-part-save-block-start-2 Inv-loop μ-loop
-part-save-block-start-2 c = omega arith
-
-part-save-block-end-2 : tie.Need-part-save-block-end-2 Inv-loop μ-loop
-part-save-block-end-2 c =
+save-range-requires : tie.Need-save-range-requires Inv-loop μ-loop
+save-range-requires c κs =
     let l = c .before .before .before .before .loop in
     let p = c .before .before .before .before .before .before .before .before .pre in
-    let r = save-room _ _ _ _ _ _ _ _ (l .inv) (omega arith) (c .before .if1 .left) (p .1) in
-    omega arith
-
-save-block-requires : tie.Need-save-block-requires Inv-loop μ-loop
-save-block-requires c κs =
-    let if1 = c .before .before .if1 in
-    let l = c .before .before .before .before .before .loop in
-    let p = c .before .before .before .before .before .before .before .before .before .pre in
-    let r = save-room _ _ _ _ _ _ _ _ (l .inv) (omega arith) (if1 .left) (p .1) in
-    (simp (length-take, length-drop) (omega arith), simp (length-take, length-drop) (omega arith), omega arith)
-
-add-b-2 : tie.Need-add-b-2 Inv-loop μ-loop
-add-b-2 c = omega arith
+    (omega arith, marks-fewer _ _ _ _ (p .0) (omega arith), save-room _ _ _ _ _ _ _ _ _ (l .inv) (p .0) (p .1) (l .b + 64) (omega arith) (omega arith))
 
 loop-less-2 : tie.Need-loop-less-2 Inv-loop μ-loop
 loop-less-2 c = omega arith
 
 loop-again-2 : tie.Need-loop-again-2 Inv-loop μ-loop
 loop-again-2 c =
-    let save-block = c .before .before .save-block in
-    let if1 = c .before .before .before .before .before .if1 in
-    let l = c .before .before .before .before .before .before .before .before .loop in
-    let a = c .before .before .before .before .before .before .before .before .before .before .before .before .args in
-    let p = c .before .before .before .before .before .before .before .before .before .before .before .before .pre in
-    let b = l .b in
-    let n : 512 * b + 512 - 512 * b ≡ 512 = omega arith in
-    let k = p .0 in
-    save-one _ _ _ _ _ _ _ _ (l .inv) k (omega arith) (if1 .left) (p .1) _
-    (lent _ (l .p) (l .p + 516 - l .p) _ (piece (a .image .now) b) (save-block .ensures ∙ rw n)
-    (length-piece (a .n) (a .image .now) (k .whole) (k .blocks) b (omega arith) ∙ omega arith))
+    let save-range = c .before .before .save-range in
+    let l = c .before .before .before .before .before .before .before .loop in
+    let p = c .before .before .before .before .before .before .before .before .before .before .before .pre in
+    save-more _ _ _ _ _ _ _ _ _ (l .inv) (p .0) (p .1) (l .b + 64) (omega arith) (omega arith) _ (save-range .ensures .1) _ (save-range .ensures .0)
+
+save-range-requires-2 : tie.Need-save-range-requires-2 Inv-loop μ-loop
+save-range-requires-2 c κs =
+    let i = c .before .before .loop .inv in
+    let p = c .before .before .before .before .before .before .pre in
+    (i .within, p .0, omega (arith, i .place, i .long, p .1))
 
 same-length : tie.Need-same-length Inv-loop μ-loop
-same-length c = c .before .loop .inv .long
+same-length c =
+    let save-range = c .before .before .save-range2 in
+    let i = c .before .before .before .before .before .loop .inv in
+    let p = c .before .before .before .before .before .before .before .before .before .pre in
+    save-more _ _ _ _ _ _ _ _ _ i (p .0) (p .1) _ (i .within) (omega arith) _ (save-range .ensures .1) _ (save-range .ensures .0) .long
 
 returns : tie.Need-returns Inv-loop μ-loop
-returns c = save-end _ _ _ _ _ _ _ _ (c .before .loop .inv) (omega arith)
+returns c = c .before .before .save-range2 .ensures .1 ∙ sym (c .before .before .before .before .before .loop .inv .whole)
 
 pub save-blocks-spec : {M : Type 1} → statement M
 save-blocks-spec =
@@ -106,22 +73,14 @@ save-blocks-spec =
     Inv-loop
     μ-loop
     loop-holds
-    shared-slice-read-if1
+    add-loop
     add-b
+    count-marked-requires
     loop-less
     loop-again
-    mul-a
-    add-e
-    add-q
-    sub-save-block
-    part-save-block-start
-    part-save-block-end
-    sub-save-block-2
-    part-save-block-start-2
-    part-save-block-end-2
-    save-block-requires
-    add-b-2
+    save-range-requires
     loop-less-2
     loop-again-2
+    save-range-requires-2
     same-length
     returns)
