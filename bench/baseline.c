@@ -357,17 +357,15 @@ static void name_taken(const plan *p, block_set *named)
     }
 }
 
-bulgefs_changed ENTRY(write)(uint8_t *image, size_t image_len,
-                             uint8_t *journal, size_t journal_len,
-                             const uint8_t *path, size_t path_len,
-                             uint64_t offset, const uint8_t *data, size_t data_len,
-                             uint64_t time)
+/* A write to an image and a journal that were checked.  Weighs 9 to 15 and 17. */
+static bulgefs_changed write_file(uint8_t *image, const volume *v,
+                                  uint8_t *journal, size_t journal_len,
+                                  const uint8_t *path, size_t path_len,
+                                  uint64_t offset, const uint8_t *data, size_t data_len,
+                                  uint64_t time)
 {
-    volume v;
     target to;
-    uint32_t number = check_both(image, image_len, journal, journal_len, &v);
-    if (number == BULGEFS_OK)
-        number = find_file(image, &v, path, path_len, data_len <= BULGEFS_MAX_DATA, &to);
+    uint32_t number = find_file(image, v, path, path_len, data_len <= BULGEFS_MAX_DATA, &to);
     if (number != BULGEFS_OK)
         return (bulgefs_changed){number, 0};
     uint8_t *entry = image + slot_at(&to.home, to.slot);
@@ -388,7 +386,7 @@ bulgefs_changed ENTRY(write)(uint8_t *image, size_t image_len,
     add(&named, block_of(&to));
     name_written(image, entry, &p, &named);
     name_taken(&p, &named);
-    uint32_t record = save(image, v.n, &named, journal, journal_len);
+    uint32_t record = save(image, v->n, &named, journal, journal_len);
     if (record == 0)
         return (bulgefs_changed){BULGEFS_JOURNAL_FULL, 0};
     if (p.count > 0)
@@ -397,6 +395,65 @@ bulgefs_changed ENTRY(write)(uint8_t *image, size_t image_len,
     put32(entry + SIZE, new_size);
     put64(entry + MODIFIED, time);
     return (bulgefs_changed){BULGEFS_OK, record};
+}
+
+bulgefs_changed ENTRY(write)(uint8_t *image, size_t image_len,
+                             uint8_t *journal, size_t journal_len,
+                             const uint8_t *path, size_t path_len,
+                             uint64_t offset, const uint8_t *data, size_t data_len,
+                             uint64_t time)
+{
+    volume v;
+    uint32_t number = check_both(image, image_len, journal, journal_len, &v);
+    if (number != BULGEFS_OK)
+        return (bulgefs_changed){number, 0};
+    return write_file(image, &v, journal, journal_len, path, path_len, offset, data, data_len,
+                      time);
+}
+
+/* The fields of an item of a list; its path begins at ITEM_PATH. */
+enum { ITEM_TIME = 4, ITEM_OFFSET = 12, ITEM_PATH_LENGTH = 16, ITEM_PATH = 18 };
+
+static size_t item_path_length(const uint8_t *item)
+{
+    return (size_t)item[ITEM_PATH_LENGTH] << 8 | item[ITEM_PATH_LENGTH + 1];
+}
+
+/* Whether items fill the list exactly, and their paths fit into them. */
+static bool good_list(const uint8_t *list, size_t len)
+{
+    if (len < BULGEFS_LIST_HEAD || len > BULGEFS_MAX_LIST || list[0] != 1
+        || get32(list + 1) != len)
+        return false;
+    for (size_t at = BULGEFS_LIST_HEAD; at < len; at += get32(list + at)) {
+        size_t left = len - at;
+        if (left < ITEM_PATH || get32(list + at) > left
+            || get32(list + at) < ITEM_PATH + item_path_length(list + at))
+            return false;
+    }
+    return true;
+}
+
+bulgefs_listed ENTRY(write_list)(uint8_t *image, size_t image_len,
+                                 uint8_t *journal, size_t journal_len,
+                                 const uint8_t *list, size_t list_len)
+{
+    volume v;
+    uint32_t done = 0;
+    uint32_t number = check_both(image, image_len, journal, journal_len, &v);
+    if (number == BULGEFS_OK && !good_list(list, list_len))
+        number = BULGEFS_BAD_LIST;
+    for (size_t at = BULGEFS_LIST_HEAD; number == BULGEFS_OK && at < list_len;) {
+        const uint8_t *item = list + at;
+        size_t size = get32(item), path_len = item_path_length(item);
+        uint64_t time = (uint64_t)get32(item + ITEM_TIME) << 32 | get32(item + ITEM_TIME + 4);
+        number = write_file(image, &v, journal, journal_len, item + ITEM_PATH, path_len,
+                            get32(item + ITEM_OFFSET), item + ITEM_PATH + path_len,
+                            size - ITEM_PATH - path_len, time).number;
+        done += number == BULGEFS_OK;
+        at += size;
+    }
+    return (bulgefs_listed){number, done};
 }
 
 /* Names what freeing a chain changes: its blocks, their table blocks, and block 0. */

@@ -96,7 +96,7 @@ static const uint32_t block_counts[] = {16, 64, 256, 1024, 4096, 16384, 65536};
 /* The last lie in folders, a hundred in each; all others in the root. */
 static const uint32_t file_counts[] = {10, 100, 250, 900};
 enum { IN_FOLDER = 100, FOLDER_BLOCKS = 26 };
-enum { NS = 7, FILES = 4, MAX_SAMPLES = 9, JOURNAL = 65536, DATA = 1000, PATH_SIZE = 160 };
+enum { NS = 7, FILES = 4, MAX_SAMPLES = 9, JOURNAL = 65536, DATA = 1000 };
 /* The last file, of which the calls are made, has three blocks; a write makes it longer. */
 enum { LAST_SIZE = DATA + 500, LAST_WRITTEN = 2 * DATA };
 /* A file of many blocks, whose delete saves and zeroes them all; only where there is room. */
@@ -127,7 +127,7 @@ double now(void)
     return (double)t.tv_sec + (double)t.tv_nsec * 1e-9;
 }
 
-static void require(uint32_t number, const char *what)
+void require(uint32_t number, const char *what)
 {
     if (number != BULGEFS_OK) {
         fprintf(stderr, "bench: %s was refused with %u\n", what, (unsigned)number);
@@ -531,6 +531,7 @@ int main(int argc, char **argv)
             measure(n, f);
     print_table();
     print_means();
+    bench_lists(samples);
     if (figures != NULL)
         write_figures(figures);
     return 0;

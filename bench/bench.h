@@ -11,6 +11,19 @@ enum { CHECK, LOOKUP, READ, WRITE, DELETE, DELETE_LARGE, CREATE_DIRECTORY, DELET
 /* Seconds since some time. */
 double now(void);
 
+/* Ends the program if a call was refused. */
+void require(uint32_t number, const char *what);
+
+/* A path and its length. */
+enum { PATH_SIZE = 160 };
+typedef struct {
+    uint8_t bytes[PATH_SIZE];
+    size_t len;
+} named;
+
+/* Times 900 settings written by lists, by single calls and by one transaction; prints a table. */
+void bench_lists(int samples);
+
 /*
  * The same work in SQLite, in memory, with statements prepared beforehand: a
  * table of paths and contents.  check is its integrity check, lookup and read
@@ -26,5 +39,9 @@ void sqlite_add(const uint8_t *path, size_t path_len, const uint8_t *data, size_
 /* Makes every call once and adds the time of each; a write leaves the data as the content. */
 void sqlite_calls(const uint8_t *path, size_t path_len, const uint8_t *data, size_t len,
                   double *sum);
+
+/* Makes every content empty; puts the data as the content of every path, in one transaction. */
+void sqlite_empty(void);
+void sqlite_transaction(const named *paths, size_t count, const uint8_t *data, size_t len);
 
 #endif

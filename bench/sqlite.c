@@ -8,7 +8,8 @@
 #include <stdlib.h>
 #include <string.h>
 
-enum { INTEGRITY, SIZE, CONTENT, PUT, DROP, ADD, BEGIN, BACK, RELEASE, STATEMENTS };
+enum { INTEGRITY, SIZE, CONTENT, PUT, DROP, ADD, BEGIN, BACK, RELEASE, OPEN, COMMIT, EMPTY,
+       STATEMENTS };
 
 static const char *const texts[STATEMENTS] = {
     [INTEGRITY] = "PRAGMA integrity_check",
@@ -20,13 +21,16 @@ static const char *const texts[STATEMENTS] = {
     [BEGIN] = "SAVEPOINT change",
     [BACK] = "ROLLBACK TO change",
     [RELEASE] = "RELEASE change",
+    [OPEN] = "BEGIN",
+    [COMMIT] = "COMMIT",
+    [EMPTY] = "UPDATE files SET content = x'', time = 1",
 };
 
 static sqlite3 *db;
 static sqlite3_stmt *statements[STATEMENTS];
 static uint8_t buffer[4096];
 
-static void require(int right, const char *what)
+static void must(int right, const char *what)
 {
     if (!right) {
         fprintf(stderr, "bench: SQLite, %s: %s\n", what, sqlite3_errmsg(db));
@@ -44,15 +48,15 @@ void sqlite_start(void)
     for (int i = 0; i < STATEMENTS; i++)
         sqlite3_finalize(statements[i]);
     sqlite3_close(db);
-    require(sqlite3_open(":memory:", &db) == SQLITE_OK, "open");
-    require(sqlite3_exec(db, "PRAGMA secure_delete = ON", NULL, NULL, NULL) == SQLITE_OK, "pragma");
-    require(sqlite3_exec(db,
+    must(sqlite3_open(":memory:", &db) == SQLITE_OK, "open");
+    must(sqlite3_exec(db, "PRAGMA secure_delete = ON", NULL, NULL, NULL) == SQLITE_OK, "pragma");
+    must(sqlite3_exec(db,
                          "CREATE TABLE files (path TEXT PRIMARY KEY, content BLOB, time INTEGER)"
                          " WITHOUT ROWID",
                          NULL, NULL, NULL) == SQLITE_OK,
             "create table");
     for (int i = 0; i < STATEMENTS; i++)
-        require(sqlite3_prepare_v2(db, texts[i], -1, &statements[i], NULL) == SQLITE_OK, texts[i]);
+        must(sqlite3_prepare_v2(db, texts[i], -1, &statements[i], NULL) == SQLITE_OK, texts[i]);
 }
 
 /* Runs a statement on a path and a content, either of which it may not have. */
@@ -64,7 +68,7 @@ static sqlite3_stmt *run(int which, const uint8_t *path, size_t path_len, const 
         sqlite3_bind_text(s, 1, (const char *)path, (int)path_len, SQLITE_STATIC);
     if (data != NULL)
         sqlite3_bind_blob(s, 2, data, (int)len, SQLITE_STATIC);
-    require(sqlite3_step(s) == expected, texts[which]);
+    must(sqlite3_step(s) == expected, texts[which]);
     return s;
 }
 
@@ -91,7 +95,7 @@ void sqlite_calls(const uint8_t *path, size_t path_len, const uint8_t *data, siz
     double t[8];
     t[0] = now();
     sqlite3_stmt *s = run(INTEGRITY, NULL, 0, NULL, 0, SQLITE_ROW);
-    require(strcmp((const char *)sqlite3_column_text(s, 0), "ok") == 0, "integrity");
+    must(strcmp((const char *)sqlite3_column_text(s, 0), "ok") == 0, "integrity");
     sqlite3_reset(s);
     t[1] = now();
     sqlite3_reset(run(SIZE, path, path_len, NULL, 0, SQLITE_ROW));
@@ -115,6 +119,19 @@ void sqlite_calls(const uint8_t *path, size_t path_len, const uint8_t *data, siz
     sum[DELETE] += t[6] - t[5];
 }
 
+void sqlite_empty(void)
+{
+    sqlite3_reset(run(EMPTY, NULL, 0, NULL, 0, SQLITE_DONE));
+}
+
+void sqlite_transaction(const named *paths, size_t count, const uint8_t *data, size_t len)
+{
+    sqlite3_reset(run(OPEN, NULL, 0, NULL, 0, SQLITE_DONE));
+    for (size_t i = 0; i < count; i++)
+        sqlite3_reset(run(PUT, paths[i].bytes, paths[i].len, data, len, SQLITE_DONE));
+    sqlite3_reset(run(COMMIT, NULL, 0, NULL, 0, SQLITE_DONE));
+}
+
 #else
 
 const char *sqlite_version(void)
@@ -135,6 +152,15 @@ void sqlite_calls(const uint8_t *path, size_t path_len, const uint8_t *data, siz
                   double *sum)
 {
     (void)path, (void)path_len, (void)data, (void)len, (void)sum;
+}
+
+void sqlite_empty(void)
+{
+}
+
+void sqlite_transaction(const named *paths, size_t count, const uint8_t *data, size_t len)
+{
+    (void)paths, (void)count, (void)data, (void)len;
 }
 
 #endif

@@ -24,8 +24,10 @@
  *   Every call but bulgefs_look_in_place answers a number: 0 (BULGEFS_OK) if
  *   the call was accepted, otherwise one of the refusals below; bulgefs_text
  *   has words for it.  If several refusals apply, the first in this order is
- *   given: 1 to 9, 20, 17, 26, 21, 10 to 12, 18, 13 to 16.  A refused call
+ *   given: 1 to 8, 19, 9, 20, 17, 26, 21, 10 to 12, 18, 13 to 16.  A refused call
  *   changes no byte of any buffer, and all other fields of its answer are 0.
+ *   Only bulgefs_write_list differs: the writes before the one that was refused
+ *   stand, and its answer counts them.
  *
  * What it is not
  *   - The journal is an undo journal, not a journal against loss of power.
@@ -78,8 +80,8 @@ extern "C" {
  * The version of this header, 10000 * major + 100 * minor + patch.  The minor
  * number rises with every call, number or limit that comes or changes.
  */
-#define BULGEFS_VERSION            700u
-#define BULGEFS_VERSION_TEXT       "0.7.0"
+#define BULGEFS_VERSION            900u
+#define BULGEFS_VERSION_TEXT       "0.9.0"
 
 /*
  * The compiler says if an answer is not used.  Define BULGEFS_CHECKED as
@@ -104,6 +106,7 @@ extern "C" {
 #define BULGEFS_MAX_NAME           80u       /* bytes in the longest name              */
 #define BULGEFS_VOLUME_NAME_SIZE   128u      /* bytes of a volume name, always         */
 #define BULGEFS_MAX_DATA           4096u     /* bytes that one write accepts           */
+#define BULGEFS_MAX_LIST           65536u    /* bytes in the longest list of writes    */
 #define BULGEFS_MAX_ATTRIBUTE_BLOCKS 8u      /* blocks of a file's attributes          */
 #define BULGEFS_MIN_JOURNAL        5u        /* bytes in the smallest journal          */
 #define BULGEFS_MAX_JOURNAL        67108864u /* bytes in the largest journal           */
@@ -162,6 +165,13 @@ extern "C" {
 #define BULGEFS_ATTRIBUTES_BLOCKS(old_blocks, new_blocks) (2u + 2u * ((old_blocks) + (new_blocks)))
 #define BULGEFS_JOURNAL_SIZE(changes, k) (BULGEFS_MIN_JOURNAL + (changes) * BULGEFS_RECORD_SIZE(k))
 
+/*
+ * Size of a list of writes: BULGEFS_LIST_HEAD and the BULGEFS_ITEM_SIZE of each
+ * of its items, at most BULGEFS_MAX_LIST.
+ */
+#define BULGEFS_LIST_HEAD              5u
+#define BULGEFS_ITEM_SIZE(path_len, data_len) (18u + (path_len) + (data_len))
+
 /* The number that a call answers. */
 enum bulgefs_number {
     BULGEFS_OK              = 0,
@@ -187,6 +197,7 @@ enum bulgefs_number {
     BULGEFS_NOTHING_TO_UNDO = 16, /* undo: the journal holds no record                 */
     BULGEFS_TOO_DEEP        = 17, /* more than 8 directories in a path; just after 9   */
     BULGEFS_NOT_EMPTY       = 18, /* the directory to delete is not empty; after 12    */
+    BULGEFS_BAD_LIST        = 19, /* the list of writes is not of the form; after 8    */
     BULGEFS_TOO_MANY_BLOCKS = 20, /* more than 8 blocks of attributes; just after 9    */
     BULGEFS_BAD_TABLE_SIZE  = 21, /* entry_count is not the number of blocks; after 9  */
     BULGEFS_BAD_FLAGS       = 26  /* creates: flags other than 0; just after 17        */
@@ -233,6 +244,7 @@ BULGEFS_INLINE const char *bulgefs_text(uint32_t number)
     case BULGEFS_NOTHING_TO_UNDO: return "nothing to undo";
     case BULGEFS_TOO_DEEP:        return "too many directories in the path";
     case BULGEFS_NOT_EMPTY:       return "directory is not empty";
+    case BULGEFS_BAD_LIST:        return "list of writes is not of the form";
     case BULGEFS_TOO_MANY_BLOCKS: return "too many blocks of attributes";
     case BULGEFS_BAD_TABLE_SIZE:  return "not one number for each block";
     case BULGEFS_BAD_FLAGS:       return "system flags are not zero";
@@ -257,6 +269,12 @@ typedef struct { uint32_t number, slot, record; } bulgefs_created;
 
 /* The length of the record added to the journal, or taken back by an undo. */
 typedef struct { uint32_t number, record; } bulgefs_changed;
+
+/*
+ * How many writes of a list were done, and the refusal that stopped it; with
+ * BULGEFS_OK all of them were done.
+ */
+typedef struct { uint32_t number, done; } bulgefs_listed;
 
 /*
  * Paths
@@ -378,6 +396,25 @@ bulgefs_changed bulgefs_write(uint8_t *image, size_t image_len,
                               const uint8_t *path, size_t path_len,
                               uint64_t offset, const uint8_t *data, size_t data_len,
                               uint64_t time);
+
+/*
+ * Makes the writes of a list, in order, until the first that is refused.  Image,
+ * journal and answer are those of as many calls of bulgefs_write: each write
+ * that was done has its own record, and bulgefs_undo takes back one at a time.
+ * The image is checked and the journal gone through once for the whole list.
+ *
+ * A list is the byte 1, the length of the whole list (4 bytes) and the items;
+ * an item is its own length (4 bytes, these included), time (8), offset (4),
+ * the path's length (2), the path, and the data up to the item's end.  Numbers
+ * are big-endian.  A list of no items is accepted.
+ * Refusals: 1 to 7, BULGEFS_BAD_JOURNAL, BULGEFS_BAD_LIST (list_len above
+ * 65,536, or lengths that do not fill list and items exactly): nothing was
+ * done.  Then those of bulgefs_write: done writes stand.
+ */
+BULGEFS_CHECKED
+bulgefs_listed bulgefs_write_list(uint8_t *image, size_t image_len,
+                                  uint8_t *journal, size_t journal_len,
+                                  const uint8_t *list, size_t list_len);
 
 /*
  * Deletes a file and frees its blocks, those of its attributes too.  All bytes

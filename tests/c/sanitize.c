@@ -138,7 +138,7 @@ typedef struct {
 #define STAGES     0xFEu
 #define BIT(n)     (1u << (n))
 #define PATH       (BIT(9) | BIT(10) | BIT(17))
-#define MAY(set, n) ((n) <= 20 && ((set) | 1u) >> (n) & 1u)
+#define MAY(set, n) ((n) <= 26 && ((set) | 1u) >> (n) & 1u)
 
 static void call_looks(const material *m)
 {
@@ -260,6 +260,94 @@ static void call_attribute_changes(const material *m, const buffer *path)
     settle(&image, &journal, c.number, c.record, common, "clear_attributes");
 }
 
+static void put_number(uint8_t *at, uint32_t number)
+{
+    for (int i = 0; i < 4; i++)
+        at[i] = (uint8_t)(number >> (24 - 8 * i));
+}
+
+/* Puts an item of a list; gives its length. */
+static size_t put_item(uint8_t *at, const material *m, uint32_t offset, size_t data_len)
+{
+    size_t size = BULGEFS_ITEM_SIZE(m->path_len, data_len);
+    put_number(at, (uint32_t)size);
+    put_number(at + 4, 0);
+    put_number(at + 8, 5);
+    put_number(at + 12, offset);
+    at[16] = (uint8_t)(m->path_len >> 8);
+    at[17] = (uint8_t)m->path_len;
+    if (m->path_len > 0)
+        memcpy(at + 18, m->path, m->path_len);
+    if (data_len > 0)
+        memcpy(at + 18 + m->path_len, m->data, data_len);
+    return size;
+}
+
+/* A list of bytes, whatever they are; gives the answer, and image and journal after it. */
+static bulgefs_listed call_list(const material *m, const uint8_t *list, size_t list_len,
+                                buffer *image, buffer *journal)
+{
+    const uint32_t all = STAGES | BIT(8) | BIT(12) | BIT(14) | BIT(15) | BIT(19) | PATH;
+    buffer lent = lend_const(list, list_len);
+    *image = lend(m->image, m->image_len);
+    *journal = lend(m->journal, m->journal_len);
+    bulgefs_listed w = bulgefs_write_list(image->at, image->len, journal->at, journal->len,
+                                          lent.at, lent.len);
+    expect(MAY(all, w.number), "write_list: number");
+    expect(w.done > 0 || (unchanged(image) && unchanged(journal)), "write_list: nothing done");
+    expect(w.done == 0 || bulgefs_check(image->at, image->len) == 0, "write_list: sound");
+    expect(unchanged(&lent), "write_list: the list stays");
+    give_back(&lent);
+    return w;
+}
+
+static bool same(const buffer *a, const buffer *b)
+{
+    return a->len == 0 || memcmp(a->at, b->at, a->len) == 0;
+}
+
+/*
+ * A list of the same path three times, beside as many writes; the list cut, and
+ * bytes that were not made to be a list.
+ */
+static void call_lists(const material *m)
+{
+    static uint8_t list[BULGEFS_LIST_HEAD + 3 * BULGEFS_ITEM_SIZE(8192, 8192)] = {1};
+    const uint32_t offsets[3] = {0, (uint32_t)m->offset, 0};
+    const size_t lengths[3] = {m->data_len / 2, m->data_len, 0};
+    size_t len = BULGEFS_LIST_HEAD;
+    for (int i = 0; i < 3; i++)
+        len += put_item(list + len, m, offsets[i], lengths[i]);
+    put_number(list + 1, (uint32_t)len);
+    buffer image, journal, other, beside;
+    bulgefs_listed w = call_list(m, list, len, &image, &journal);
+    other = lend(m->image, m->image_len);
+    beside = lend(m->journal, m->journal_len);
+    bulgefs_listed one = {0, 0};
+    for (int i = 0; i < 3 && one.number == 0; i++) {
+        one.number = bulgefs_write(other.at, other.len, beside.at, beside.len, m->path,
+                                   m->path_len, offsets[i], m->data, lengths[i], 5).number;
+        one.done += one.number == 0;
+    }
+    if (w.number != BULGEFS_BAD_LIST)
+        expect(w.number == one.number && w.done == one.done && same(&image, &other)
+                   && same(&journal, &beside),
+               "write_list: as the writes one by one");
+    give_back(&other);
+    give_back(&beside);
+    give_back(&image);
+    give_back(&journal);
+
+    size_t cut = random_below((uint32_t)len);
+    put_number(list + 1, (uint32_t)cut);
+    call_list(m, list, cut, &image, &journal);
+    give_back(&image);
+    give_back(&journal);
+    call_list(m, m->data, m->data_len, &image, &journal);
+    give_back(&image);
+    give_back(&journal);
+}
+
 static void call_directory_changes(const material *m, const buffer *path)
 {
     const uint32_t common = STAGES | BIT(8) | BIT(15) | PATH;
@@ -288,6 +376,7 @@ static void call_changes(const material *m)
     call_file_changes(m, &path);
     call_attribute_changes(m, &path);
     call_directory_changes(m, &path);
+    call_lists(m);
 
     buffer image = lend(m->image, m->image_len);
     buffer journal = lend(m->journal, m->journal_len);
@@ -470,12 +559,6 @@ static void fill_volume(uint8_t *image, size_t n, uint8_t *journal, size_t journ
     size_t len = file_path(folders, (5 + folders) % 6, deepest);
     expect(n < 100 || bulgefs_lookup(image, n * 512, deepest, len).number == 0, "fill: folders");
     expect(bulgefs_check(image, n * 512) == 0, "fill: sound");
-}
-
-static void put_number(uint8_t *at, uint32_t number)
-{
-    for (int i = 0; i < 4; i++)
-        at[i] = (uint8_t)(number >> (24 - 8 * i));
 }
 
 static size_t used_length(const uint8_t *journal)
@@ -804,6 +887,43 @@ static void salvaged(void)
            "salv: twice is once");
 }
 
+/*
+ * A list of three writes: each has its own record and is taken back on its own;
+ * a fourth that is refused leaves the three; a byte less, and nothing is done.
+ */
+static void lists(void)
+{
+    static uint8_t image[16 * 512], before[16 * 512], journal[16384], list[2048];
+    static const uint8_t path[] = "/A", missing[] = "/B";
+    const uint32_t records[3] = {1036, 2584, 520};
+    material m = {image, journal, path, before, sizeof image, sizeof journal, 2, 0, 0};
+    bulgefs_uuid uuid = {{0}};
+    expect(bulgefs_format(image, sizeof image, 2, 1, uuid, volume_name, 128) == 0, "list: format");
+    expect(bulgefs_journal_start(journal, sizeof journal) == 0, "list: start");
+    expect(bulgefs_create(image, sizeof image, journal, sizeof journal, path, 2, 0x60, 0, 0, 0, 0,
+                          2).number == 0, "list: create");
+    memcpy(before, image, sizeof image);
+    list[0] = 1;
+    size_t len = BULGEFS_LIST_HEAD;
+    len += put_item(list + len, &m, 0, 0);
+    len += put_item(list + len, &m, 0, 513);
+    len += put_item(list + len, &m, 513, 1);
+    m.path = missing;
+    len += put_item(list + len, &m, 0, 0);
+    put_number(list + 1, (uint32_t)len);
+    expect(len == BULGEFS_LIST_HEAD + 4 * BULGEFS_ITEM_SIZE(2, 0) + 514, "list: length");
+    expect(bulgefs_write_list(image, sizeof image, journal, sizeof journal, list, len - 1).number
+               == BULGEFS_BAD_LIST, "list: a byte less");
+    expect(memcmp(image, before, sizeof image) == 0, "list: nothing done");
+    bulgefs_listed w = bulgefs_write_list(image, sizeof image, journal, sizeof journal, list, len);
+    expect(w.number == BULGEFS_NOT_FOUND && w.done == 3, "list: three of four");
+    expect(bulgefs_lookup(image, sizeof image, path, 2).size == 514, "list: size");
+    for (int i = 0; i < 3; i++)
+        expect(bulgefs_undo(image, sizeof image, journal, sizeof journal).record == records[i],
+               "list: undo");
+    expect(memcmp(image, before, sizeof image) == 0, "list: as it was");
+}
+
 /* The largest image and the longest journal. */
 static void largest(void)
 {
@@ -834,6 +954,7 @@ int main(void)
     attributes();
     flags();
     salvaged();
+    lists();
     largest();
     printf("%lu passed, %lu failed\n", passed, failed);
     return failed == 0 ? 0 : 1;

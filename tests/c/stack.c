@@ -54,6 +54,21 @@ static void write_data(void)
                  .number;
 }
 
+/* A list of two writes of 4,096 bytes. */
+static void write_list(void)
+{
+    enum { ITEM = BULGEFS_ITEM_SIZE(2, 4096), LIST = BULGEFS_LIST_HEAD + 2 * ITEM };
+    static uint8_t list[LIST] = {1, 0, 0, LIST >> 8, LIST & 255};
+    for (size_t at = BULGEFS_LIST_HEAD; at < LIST; at += ITEM) {
+        list[at + 2] = ITEM >> 8;
+        list[at + 3] = ITEM & 255;
+        list[at + 17] = 2;
+        memcpy(list + at + 18, path, 2);
+    }
+    bulgefs_listed w = bulgefs_write_list(image, image_len, journal, journal_len, list, LIST);
+    number = w.done == 2 ? w.number : 99;
+}
+
 static void read_data(void)
 {
     static uint8_t buffer[4096];
@@ -114,6 +129,7 @@ static const struct {
     void (*make)(void);
 } calls[] = {
     {"format", format}, {"journal_start", start}, {"create", create}, {"write", write_data},
+    {"write_list", write_list},
     {"check", check},   {"lookup", lookup},       {"read", read_data}, {"look_in_place", look},
     {"plain_check", plain_check}, {"load_table", load}, {"store_table", store},
     {"set_attributes", set_attributes}, {"set_attributes again", set_attributes},

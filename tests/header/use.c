@@ -40,6 +40,7 @@ static void sizes(void)
     expect(BULGEFS_FILE_BLOCKS(0u) == 0 && BULGEFS_FILE_BLOCKS(513u) == 2u, "BULGEFS_FILE_BLOCKS");
     expect(BULGEFS_MAX_FILES(1u) == 2u && BULGEFS_MAX_FILES(64u) == 254u, "BULGEFS_MAX_FILES");
     expect(BULGEFS_MAX_PATH == 729u, "BULGEFS_MAX_PATH");
+    expect(BULGEFS_LIST_HEAD + BULGEFS_ITEM_SIZE(2u, 513u) == 538u, "BULGEFS_ITEM_SIZE");
 }
 
 static void journals(void)
@@ -62,7 +63,7 @@ static void texts(void)
 {
     uint32_t number;
     for (number = 0; number <= 30u; number++) {
-        int named = number <= 18u || number == 20u || number == 21u || number == 26u;
+        int named = number <= 21u || number == 26u;
         int known = strcmp(bulgefs_text(number), bulgefs_text(4294967295u)) != 0;
         expect(named == known, "bulgefs_text does not know just the numbers that are given");
     }
@@ -74,6 +75,7 @@ static void answers(void)
     expect(sizeof(bulgefs_uuid) == 16 && sizeof(bulgefs_found) == 16, "uuid, found");
     expect(sizeof(bulgefs_filled) == 8 && sizeof(bulgefs_part) == 8, "filled, part");
     expect(sizeof(bulgefs_created) == 12 && sizeof(bulgefs_changed) == 8, "created, changed");
+    expect(sizeof(bulgefs_listed) == 8, "listed");
     expect(BULGEFS_VERSION >= 700u && strlen(BULGEFS_VERSION_TEXT) >= 5, "version");
     expect(BULGEFS_MAX_REPORT == BULGEFS_SLOTS_PER_BLOCK * BULGEFS_MAX_DIRECTORY_BLOCKS,
            "BULGEFS_MAX_REPORT");

@@ -6,6 +6,7 @@ ghost use Rattle.layout.specs.Looks.{LookupAnswer, ReadAnswer, Extent, lookup, 
 ghost use Rattle.volume.specs.Change.{Change as ChangeAsked, create, write, delete, createDirectory, deleteDirectory, setAttributes, clearAttributes, clearFlags, slotGiven};
 ghost use Rattle.volume.specs.Format.{formatRefusal, formatted};
 ghost use Rattle.chain_table.specs.Transfer.{loadTable, storeTable};
+ghost use Rattle.write_list.specs.List.{listed, writeList};
 ghost use Rattle.salvage.specs.Salvage.{SalvageAnswer, salvage};
 ghost use Rattle.journal.specs.Journal.{startRefusal, afterStart};
 ghost use Rattle.journal.specs.Answers.{changedAnswer};
@@ -51,6 +52,13 @@ pub struct Created {
 pub struct Changed {
     pub number: u32,
     pub size: u32,
+}
+
+// The refusal that stopped a list of writes, or 0, and how many of them were done.
+#[repr(C)]
+pub struct Listed {
+    pub number: u32,
+    pub done: u32,
 }
 
 #[no_mangle]
@@ -334,6 +342,17 @@ pub extern "C" fn bulgefs_undo(image: &mut [u8], journal: &mut [u8]) -> Changed
             number: number,
             size: 0,
         },
+    }
+}
+
+#[no_mangle]
+pub extern "C" fn bulgefs_write_list(image: &mut [u8], journal: &mut [u8], list: &[u8]) -> Listed
+    ensures { λ r. ⌜ listed (state (now (image .exit)) (now (journal .exit))) (r .number) (r .done) ≡ writeList (state (now (image .entry)) (now (journal .entry))) (now (list .entry)) ⌝ }
+{
+    let w = write_list::call::write_list(image, journal, list);
+    Listed {
+        number: w.number,
+        done: w.done,
     }
 }
 

@@ -6,8 +6,3 @@ pub mod Restores
 pub mod Starts
 pub mod Undoing
 pub mod Changes
-pub mod Scripts
-pub mod Encoding
-pub mod Making
-pub mod Running
-pub mod Replaying

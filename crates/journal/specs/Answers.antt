@@ -4,10 +4,7 @@ use Rattle.journal.specs.declared.calls.Changed.{Changed}
 use Rattle.journal.specs.declared.calls.Changed.the-variants as changes
 use Rattle.journal.specs.declared.calls.Undone.{Undone}
 use Rattle.journal.specs.declared.calls.Undone.the-variants as undos
-use Rattle.journal.specs.declared.runner.Ran.{Ran}
-use Rattle.journal.specs.declared.runner.Ran.the-variants as runs
 use Rattle.journal.specs.Run.{Answer, changed, undone}
-use Rattle.journal.specs.Script.{Status, done, malformed, noRoom}
 
 abbrev pub changedAnswer : Changed → Answer
 changedAnswer (changes.Done slot size) = changed 0 slot size
@@ -25,9 +22,3 @@ ChangeNumbered (changes.Refused number) = number ≡ 0 → ⊥
 abbrev pub UndoNumbered : Undone → Type 0
 UndoNumbered (undos.Done size) = Unit {0}
 UndoNumbered (undos.Refused number) = number ≡ 0 → ⊥
-
--- What running a script gives has no number: the numbers are those of the rules.
-abbrev pub ranStatus : Ran → Status
-ranStatus runs.Done = done
-ranStatus runs.Malformed = malformed
-ranStatus runs.NoRoom = noRoom

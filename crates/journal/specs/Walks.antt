@@ -3,4 +3,3 @@ pub mod Scanning
 pub mod Saves
 pub mod Undoing
 pub mod Changes
-pub mod Scripts

@@ -3,7 +3,7 @@ ghost use mathlib.Core.Path.{_≡_};
 ghost use Rattle.volume.specs.Change.{create, write, delete, createDirectory, deleteDirectory, setAttributes, clearAttributes, clearFlags};
 ghost use Rattle.volume.specs.Asked.{asked};
 ghost use Rattle.journal.specs.Run.{afterUndo, undoAnswer, afterChange, changeAnswer, state};
-ghost use Rattle.journal.specs.Walks.Changes.{Inspects};
+ghost use Rattle.journal.specs.Walks.Changes.{Inspects, Ready, readyRefusal};
 ghost use Rattle.journal.specs.Answers.{changedAnswer, undoneAnswer, ChangeNumbered, UndoNumbered};
 use volume::change::Change;
 
@@ -49,6 +49,13 @@ fn inspect(image: &[u8], journal: &[u8]) -> Inspected
     }
 }
 
+// The refusal, 1 to 8, or 0.
+pub fn ready_refusal(image: &[u8], journal: &[u8]) -> u32
+    ensures { λ r. ⌜ r ≡ readyRefusal (state (now (image .entry)) (now (journal .entry))) ⌝ }
+{
+    inspect(image, journal).number
+}
+
 // Undo: takes the last record back.
 pub fn undo(image: &mut [u8], journal: &mut [u8]) -> Undone
     ensures answer { λ r. ⌜ undoneAnswer r ≡ undoAnswer (state (now (image .entry)) (now (journal .entry))) ⌝ }
@@ -68,22 +75,19 @@ pub fn undo(image: &mut [u8], journal: &mut [u8]) -> Undone
     Undone::Done(size)
 }
 
-// Any change: its refusals first, then its record, then the change itself.
-pub fn change(
+// A change on a sound image and a well-formed journal: its own refusals first, then its record, then the change itself.
+pub fn change_ready(
     image: &mut [u8],
     journal: &mut [u8],
     what: Change,
     path: &[u8],
     bytes: &[u8],
 ) -> Changed
+    requires { ⌜ Ready (now image) (now journal) ⌝ }
     ensures answer { λ r. ⌜ changedAnswer r ≡ changeAnswer (state (now (image .entry)) (now (journal .entry))) (asked what (now (path .entry)) (now (bytes .entry))) ⌝ }
     ensures state { λ _. ⌜ state (now (image .exit)) (now (journal .exit)) ≡ afterChange (state (now (image .entry)) (now (journal .entry))) (asked what (now (path .entry)) (now (bytes .entry))) ⌝ }
     ensures numbered { λ r. ⌜ ChangeNumbered r ⌝ }
 {
-    let unready = inspect(image, journal).number;
-    if unready != 0 {
-        return Changed::Refused(unready);
-    }
     let refusal = volume::change::refusal(image, what, path, bytes);
     if refusal != 0 {
         return Changed::Refused(refusal);
@@ -97,6 +101,25 @@ pub fn change(
         slot: slot,
         size: size,
     }
+}
+
+// Any change: the refusals 1 to 8 first.
+pub fn change(
+    image: &mut [u8],
+    journal: &mut [u8],
+    what: Change,
+    path: &[u8],
+    bytes: &[u8],
+) -> Changed
+    ensures answer { λ r. ⌜ changedAnswer r ≡ changeAnswer (state (now (image .entry)) (now (journal .entry))) (asked what (now (path .entry)) (now (bytes .entry))) ⌝ }
+    ensures state { λ _. ⌜ state (now (image .exit)) (now (journal .exit)) ≡ afterChange (state (now (image .entry)) (now (journal .entry))) (asked what (now (path .entry)) (now (bytes .entry))) ⌝ }
+    ensures numbered { λ r. ⌜ ChangeNumbered r ⌝ }
+{
+    let unready = ready_refusal(image, journal);
+    if unready != 0 {
+        return Changed::Refused(unready);
+    }
+    change_ready(image, journal, what, path, bytes)
 }
 
 // Create: a new empty file, in the lowest free slot.

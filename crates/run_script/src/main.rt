@@ -1,5 +1,5 @@
 // Runs a script on a fresh volume: reads it from standard input, formats 16 blocks with a root of two, starts a journal, and writes one
-// byte that says whether the script was run, then image, journal and answers. For tests: everything that it shows is made by `journal::runner::run`.
+// byte that says whether the script was run, then image, journal and answers. For tests: everything that it shows is made by `script::runner::run`.
 const INPUT: usize = 65536;
 
 const IMAGE: usize = 8192;
@@ -25,11 +25,11 @@ fn answers_buffer() -> [u8; ANSWERS] {
 }
 
 // The byte that is written first; no rule has the numbers of M and R.
-fn status_of(ran: journal::runner::Ran) -> u8 {
+fn status_of(ran: script::runner::Ran) -> u8 {
     match ran {
-        journal::runner::Ran::Done => 0,
-        journal::runner::Ran::Malformed => b'M',
-        journal::runner::Ran::NoRoom => b'R',
+        script::runner::Ran::Done => 0,
+        script::runner::Ran::Malformed => b'M',
+        script::runner::Ran::NoRoom => b'R',
     }
 }
 
@@ -43,7 +43,7 @@ fn main() {
     let uuid = [0u8; 16];
     volume::format::format(&mut image, 2, 0, uuid, &label);
     journal::start::start(&mut journal);
-    let ran = journal::runner::run(&script[..got], &mut image, &mut journal, &mut answers);
+    let ran = script::runner::run(&script[..got], &mut image, &mut journal, &mut answers);
     let status = [status_of(ran)];
     io::write_all(libc::STDOUT_FILENO, &status);
     io::write_all(libc::STDOUT_FILENO, &image);

@@ -5,6 +5,7 @@ use crate::rng::Rng;
 use crate::tree::{files, folders, items, slots, Item};
 use reference::layout::*;
 use reference::path::Want;
+use reference::worked::list_of;
 use reference::{
     Change, ClearAttributes, ClearFlags, Create, CreateDirectory, Delete, DeleteDirectory,
     SetAttributes, Write,
@@ -485,6 +486,31 @@ pub fn any_attributes_buffer(rng: &mut Rng, blocks: usize) -> Vec<u8> {
         _ => rng.below(5000),
     };
     rng.bytes(length)
+}
+
+/// The same write with an offset that an item can hold.
+pub fn as_item(mut write: Write) -> Write {
+    write.offset = write.offset.min(u32::MAX.into());
+    write
+}
+
+/// A write that may stand in a list.
+pub fn any_item(rng: &mut Rng, image: &[u8]) -> Write {
+    match any_write(rng, image) {
+        Change::Write(write) => as_item(write),
+        _ => unreachable!("a write"),
+    }
+}
+
+/// A list of a few writes, now and then not of the form.
+pub fn any_list(rng: &mut Rng, image: &[u8]) -> Vec<u8> {
+    let writes: Vec<Write> = (0..rng.below(6)).map(|_| any_item(rng, image)).collect();
+    let mut list = list_of(&writes);
+    if rng.once_in(8) {
+        let at = rng.below(list.len());
+        list[at] ^= 1 << rng.below(8);
+    }
+    list
 }
 
 /// One of each change.

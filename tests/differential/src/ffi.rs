@@ -44,6 +44,13 @@ pub struct Changed {
     pub record: u32,
 }
 
+#[repr(C)]
+#[derive(Clone, Copy, Debug, PartialEq, Eq)]
+pub struct Listed {
+    pub number: u32,
+    pub done: u32,
+}
+
 // Laid out line by line as in the header.
 #[rustfmt::skip]
 extern "C" {
@@ -111,6 +118,9 @@ extern "C" {
     pub fn bulgefs_clear_flags(image: *mut u8, image_len: usize,
                                journal: *mut u8, journal_len: usize,
                                path: *const u8, path_len: usize) -> Changed;
+    pub fn bulgefs_write_list(image: *mut u8, image_len: usize,
+                              journal: *mut u8, journal_len: usize,
+                              list: *const u8, list_len: usize) -> Listed;
 
     pub fn bulgefs_undo(image: *mut u8, image_len: usize,
                         journal: *mut u8, journal_len: usize) -> Changed;

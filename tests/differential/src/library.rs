@@ -1,6 +1,6 @@
 //! The library's calls, on lent buffers. Nothing else calls an entry point.
 
-use crate::ffi::{self, Changed, Created, Filled, Found, Part, Uuid};
+use crate::ffi::{self, Changed, Created, Filled, Found, Listed, Part, Uuid};
 use crate::lent::Lent;
 use reference::{Create, CreateDirectory, State};
 
@@ -128,6 +128,14 @@ impl Pair {
         }
     }
 
+    pub fn write_list(&mut self, list: &Lent) -> Listed {
+        let (image, image_len, journal, journal_len) = self.lent();
+        unsafe {
+            ffi::bulgefs_write_list(image, image_len, journal, journal_len,
+                                    list.ptr(), list.len())
+        }
+    }
+
     pub fn undo(&mut self) -> Changed {
         let (image, image_len, journal, journal_len) = self.lent();
         unsafe { ffi::bulgefs_undo(image, image_len, journal, journal_len) }
@@ -135,6 +143,10 @@ impl Pair {
 
     fn lent(&mut self) -> (*mut u8, usize, *mut u8, usize) {
         (self.image.mut_ptr(), self.image.len(), self.journal.mut_ptr(), self.journal.len())
+    }
+
+    pub fn content(&self) -> State {
+        State { image: self.image.content().to_vec(), journal: self.journal.content().to_vec() }
     }
 
     /// What is wrong with the two after a call, if anything.

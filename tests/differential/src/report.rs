@@ -18,6 +18,7 @@ pub enum Entry {
     ReadAttributes,
     ClearAttributes,
     ClearFlags,
+    WriteList,
     Undo,
     LoadTable,
     StoreTable,
@@ -26,7 +27,7 @@ pub enum Entry {
 
 /// Every entry point, and the numbers that it can answer. Look in place has
 /// no number; its row counts what look up would have answered.
-const ENTRIES: [(Entry, &str, &[u32]); 20] = [
+const ENTRIES: [(Entry, &str, &[u32]); 21] = [
     (Entry::Check, "check", &[0, 1, 2, 3, 4, 5, 6, 7]),
     (Entry::PlainCheck, "plain_check", &[0, 1, 2, 3, 4, 5, 6, 7]),
     (Entry::Format, "format", &[0, 1, 9, 14]),
@@ -43,6 +44,7 @@ const ENTRIES: [(Entry, &str, &[u32]); 20] = [
     (Entry::ReadAttributes, "read_attr", &[0, 1, 2, 3, 4, 5, 6, 7, 9, 10, 17]),
     (Entry::ClearAttributes, "clear_attr", &[0, 1, 2, 3, 4, 5, 6, 7, 8, 9, 10, 15, 17]),
     (Entry::ClearFlags, "clear_flags", &[0, 1, 2, 3, 4, 5, 6, 7, 8, 9, 10, 15, 17]),
+    (Entry::WriteList, "write_list", &[0, 1, 2, 3, 4, 5, 6, 7, 8, 9, 10, 12, 14, 15, 17, 19]),
     (Entry::Undo, "undo", &[0, 1, 2, 3, 4, 5, 6, 7, 8, 16]),
     (Entry::LoadTable, "load_table", &[0, 1, 2, 3, 4, 5, 6, 7, 21]),
     (Entry::StoreTable, "store_table", &[0, 1, 2, 3, 4, 5, 6, 7, 21]),

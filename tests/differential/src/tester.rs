@@ -4,7 +4,7 @@ use crate::ffi;
 use crate::lent::Lent;
 use crate::library::{self, Pair};
 use crate::report::{Entry, Report};
-use reference::{Change, Salvaged, State};
+use reference::{Change, Listed, Salvaged, State};
 
 /// The longest image that the plain check is run on: its time grows with the
 /// square of the length.
@@ -32,7 +32,7 @@ impl Tester {
         Tester { report, lister, scripts, shift: 0 }
     }
 
-    fn lend(&mut self, content: &[u8]) -> Lent {
+    pub fn lend(&mut self, content: &[u8]) -> Lent {
         self.shift += 1;
         Lent::new(content, self.shift)
     }
@@ -216,6 +216,23 @@ impl Tester {
         troubles.extend(pair.troubles(after));
         self.report.call(entry, number, troubles);
         number
+    }
+
+    /// A list of writes. Gives the reference's number.
+    pub fn write_list(&mut self, state: &State, list: &[u8]) -> u32 {
+        let mut pair = self.lend_pair(state);
+        self.write_list_in(&mut pair, state, list).number
+    }
+
+    pub fn write_list_in(&mut self, pair: &mut Pair, state: &State, list: &[u8]) -> Listed {
+        let lent = self.lend(list);
+        let got = pair.write_list(&lent);
+        let expected = reference::write_list(state, list);
+        let answer = ffi::Listed { number: expected.number, done: expected.done };
+        let mut troubles = vec![unequal(got, answer), lent.trouble("list", list)];
+        troubles.extend(pair.troubles(&expected.state));
+        self.report.call(Entry::WriteList, expected.number, troubles);
+        expected
     }
 
     /// Undo. Gives the reference's number.

@@ -16,6 +16,7 @@ pub mod table;
 pub mod views;
 pub mod volume;
 pub mod worked;
+pub mod write_list;
 
 pub use check::check;
 pub use journal::{apply, start, undo, Applied, State, Undone};
@@ -27,6 +28,7 @@ pub use volume::{
     format, look_in_place, lookup, read, read_attributes, Change, ClearAttributes, ClearFlags,
     Create, CreateDirectory, Delete, DeleteDirectory, Found, SetAttributes, Write,
 };
+pub use write_list::{write_list, Listed};
 
-/// A refusal number, 1 to 18, 20, 21 or 26.
+/// A refusal number, 1 to 21 or 26.
 pub type Refusal = u32;

@@ -4,13 +4,16 @@
 
 use crate::journal::{apply, State};
 use crate::volume::{look_in_place, lookup, read, read_attributes, Change, Found};
+use crate::write_list::{write_list, writes};
 use crate::{check, Refusal};
 use std::ops::Range;
 
-/// A call of a run, with what it brings.
+/// A call of a run, with what it brings. A list of writes is no change itself;
+/// each write of it that is done is one.
 #[derive(Clone, Debug)]
 pub enum Call {
     Change(Change),
+    WriteList(Vec<u8>),
     Undo,
     Check,
     Lookup { path: Vec<u8> },
@@ -26,6 +29,11 @@ pub enum Answer {
         number: u32,
         slot: u32,
         record: u32,
+    },
+    /// What stopped a list, and how many of its writes were done.
+    Listed {
+        number: u32,
+        done: u32,
     },
     Checked(u32),
     Found(Result<Found, Refusal>),
@@ -68,6 +76,7 @@ impl Replay {
     pub fn call(&mut self, call: &Call) -> Answer {
         match call {
             Call::Change(change) => self.change(change),
+            Call::WriteList(list) => self.write_list(list),
             Call::Undo => self.undo(),
             look => look_at(&self.replayed.image, look),
         }
@@ -82,6 +91,14 @@ impl Replay {
                 Answer::Changed { number: 0, slot: applied.slot, record: applied.record }
             }
         }
+    }
+
+    fn write_list(&mut self, list: &[u8]) -> Answer {
+        let listed = write_list(&self.replayed, list);
+        let done = writes(list).unwrap_or_default().into_iter().take(listed.done as usize);
+        self.standing.extend(done.map(Change::Write));
+        self.replayed = listed.state;
+        Answer::Listed { number: listed.number, done: listed.done }
     }
 
     fn undo(&mut self) -> Answer {
@@ -120,7 +137,7 @@ fn look_at(image: &[u8], call: &Call) -> Answer {
             let range = look_in_place(image, path, *index);
             Answer::Part { bytes: image[range.clone()].to_vec(), range }
         }
-        Call::Change(_) | Call::Undo => unreachable!("not a look"),
+        Call::Change(_) | Call::WriteList(_) | Call::Undo => unreachable!("not a look"),
     }
 }
 

@@ -29,6 +29,28 @@ pub fn write(path: &[u8], offset: u64, data: &[u8]) -> Change {
     Change::Write(Write { path: path.to_vec(), offset, data: data.to_vec(), time: 9 })
 }
 
+/// The list of these writes; an offset has 32 bits here, and a path's length 16.
+pub fn list_of(writes: &[Write]) -> Vec<u8> {
+    with_length(writes.iter().flat_map(item_of).collect())
+}
+
+/// The item of a write.
+pub fn item_of(w: &Write) -> Vec<u8> {
+    let mut item = ((18 + w.path.len() + w.data.len()) as u32).to_be_bytes().to_vec();
+    item.extend(w.time.to_be_bytes());
+    item.extend((w.offset as u32).to_be_bytes());
+    item.extend((w.path.len() as u16).to_be_bytes());
+    item.extend(&w.path);
+    item.extend(&w.data);
+    item
+}
+
+/// A list with these items, whatever they are.
+pub fn with_length(items: Vec<u8>) -> Vec<u8> {
+    let length = (5 + items.len()) as u32;
+    [&[1], &length.to_be_bytes()[..], &items].concat()
+}
+
 pub fn delete(path: &[u8]) -> Change {
     Change::Delete(Delete { path: path.to_vec() })
 }

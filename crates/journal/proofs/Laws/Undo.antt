@@ -11,9 +11,10 @@ use lib.ListN.{length}
 use Rattle.layout.specs.Geometry.{blockCount}
 use Rattle.layout.specs.Check.{check}
 use Rattle.volume.specs.Change.{Change, refusal, after, named}
-use Rattle.journal.specs.Journal.{used, started, recordsFrom, records, wellFormed, ascending, added, lastRecord, undoneImage}
+use Rattle.journal.specs.Journal.{used, started, recordsFrom, records, wellFormed, ascending, added, lastRecord, undoneImage, Shaped}
 use Rattle.journal.specs.Run.{State, undone, recordOf, changeRefusal, afterChange, undoRefusal, afterUndo, undoAnswer}
 use Rattle.journal.specs.Replay.{RunInvariant}
+use Rattle.journal.specs.Walks.Changes.{Ready}
 use Rattle.layout.specs.Limits.{minJournal, maxJournal}
 use Rattle.volume.proofs.Laws.Framed.{Framed, frame}
 use Rattle.volume.proofs.Laws.Sound.{KeptSound}
@@ -41,7 +42,7 @@ accepted p c e =
     let f = require-zero (leb (used (p .journal) + length (recordOf p c)) (length (p .journal))) 14 0 (d .1) in
     record { sound = a .0; well-formed = b .0; allowed = d .0; fits = leb-true _ _ (f .0) }
 
-module _ (kept-sound : KeptSound) {n size : ℕ} (p : State) (c : Change) (m : RunInvariant n size p) (ok : changeRefusal p c ≡ 0) where
+module _ (kept-sound : KeptSound) (p : State) (c : Change) (ok : changeRefusal p c ≡ 0) where
   acc : Accepted p c
   acc = accepted p c ok
 
@@ -65,7 +66,7 @@ module _ (kept-sound : KeptSound) {n size : ℕ} (p : State) (c : Change) (m : R
       let ns = named (p .image) c in
       let in-record = ascending-all k ns (framed .one) (has-eqb-in (framed .one) ns (framed .listed)) (framed .inside (framed .one) (framed .listed)) in
       appended k (p .image) (omega (arith, sz .whole)) (sz .most) bs (ascending-below k ns) (ascending-rising k ns) (in-some (framed .one) bs in-record)
-      (p .journal) (m .shaped) (well (p .journal) k (acc .well-formed)) (acc .fits)
+      (p .journal) (well (p .journal) k (acc .well-formed)) (acc .fits)
 
   abbrev q : State
   q = record { image = after (p .image) c; journal = new }
@@ -83,10 +84,14 @@ module _ (kept-sound : KeptSound) {n size : ℕ} (p : State) (c : Change) (m : R
   sound-new : check (after (p .image) c) ≡ 0
   sound-new = kept-sound (p .image) c (acc .sound) (acc .allowed)
 
-  pub kept : RunInvariant n size (afterChange p c)
-  kept =
+  -- the refusals 1 to 8 are passed again, whatever stands past the used part of the journal
+  pub ready-again : Ready (afterChange p c .image) (afterChange p c .journal)
+  ready-again = rw after-is (record { sound = sound-new; well-formed = well-new })
+
+  pub kept : {n size : ℕ} → RunInvariant n size p → RunInvariant n size (afterChange p c)
+  kept {n} {size} m =
       let k : RunInvariant n size q = record
-      { sound = sound-new; blocks = blocks-stay ∙ m .blocks; well-formed = well-new; long = laws .long ∙ m .long; shaped = laws .shaped } in
+      { sound = sound-new; blocks = blocks-stay ∙ m .blocks; well-formed = well-new; long = laws .long ∙ m .long; shaped = laws .shaped (m .shaped) } in
       rw after-is k
 
   undo-ok : undoRefusal q ≡ 0
@@ -101,9 +106,9 @@ module _ (kept-sound : KeptSound) {n size : ℕ} (p : State) (c : Change) (m : R
       ∙ puts-back k (p .image) (sz .whole) bs (after (p .image) c) (ascending-below k ns)
       (agree-ascending k (p .image) (after (p .image) c) ns (sz .whole) (framed .agree))
 
-  pub back : afterUndo (afterChange p c) ≡ p
+  pub back : Shaped (p .journal) → afterUndo (afterChange p c) ≡ p
   unfolding afterUndo
-  back = rw (after-is, undo-ok, image-back, laws .journal-back)
+  back m = rw (after-is, undo-ok, image-back, laws .journal-back m)
 
   pub undone-length : undoAnswer (afterChange p c) ≡ undone 0 (length (recordOf p c))
   unfolding undoAnswer recordOf

@@ -14,7 +14,7 @@ use Rattle.layout.specs.Geometry.{blockCount}
 use Rattle.layout.specs.Check.{check}
 use Rattle.volume.specs.Change.{Change, refusal, after, named, slotGiven}
 use Rattle.journal.specs.Journal.{used, wellFormed, ascending, recordBytes, added, lastRecord}
-use Rattle.journal.specs.Run.{State, Answer, changed, recordOf, changeRefusal, afterChange, changeAnswer, state}
+use Rattle.journal.specs.Run.{State, Answer, changed, numberOf, recordOf, changeRefusal, afterChange, changeAnswer, state}
 use Rattle.journal.specs.Walks.Saves.{Marks, markedFrom}
 use Rattle.journal.specs.Walks.Changes.{readyRefusal, Ready, Inspects, roomRefusal, recordMarked, Recorded}
 use Rattle.volume.specs.Walks.Marks.{marked}
@@ -52,6 +52,15 @@ ready s j e =
 room-fifteen : (t : Bool) (k : ℕ) → require t 15 0 ≡ suc k → require t 15 0 ≡ 15
 room-fifteen true k e = absurd (suc-ne-zero k (sym e))
 room-fifteen false k e = refl
+
+-- a change's answer begins with the number of its refusal
+pub answer-number : (p : State) (c : Change) → numberOf (changeAnswer p c) ≡ changeRefusal p c
+unfolding changeAnswer
+answer-number p c = go (changeRefusal p c) (slotGiven (p .image) c) (length (recordOf p c))
+  where
+    go : (k slot size : ℕ) → numberOf (accept k (changed 0 slot size) (changed k 0 0)) ≡ k
+    go zero slot size = refl
+    go (suc k) slot size = refl
 
 -- what a call answers and leaves
 abbrev pub Does : Change → State → Answer → State → Type 0

@@ -23,6 +23,7 @@ fn every_call(rng: &mut Rng, t: &mut Tester, sound: &[u8], image: &[u8]) {
     for change in changes(rng, sound) {
         t.change(&state, &change);
     }
+    t.write_list(&state, &any_list(rng, sound));
     t.undo(&state);
     // Its own suites make most salvages.
     if rng.once_in(4) {
@@ -136,6 +137,7 @@ pub fn journals(rng: &mut Rng, _: u64, t: &mut Tester) {
         for change in changes(rng, &state.image) {
             t.change(&state, &change);
         }
+        t.write_list(&state, &any_list(rng, &state.image));
         t.undo(&state);
     }
     other_image(rng, t);
@@ -159,6 +161,7 @@ fn other_image(rng: &mut Rng, t: &mut Tester) {
         for change in changes(rng, &state.image) {
             t.change(&state, &change);
         }
+        t.write_list(&state, &any_list(rng, &state.image));
         t.undo(&state);
     }
 }
@@ -182,6 +185,7 @@ fn noisy_journal(rng: &mut Rng, t: &mut Tester) {
         for change in changes(rng, &state.image) {
             t.change(&state, &change);
         }
+        t.write_list(&state, &any_list(rng, &state.image));
         t.undo(&state);
     }
 }

@@ -6,6 +6,7 @@ mod fixed;
 mod full;
 mod kept;
 mod lister;
+mod lists;
 mod names;
 mod order;
 mod orders;
@@ -49,6 +50,8 @@ pub const SUITES: &[Suite] = &[
     Suite { name: "salvage_clauses", rounds: |n| n.div_ceil(100), run: salvage::clauses },
     Suite { name: "salvage_codes", rounds: |n| n.div_ceil(10), run: salvage::codes },
     Suite { name: "salvage_largest", rounds: |_| 1, run: salvage::largest },
+    Suite { name: "lists", rounds: |n| n.div_ceil(5), run: lists::run },
+    Suite { name: "list_forms", rounds: |_| 1, run: lists::forms },
     Suite { name: "order", rounds: |n| n.div_ceil(25), run: order::all },
     Suite { name: "orders", rounds: |n| n, run: orders::run },
     Suite { name: "kept", rounds: |n| n.div_ceil(5), run: kept::run },

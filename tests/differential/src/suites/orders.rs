@@ -81,13 +81,9 @@ fn any_accepted(rng: &mut Rng, image: &[u8]) -> Change {
 fn both(t: &mut Tester, state: &State, first: &Change, second: &Change) -> Option<Pair> {
     let mut pair = t.lend_pair(state);
     let number = t.change_in(&mut pair, state, first);
-    let between = content(&pair);
+    let between = pair.content();
     let then = t.change_in(&mut pair, &between, second);
     (number == 0 && then == 0).then_some(pair)
-}
-
-fn content(pair: &Pair) -> State {
-    State { image: pair.image.content().to_vec(), journal: pair.journal.content().to_vec() }
 }
 
 /// Two images show the same: all that is in them, read by the reference, and

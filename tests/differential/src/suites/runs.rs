@@ -83,6 +83,14 @@ pub fn long(rng: &mut Rng, _: u64, t: &mut Tester) {
     play(rng, t, image, 500_000, &MIXES[0], 600);
 }
 
+/// A call of a run, or now and then a list of writes.
+pub fn any_step(rng: &mut Rng, replay: &Replay, mix: &Mix) -> Call {
+    match rng.below(12) {
+        0 => Call::WriteList(any_list(rng, &replay.replayed().image)),
+        _ => any_call(rng, replay, mix),
+    }
+}
+
 fn play(rng: &mut Rng, t: &mut Tester, image: Vec<u8>, length: usize, mix: &Mix, calls: usize) {
     let about = format!("n {} journal {length}", image.len() / 512);
     let journal = reference::start(length).unwrap();
@@ -91,7 +99,7 @@ fn play(rng: &mut Rng, t: &mut Tester, image: Vec<u8>, length: usize, mix: &Mix,
     let mut pair = t.lend_pair(&first);
     let blank = blank::is_blank(&first.image);
     for step in 0..calls {
-        let call = any_call(rng, &replay, mix);
+        let call = any_step(rng, &replay, mix);
         t.report.about(format!("{about} call {step}: {}", brief(&call)));
         make(t, &mut pair, &mut replay, &call);
         if blank {
@@ -107,7 +115,7 @@ fn play(rng: &mut Rng, t: &mut Tester, image: Vec<u8>, length: usize, mix: &Mix,
     t.report.agree("the start again, byte for byte", back, None);
 }
 
-pub fn any_call(rng: &mut Rng, replay: &Replay, mix: &Mix) -> Call {
+fn any_call(rng: &mut Rng, replay: &Replay, mix: &Mix) -> Call {
     let image = &replay.replayed().image;
     let folders = mix.create + mix.write + mix.delete;
     let attributes = folders + mix.folder;
@@ -169,6 +177,7 @@ fn brief(call: &Call) -> String {
         Call::Change(SetAttributes(s)) => format!("set of {} bytes of attributes", s.data.len()),
         Call::Change(ClearAttributes(_)) => "clear of attributes".into(),
         Call::Change(ClearFlags(_)) => "clear of flags".into(),
+        Call::WriteList(list) => format!("list of {} bytes", list.len()),
         Call::Undo => "undo".into(),
         Call::Check => "check".into(),
         Call::Lookup { .. } => "lookup".into(),
@@ -204,7 +213,9 @@ fn on_small_stack<T: Send>(call: impl FnOnce() -> T + Send) -> T {
 
 fn number_of(answer: &Answer) -> u32 {
     match answer {
-        Answer::Changed { number, .. } | Answer::Read { number, .. } => *number,
+        Answer::Changed { number, .. }
+        | Answer::Listed { number, .. }
+        | Answer::Read { number, .. } => *number,
         Answer::Checked(number) => *number,
         Answer::Found(result) => result.as_ref().err().copied().unwrap_or(0),
         Answer::Part { .. } => 0,
@@ -230,6 +241,12 @@ fn call_library(
             let (entry, got, troubles) = t.make(pair, change);
             let answer = Answer::Changed { number: got.number, slot: got.slot, record: got.record };
             (entry, answer, troubles)
+        }
+        Call::WriteList(list) => {
+            let lent = t.lend(list);
+            let got = pair.write_list(&lent);
+            let answer = Answer::Listed { number: got.number, done: got.done };
+            (Entry::WriteList, answer, vec![lent.trouble("list", list)])
         }
         Call::Undo => {
             let got = pair.undo();
@@ -265,7 +282,7 @@ fn look_with_library(image: &Lent, call: &Call) -> (Entry, Answer, Vec<Option<St
             let bytes = image.content().get(range.clone()).map_or(vec![], |part| part.to_vec());
             (Entry::LookInPlace, Answer::Part { range, bytes }, vec![lent.trouble("path", path)])
         }
-        Call::Change(_) | Call::Undo => unreachable!("not a look"),
+        Call::Change(_) | Call::WriteList(_) | Call::Undo => unreachable!("not a look"),
     }
 }
 

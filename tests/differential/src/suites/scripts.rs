@@ -1,7 +1,7 @@
 //! Scripts: runs of calls through the program that runs a script on a fresh
 //! volume, held against the reference's replay. docs/SCRIPT.md has the form.
 
-use super::runs::{any_call, Mix, MIXES};
+use super::runs::{any_step, Mix, MIXES};
 use crate::arguments::any_path;
 use crate::lent::difference;
 use crate::rng::Rng;
@@ -123,7 +123,7 @@ impl Script {
 fn any_script(rng: &mut Rng, mix: &Mix) -> Script {
     let mut script = Script::new();
     for _ in 0..rng.between(0, 60) {
-        let call = any_call(rng, &script.replay, mix);
+        let call = any_step(rng, &script.replay, mix);
         let item = item_of(rng, &call).len();
         if script.bytes.len() + item > SCRIPT - 2 * ANSWERS
             || script.answers.len() + answer_size(&call) > ANSWERS - 16
@@ -156,7 +156,7 @@ fn spoil(rng: &mut Rng, script: &mut Script) {
     let (any, last) = (rng.pick(&script.items), script.items[script.items.len() - 1]);
     let end = script.bytes.len();
     match rng.below(5) {
-        0 => script.bytes[any] = rng.pick(&[0, 15, 255]),
+        0 => script.bytes[any] = rng.pick(&[0, 16, 255]),
         1 => script.bytes.truncate(rng.between(last + 1, end - 1)),
         2 => script.bytes.extend(vec![8; rng.between(1, HEADER - 1)]),
         3 => put_number(&mut script.bytes, last + PATH_LENGTH, (end - last) as u32),
@@ -214,6 +214,7 @@ fn item_of(rng: &mut Rng, call: &Call) -> Vec<u8> {
         Call::Change(Change::ClearAttributes(c)) => (12, &c.path, &[]),
         Call::ReadAttributes { path, buffer } => (13, path, buffer),
         Call::Change(Change::ClearFlags(c)) => (14, &c.path, &[]),
+        Call::WriteList(list) => (15, &[], list),
     };
     header[0] = op;
     put_number(&mut header, PATH_LENGTH, path.len() as u32);
@@ -239,6 +240,7 @@ fn answer_size(call: &Call) -> usize {
 fn encoded(answer: &Answer) -> Vec<u8> {
     let (numbers, payload) = match answer {
         Answer::Changed { number, slot, record } => ([*number, *slot, *record, 0], vec![]),
+        Answer::Listed { number, done } => ([*number, *done, 0, 0], vec![]),
         Answer::Checked(number) => ([*number, 0, 0, 0], vec![]),
         Answer::Found(Ok(f)) => ([0, f.slot, f.size, f.blocks], vec![]),
         Answer::Found(Err(number)) => ([*number, 0, 0, 0], vec![]),

@@ -53,6 +53,7 @@ pub fn calls(rng: &mut Rng, _: u64, t: &mut Tester) {
         for change in changes(rng, &image) {
             t.change(&state, &change);
         }
+        t.write_list(&state, &any_list(rng, &image));
         t.undo(&state);
     }
     exact_room(rng, t, &image);

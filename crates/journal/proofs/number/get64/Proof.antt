@@ -1,0 +1,42 @@
+use Rattle.journal.specs.Numbers.{be64}
+use borrow.Author.Needs.{needs}
+use Rattle.journal.proofs.number.get64.Statement.{statement}
+use Rattle.journal.proofs.number.get64.Tie as tie
+
+get32-requires : tie.Need-get32-requires
+get32-requires c κs = search needs
+
+add-get32 : tie.Need-add-get32
+add-get32 c = search needs
+
+get32-requires-2 : tie.Need-get32-requires-2
+get32-requires-2 c κs = search needs
+
+cast-result : tie.Need-cast-result
+cast-result c = search needs
+
+mul-result : tie.Need-mul-result
+mul-result c = search needs
+
+cast-result-2 : tie.Need-cast-result-2
+cast-result-2 c = search needs
+
+add-result : tie.Need-add-result
+add-result c = search needs
+
+returns : tie.Need-returns
+unfolding be64
+returns c = rw (c .before .get32 .ensures, c .get322 .ensures)
+
+pub get64-spec : {M : Type 1} → statement M
+get64-spec =
+    tie.close
+    (tie.spec
+    get32-requires
+    add-get32
+    get32-requires-2
+    cast-result
+    mul-result
+    cast-result-2
+    add-result
+    returns)

@@ -1,0 +1,242 @@
+-- The items of a script one after the other, and the call of each.
+use Prim.Native.Nat.{ℕ, _+_, _-_, _≤_, _<_}
+use mathlib.Core.Path.{_≡_, refl, ap, _∙_}
+use mathlib.Core.Bool.{Bool, true, false, cond, _||_}
+use mathlib.Core.Logic.{_⊎_, inl, inr, ⊎-elim}
+use mathlib.Core.List.{List, [], _∷_, map}
+use native.Mathlib.Omega.{arith}
+use native.Mathlib.Decide.{ℕ-discrete}
+use borrow.Author.Tests.{le-leb, lt-leb, leb-true, leb-false, ne-eqb, eqb-true, eqb-false}
+use lib.Dec.{leb, eqb}
+use lib.ListN.{length}
+use Rattle.layout.specs.Lists.{every}
+use Rattle.layout.specs.Bytes.{be32}
+use Rattle.journal.specs.Run.{Call, State, change, undo, look, checkImage, findFile, readFile, lookAt, readAttributesOf, filled, lookAnswer, answer}
+use Rattle.journal.specs.Numbers.{be64}
+use Rattle.script.specs.Script.{lastOp, opAt, nameAt, dataAt, dataLength, itemSize, changeAt, callAt, itemCall, itemOk, itemsFrom, callsFrom, answerSize, itemRoom, answersSize}
+use Rattle.write_list.specs.Runs.{call, list}
+use Rattle.script.specs.Walks.Scripts.{looks, fills, filledAt}
+use Rattle.layout.proofs.Laws.Tests.{and-split, or-split, true-not-false}
+use Rattle.layout.proofs.Laws.Bytes.{length-part}
+use Rattle.journal.proofs.Laws.RecordWalk.{records-none, records-more, records-enough}
+
+-- the ops that look, and those that fill a buffer
+module _ (x : ℕ) where
+  pub looks-split : looks x ≡ true → (x ≡ 13) ⊎ (x ≤ 4)
+  looks-split h = ⊎-elim (λ a. inl (eqb-true x 13 a)) (λ b. inr (leb-true x 4 b)) (or-split (eqb x 13) (leb x 4) h)
+
+  pub fills-split : fills x ≡ true → (x ≡ 13) ⊎ (x ≡ 3)
+  fills-split h = ⊎-elim (λ a. inl (eqb-true x 13 a)) (λ b. inr (eqb-true x 3 b)) (or-split (eqb x 13) (eqb x 3) h)
+
+  neither : (a b : Bool) → a || b ≡ false → (a ≡ false) × (b ≡ false)
+  neither true b h = absurd (true-not-false refl h)
+  neither false true h = absurd (true-not-false refl h)
+  neither false false h = (refl, refl)
+
+  pub not-looks : looks x ≡ false → (x ≡ 13 → ⊥) × (4 < x)
+  not-looks h = let n = neither (eqb x 13) (leb x 4) h in (eqb-false x 13 (n .0), leb-false x 4 (n .1))
+
+  pub not-fills : fills x ≡ false → (x ≡ 13 → ⊥) × (x ≡ 3 → ⊥)
+  not-fills h = let n = neither (eqb x 13) (eqb x 3) h in (eqb-false x 13 (n .0), eqb-false x 3 (n .1))
+
+module _ (s : List ℕ) (at : ℕ) where
+  pub items-none : length s ≤ at → itemsFrom s at ≡ []
+  unfolding itemsFrom
+  items-none h = records-none (itemSize s) (length s) at (length s - at) h
+
+  pub items-step : at < length s → itemsFrom s at ≡ at ∷ itemsFrom s (at + itemSize s at)
+  unfolding itemsFrom
+  items-step h =
+      records-more (itemSize s) (length s) at (length s - at) h (omega arith)
+      ∙ ap (λ (l : List ℕ). at ∷ l) (records-enough (itemSize s) (length s) (λ a. omega arith) (length s - at - 1) (length s - (at + itemSize s at)) (at + itemSize s at) (omega arith) (omega arith))
+
+  pub calls-none : length s ≤ at → callsFrom s at ≡ []
+  unfolding callsFrom
+  calls-none h = ap (λ (l : List ℕ). map (itemCall s) l) (items-none h)
+
+  pub calls-step : at < length s → callsFrom s at ≡ itemCall s at ∷ callsFrom s (at + itemSize s at)
+  unfolding callsFrom
+  calls-step h = ap (λ (l : List ℕ). map (itemCall s) l) (items-step h)
+
+  -- an item of the form
+  pub item-fits : itemOk s at ≡ true → (at + itemSize s at ≤ length s) × (1 ≤ opAt s at) × (opAt s at ≤ lastOp)
+  unfolding itemOk
+  item-fits t =
+      let a = and-split (leb (at + itemSize s at) (length s)) _ t in
+      let b = and-split (leb 1 (opAt s at)) _ (a .1) in
+      (leb-true _ _ (a .0), leb-true _ _ (b .0), leb-true _ _ (b .1))
+
+  pub item-cut : length s < at + itemSize s at → itemOk s at ≡ false
+  unfolding itemOk
+  item-cut h = rw (lt-leb _ _ h)
+
+  pub item-low : at + itemSize s at ≤ length s → opAt s at < 1 → itemOk s at ≡ false
+  unfolding itemOk
+  item-low h k = rw (le-leb _ _ h, lt-leb _ _ k)
+
+  pub item-last : at + itemSize s at ≤ length s → 1 ≤ opAt s at → itemOk s at ≡ leb (opAt s at) lastOp
+  unfolding itemOk
+  item-last h k = rw (le-leb _ _ h, le-leb _ _ k)
+
+  pub every-step : at < length s → itemOk s at ≡ true → every (itemOk s) (itemsFrom s at) ≡ every (itemOk s) (itemsFrom s (at + itemSize s at))
+  every-step h t = rw (items-step h, t)
+
+  pub every-bad : at < length s → itemOk s at ≡ false → every (itemOk s) (itemsFrom s at) ≡ false
+  every-bad h f = rw (items-step h, f)
+
+  pub every-end : length s ≤ at → every (itemOk s) (itemsFrom s at) ≡ true
+  every-end h = rw (items-none h)
+
+  -- of a script of the form, the item that is next, and the rest
+  pub record Next : Type 0 where
+    pub fits : at + itemSize s at ≤ length s
+    pub low : 1 ≤ opAt s at
+    pub high : opAt s at ≤ lastOp
+    pub rest : every (itemOk s) (itemsFrom s (at + itemSize s at)) ≡ true
+
+  pub next : at < length s → every (itemOk s) (itemsFrom s at) ≡ true → Next
+  next h w =
+      let a = and-split (itemOk s at) _ (rw (items-step h) at w) in
+      let f = item-fits (a .0) in
+      record { fits = f .0; low = f .1; high = f .2; rest = a .1 }
+
+  -- the call of each op
+  pub is-check : opAt s at ≡ 1 → callAt s at ≡ look checkImage
+  unfolding callAt
+  is-check e = rw e
+
+  pub is-lookup : opAt s at ≡ 2 → callAt s at ≡ look (findFile (nameAt s at))
+  unfolding callAt
+  is-lookup e = rw e
+
+  pub is-read : opAt s at ≡ 3 → callAt s at ≡ look (readFile (nameAt s at) (be64 s (at + 9)) (dataAt s at))
+  unfolding callAt
+  is-read e = rw e
+
+  pub is-look-in-place : opAt s at ≡ 4 → callAt s at ≡ look (lookAt (nameAt s at) (be64 s (at + 9)))
+  unfolding callAt
+  is-look-in-place e = rw e
+
+  pub is-read-attributes : opAt s at ≡ 13 → callAt s at ≡ look (readAttributesOf (nameAt s at) (dataAt s at))
+  unfolding callAt
+  is-read-attributes e = rw e
+
+  pub is-change : looks (opAt s at) ≡ false → (opAt s at ≡ 8 → ⊥) → callAt s at ≡ change (changeAt s at)
+  unfolding callAt
+  is-change l ne =
+      let h = not-looks (opAt s at) l in
+      rw (
+        ne-eqb (opAt s at) 1 (λ e. omega arith),
+        ne-eqb (opAt s at) 2 (λ e. omega arith),
+        ne-eqb (opAt s at) 3 (λ e. omega arith),
+        ne-eqb (opAt s at) 4 (λ e. omega arith),
+        ne-eqb (opAt s at) 13 (h .0),
+        ne-eqb (opAt s at) 8 ne,
+      )
+
+  pub is-undo : opAt s at ≡ 8 → callAt s at ≡ undo
+  unfolding callAt
+  is-undo e = rw e
+
+  pub length-data : at + itemSize s at ≤ length s → length (dataAt s at) ≡ dataLength s at
+  unfolding dataAt
+  length-data h = length-part s (at + 33 + be32 s (at + 25)) (be32 s (at + 29)) (omega arith)
+
+  -- the length of the answer
+  either : (b : Bool) (x y : Call) (k : ℕ) → answerSize x ≡ k → answerSize y ≡ k → answerSize (cond b x y) ≡ k
+  either true x y k f g = f
+  either false x y k f g = g
+
+  pub size-read : at + itemSize s at ≤ length s → fills (opAt s at) ≡ true → answerSize (callAt s at) ≡ 16 + dataLength s at
+  unfolding answerSize
+  size-read h f = ⊎-elim (λ e. rw (is-read-attributes e, length-data h)) (λ e. rw (is-read e, length-data h)) (fills-split (opAt s at) f)
+
+  pub size-look-in-place : opAt s at ≡ 4 → answerSize (callAt s at) ≡ 528
+  unfolding answerSize
+  size-look-in-place e = rw (is-look-in-place e)
+
+  pub size-plain : fills (opAt s at) ≡ false → eqb (opAt s at) 4 ≡ false → answerSize (callAt s at) ≡ 16
+  unfolding answerSize callAt
+  size-plain e f =
+      let n = not-fills (opAt s at) e in
+      rw (ne-eqb (opAt s at) 13 (n .0), ne-eqb (opAt s at) 3 (n .1), f)
+      (either (eqb (opAt s at) 1) _ _ 16 refl
+      (either (eqb (opAt s at) 2) _ _ 16 refl (either (eqb (opAt s at) 8) _ _ 16 refl refl)))
+
+  pub size-low : fills (opAt s at) ≡ false → opAt s at ≤ 2 → answerSize (callAt s at) ≡ 16
+  size-low f h = size-plain f (ne-eqb (opAt s at) 4 (λ e. omega arith))
+
+  pub size-high : looks (opAt s at) ≡ false → answerSize (callAt s at) ≡ 16
+  size-high l =
+      let h = not-looks (opAt s at) l in
+      size-plain (rw (ne-eqb (opAt s at) 13 (h .0), ne-eqb (opAt s at) 3 (λ e. omega arith))) (ne-eqb (opAt s at) 4 (λ e. omega arith))
+
+  -- the item that fills a buffer, and the one that looks and is none of the others
+  pub read-answer : (p : State) → fills (opAt s at) ≡ true → answer p (callAt s at) ≡ filled (filledAt (p .image) s at)
+  unfolding answer lookAnswer filledAt
+  read-answer p f = ⊎-elim (λ e. rw (is-read-attributes e, e)) (λ e. rw (is-read e, e)) (fills-split (opAt s at) f)
+
+  pub last-look : looks (opAt s at) ≡ true → fills (opAt s at) ≡ false → 1 ≤ opAt s at → (opAt s at ≡ 1 → ⊥) → (opAt s at ≡ 2 → ⊥) → opAt s at ≡ 4
+  last-look l f low a b =
+      let n = not-fills (opAt s at) f in
+      ⊎-elim (λ e. absurd (n .0 e)) (λ h. omega arith) (looks-split (opAt s at) l)
+
+  -- a list, or a call, and the room for its answer
+  pub is-list : opAt s at ≡ 15 → itemCall s at ≡ list (dataAt s at)
+  unfolding itemCall
+  is-list e = rw e
+
+  pub is-call : (opAt s at ≡ 15 → ⊥) → itemCall s at ≡ call (callAt s at)
+  unfolding itemCall
+  is-call n = rw (ne-eqb (opAt s at) 15 n)
+
+  pub room-list : opAt s at ≡ 15 → itemRoom (itemCall s at) ≡ 16
+  unfolding itemRoom
+  room-list e = rw (is-list e)
+
+  pub room-call : (opAt s at ≡ 15 → ⊥) → itemRoom (itemCall s at) ≡ answerSize (callAt s at)
+  unfolding itemRoom
+  room-call n = rw (is-call n)
+
+  pub room-read : at + itemSize s at ≤ length s → fills (opAt s at) ≡ true → itemRoom (itemCall s at) ≡ 16 + dataLength s at
+  room-read h f = room-call (λ e. ⊎-elim (λ a. omega arith) (λ b. omega arith) (fills-split (opAt s at) f)) ∙ size-read h f
+
+  pub room-look-in-place : opAt s at ≡ 4 → itemRoom (itemCall s at) ≡ 528
+  room-look-in-place e = room-call (λ f. omega arith) ∙ size-look-in-place e
+
+  pub room-plain : fills (opAt s at) ≡ false → eqb (opAt s at) 4 ≡ false → itemRoom (itemCall s at) ≡ 16
+  room-plain f g = go (ℕ-discrete (opAt s at) 15)
+    where
+      go : Dec (opAt s at ≡ 15) → itemRoom (itemCall s at) ≡ 16
+      go (yes e) = room-list e
+      go (no n) = room-call n ∙ size-plain f g
+
+  -- room for the answers from here on
+  pub sizes-step : at < length s → answersSize (callsFrom s at) ≡ itemRoom (itemCall s at) + answersSize (callsFrom s (at + itemSize s at))
+  unfolding answersSize
+  sizes-step h = rw (calls-step h)
+
+  pub sizes-none : length s ≤ at → answersSize (callsFrom s at) ≡ 0
+  unfolding answersSize
+  sizes-none h = rw (calls-none h)
+
+  pub room-short : (left : ℕ) → at < length s → left < itemRoom (itemCall s at) → leb (answersSize (callsFrom s at)) left ≡ false
+  room-short left h k = lt-leb (answersSize (callsFrom s at)) left (omega (arith, sizes-step h))
+
+  pub room-step : (left : ℕ) → at < length s → itemRoom (itemCall s at) ≤ left
+      → leb (answersSize (callsFrom s at)) left ≡ leb (answersSize (callsFrom s (at + itemSize s at))) (left - itemRoom (itemCall s at))
+  room-step left h k = go (leb later (left - itemRoom (itemCall s at))) refl
+    where
+      later : ℕ
+      later = answersSize (callsFrom s (at + itemSize s at))
+
+      go : (b : Bool) → leb later (left - itemRoom (itemCall s at)) ≡ b → leb (answersSize (callsFrom s at)) left ≡ b
+      go true e =
+          let l : later ≤ left - itemRoom (itemCall s at) = leb-true _ _ e in
+          le-leb (answersSize (callsFrom s at)) left (omega (arith, sizes-step h))
+      go false e =
+          let l : left - itemRoom (itemCall s at) < later = leb-false _ _ e in
+          lt-leb (answersSize (callsFrom s at)) left (omega (arith, sizes-step h))
+
+  pub room-none : (left : ℕ) → length s ≤ at → leb (answersSize (callsFrom s at)) left ≡ true
+  room-none left h = rw (sizes-none h) (le-leb 0 left (omega arith))
