@@ -80,8 +80,8 @@ extern "C" {
  * The version of this header, 10000 * major + 100 * minor + patch.  The minor
  * number rises with every call, number or limit that comes or changes.
  */
-#define BULGEFS_VERSION            900u
-#define BULGEFS_VERSION_TEXT       "0.9.0"
+#define BULGEFS_VERSION            1000u
+#define BULGEFS_VERSION_TEXT       "0.10.0"
 
 /*
  * The compiler says if an answer is not used.  Define BULGEFS_CHECKED as
@@ -105,7 +105,7 @@ extern "C" {
 #define BULGEFS_MAX_LEVELS         8u        /* levels of directories below the root   */
 #define BULGEFS_MAX_NAME           80u       /* bytes in the longest name              */
 #define BULGEFS_VOLUME_NAME_SIZE   128u      /* bytes of a volume name, always         */
-#define BULGEFS_MAX_DATA           4096u     /* bytes that one write accepts           */
+#define BULGEFS_MAX_DATA           4096u     /* bytes that one write or append accepts */
 #define BULGEFS_MAX_LIST           65536u    /* bytes in the longest list of writes    */
 #define BULGEFS_MAX_ATTRIBUTE_BLOCKS 8u      /* blocks of a file's attributes          */
 #define BULGEFS_MIN_JOURNAL        5u        /* bytes in the smallest journal          */
@@ -142,7 +142,8 @@ extern "C" {
  * Size of a journal.  A change that saves k blocks adds BULGEFS_RECORD_SIZE(k)
  * bytes.  A create and a clear of flags save 1 block, the others at most
  *
- *   BULGEFS_WRITE_BLOCKS          a write of so many bytes; 20 for the longest
+ *   BULGEFS_WRITE_BLOCKS          a write or an append of so many bytes; 20 for
+ *                                 the longest
  *   BULGEFS_DELETE_BLOCKS         a delete in an image of n blocks of a file or
  *                                 directory of so many, attributes included:
  *                                 all of them are saved
@@ -346,6 +347,20 @@ bulgefs_filled bulgefs_read(const uint8_t *image, size_t image_len,
                             uint64_t offset, uint8_t *buffer, size_t buffer_len);
 
 /*
+ * Reads on: bulgefs_read at *position, which then moves on by the count.  Set
+ * it to 0 to read a file from its start, and call until the count is 0, with
+ * buffers of one byte or more: if nothing was written to the image between, the
+ * bytes joined are the file's.  Image and path are looked at anew by each call.
+ * A refused call leaves *position as it is; it may be any number.
+ * Refusals: 1 to 7, BULGEFS_BAD_ARGUMENT, BULGEFS_TOO_DEEP, BULGEFS_NOT_FOUND,
+ * BULGEFS_BAD_OFFSET (*position above the file's size).
+ */
+BULGEFS_CHECKED
+bulgefs_filled bulgefs_read_next(const uint8_t *image, size_t image_len,
+                                 const uint8_t *path, size_t path_len,
+                                 uint64_t *position, uint8_t *buffer, size_t buffer_len);
+
+/*
  * Tells where in the image a file's block lies, without copying: the length
  * bytes of the file from 512 * index on are those from image[start] on, until
  * the image is changed.  index counts from 0; the last block is cut at the
@@ -396,6 +411,26 @@ bulgefs_changed bulgefs_write(uint8_t *image, size_t image_len,
                               const uint8_t *path, size_t path_len,
                               uint64_t offset, const uint8_t *data, size_t data_len,
                               uint64_t time);
+
+/*
+ * Appends a piece to a file: bulgefs_write at the file's end as it then stands,
+ * with the same answer, image and journal.  So a file may arrive a bit at a
+ * time: pieces of 0 to 4,096 bytes cut anywhere, all with one time, leave the
+ * image that one write of all of them would.  Each has its own record, and
+ * bulgefs_undo takes back one at a time.
+ *
+ * A piece of no bytes does nothing, not even the time: it adds no record, and
+ * is answered with 0 and 0, also beside a full journal.
+ * Refusals: 1 to 7, BULGEFS_BAD_JOURNAL, BULGEFS_BAD_ARGUMENT (also for
+ * piece_len above 4,096), BULGEFS_TOO_DEEP, BULGEFS_NOT_FOUND,
+ * BULGEFS_VOLUME_FULL, BULGEFS_JOURNAL_FULL.
+ */
+BULGEFS_CHECKED
+bulgefs_changed bulgefs_append(uint8_t *image, size_t image_len,
+                               uint8_t *journal, size_t journal_len,
+                               const uint8_t *path, size_t path_len,
+                               const uint8_t *piece, size_t piece_len,
+                               uint64_t time);
 
 /*
  * Makes the writes of a list, in order, until the first that is refused.  Image,

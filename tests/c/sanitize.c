@@ -165,6 +165,15 @@ static void call_looks(const material *m)
            "read: number");
     expect(r.count <= into.len && (r.number == 0 || r.count == 0), "read: count");
     expect(r.number == 0 || unchanged(&into), "read: refused without a change");
+
+    uint64_t position = m->offset;
+    buffer next = lend(m->data, m->data_len);
+    bulgefs_filled t = bulgefs_read_next(image.at, image.len, path.at, path.len, &position,
+                                         next.at, next.len);
+    expect(t.number == r.number && t.count == r.count, "read_next: answer");
+    expect(next.len == 0 || memcmp(next.at, into.at, next.len) == 0, "read_next: bytes");
+    expect(position == m->offset + r.count, "read_next: position");
+    give_back(&next);
     give_back(&into);
 
     into = lend(m->data, m->data_len);
@@ -199,6 +208,36 @@ static uint32_t some_flags(void)
     return random_below(4) == 0 ? 1 + random_below(9) : 0;
 }
 
+static bool same(const buffer *a, const buffer *b)
+{
+    return a->len == 0 || memcmp(a->at, b->at, a->len) == 0;
+}
+
+/* A piece, the first bytes of the data, beside the write of it at the file's end. */
+static void call_append(const material *m, const buffer *path, const buffer *data, size_t len)
+{
+    const uint32_t all = STAGES | BIT(8) | BIT(14) | BIT(15) | PATH;
+    buffer image = lend(m->image, m->image_len), other = lend(m->image, m->image_len);
+    buffer journal = lend(m->journal, m->journal_len), beside = lend(m->journal, m->journal_len);
+    uint32_t end = bulgefs_lookup(other.at, other.len, path->at, path->len).size;
+    bulgefs_changed a = bulgefs_append(image.at, image.len, journal.at, journal.len, path->at,
+                                       path->len, data->at, len, 5);
+    bulgefs_changed w = bulgefs_write(other.at, other.len, beside.at, beside.len, path->at,
+                                      path->len, end, data->at, len, 5);
+    if (len == 0)
+        expect(a.record == 0 && unchanged(&image) && unchanged(&journal)
+                   && a.number == (w.number == BULGEFS_JOURNAL_FULL ? 0 : w.number),
+               "append: an empty piece does nothing");
+    else
+        expect(a.number == w.number && a.record == w.record && same(&image, &other)
+                   && same(&journal, &beside),
+               "append: as the write at the end");
+    expect(a.number != 0 || bulgefs_check(image.at, image.len) == 0, "append: sound");
+    settle(&image, &journal, a.number, a.record, all, "append");
+    give_back(&other);
+    give_back(&beside);
+}
+
 static void call_file_changes(const material *m, const buffer *path)
 {
     const uint32_t common = STAGES | BIT(8) | BIT(15) | PATH;
@@ -216,6 +255,9 @@ static void call_file_changes(const material *m, const buffer *path)
     bulgefs_changed w = bulgefs_write(image.at, image.len, journal.at, journal.len, path->at,
                                       path->len, m->offset, data.at, data.len, 5);
     settle(&image, &journal, w.number, w.record, common | BIT(12) | BIT(14), "write");
+
+    call_append(m, path, &data, 0);
+    call_append(m, path, &data, data.len);
 
     image = lend(m->image, m->image_len);
     journal = lend(m->journal, m->journal_len);
@@ -299,11 +341,6 @@ static bulgefs_listed call_list(const material *m, const uint8_t *list, size_t l
     expect(unchanged(&lent), "write_list: the list stays");
     give_back(&lent);
     return w;
-}
-
-static bool same(const buffer *a, const buffer *b)
-{
-    return a->len == 0 || memcmp(a->at, b->at, a->len) == 0;
 }
 
 /*
@@ -924,6 +961,98 @@ static void lists(void)
     expect(memcmp(image, before, sizeof image) == 0, "list: as it was");
 }
 
+/*
+ * A file of three blocks read to its end, into buffers of each of these lengths;
+ * a refused read keeps the place, also one that is above the file's size.
+ */
+static void reader(void)
+{
+    static uint8_t image[16 * 512], journal[16384], data[1300], got[1300];
+    static const size_t lengths[] = {1, 7, 511, 512, 513, 1299, 1300};
+    static const uint8_t path[] = "/A", missing[] = "/B";
+    bulgefs_uuid uuid = {{0}};
+    bulgefs_filled r;
+    uint64_t position;
+    for (size_t i = 0; i < sizeof data; i++)
+        data[i] = (uint8_t)random_below(256);
+    expect(bulgefs_format(image, sizeof image, 2, 1, uuid, volume_name, 128) == 0, "next: format");
+    expect(bulgefs_journal_start(journal, sizeof journal) == 0, "next: start");
+    expect(bulgefs_create(image, sizeof image, journal, sizeof journal, path, 2, 0x60, 0, 0, 0, 0,
+                          2).number == 0, "next: create");
+    expect(bulgefs_write(image, sizeof image, journal, sizeof journal, path, 2, 0, data,
+                         sizeof data, 3).number == 0, "next: write");
+    for (size_t i = 0; i < sizeof lengths / sizeof lengths[0]; i++) {
+        size_t all = 0;
+        memset(got, 0, sizeof got);
+        position = 0;
+        do {
+            buffer into = lend(data, lengths[i]);
+            r = bulgefs_read_next(image, sizeof image, path, 2, &position, into.at, into.len);
+            expect(r.number == 0 && r.count <= sizeof got - all, "next: count");
+            memcpy(got + all, into.at, r.count);
+            all += r.count;
+            expect(position == all, "next: position");
+            give_back(&into);
+        } while (r.count != 0);
+        expect(all == sizeof data && memcmp(got, data, all) == 0, "next: the file's bytes");
+    }
+    position = 5;
+    r = bulgefs_read_next(image, sizeof image, missing, 2, &position, got, 1);
+    expect(r.number == BULGEFS_NOT_FOUND && r.count == 0 && position == 5, "next: not found");
+    r = bulgefs_read_next(image, sizeof image, path, 2, &position, got, 1);
+    expect(r.number == 0 && got[0] == data[5] && position == 6, "next: found again");
+    position = UINT64_MAX;
+    r = bulgefs_read_next(image, sizeof image, path, 2, &position, got, 1);
+    expect(r.number == BULGEFS_BAD_OFFSET && position == UINT64_MAX, "next: above the size");
+}
+
+/*
+ * A file that arrives in pieces of these lengths, by turns: the image is that of
+ * writes of the whole, and undo takes back one piece at a time.
+ */
+static void pieces(void)
+{
+    static uint8_t image[16 * 512], whole[16 * 512], before[16 * 512], journal[65536], data[5000];
+    static const size_t lengths[] = {1, 0, 511, 512, 513, 2000, 0, 1463};
+    static const uint8_t path[] = "/A";
+    enum { COUNT = sizeof lengths / sizeof lengths[0] };
+    bulgefs_uuid uuid = {{0}};
+    size_t at = 0;
+    for (size_t i = 0; i < sizeof data; i++)
+        data[i] = (uint8_t)random_below(256);
+    expect(bulgefs_format(image, sizeof image, 2, 1, uuid, volume_name, 128) == 0, "piece: format");
+    expect(bulgefs_journal_start(journal, sizeof journal) == 0, "piece: start");
+    expect(bulgefs_create(image, sizeof image, journal, sizeof journal, path, 2, 0x60, 0, 0, 0, 0,
+                          2).number == 0, "piece: create");
+    memcpy(before, image, sizeof image);
+    memcpy(whole, image, sizeof image);
+    for (size_t i = 0; i < COUNT; i++) {
+        buffer piece = lend_const(data + at, lengths[i]);
+        bulgefs_changed a = bulgefs_append(image, sizeof image, journal, sizeof journal, path, 2,
+                                           piece.at, piece.len, 7);
+        expect(a.number == 0 && (a.record == 0) == (lengths[i] == 0), "piece: accepted");
+        at += lengths[i];
+        expect(bulgefs_lookup(image, sizeof image, path, 2).size == at, "piece: size");
+        give_back(&piece);
+    }
+    expect(at == sizeof data, "piece: all");
+    static uint8_t other[65536];
+    expect(bulgefs_journal_start(other, sizeof other) == 0, "piece: another journal");
+    for (size_t from = 0; from < at; from += 4096) {
+        size_t len = at - from < 4096 ? at - from : 4096;
+        expect(bulgefs_write(whole, sizeof whole, other, sizeof other, path, 2, from, data + from,
+                             len, 7).number == 0, "piece: whole");
+    }
+    expect(memcmp(image, whole, sizeof image) == 0, "piece: the image of the whole");
+    expect(bulgefs_append(image, sizeof image, journal, sizeof journal, path, 2, data, 4097, 7)
+               .number == BULGEFS_BAD_ARGUMENT, "piece: too long");
+    for (size_t i = 0; i < COUNT; i++)
+        expect(lengths[i] == 0
+                   || bulgefs_undo(image, sizeof image, journal, sizeof journal).number == 0,
+               "piece: undo");
+    expect(memcmp(image, before, sizeof image) == 0, "piece: as it was");
+}
+
 /* The largest image and the longest journal. */
 static void largest(void)
 {
@@ -955,6 +1084,8 @@ int main(void)
     flags();
     salvaged();
     lists();
+    reader();
+    pieces();
     largest();
     printf("%lu passed, %lu failed\n", passed, failed);
     return failed == 0 ? 0 : 1;

@@ -54,6 +54,16 @@ static void write_data(void)
                  .number;
 }
 
+static void append(void)
+{
+    number = bulgefs_append(image, image_len, journal, journal_len, path, 2, data, 4096, 3).number;
+}
+
+static void append_nothing(void)
+{
+    number = bulgefs_append(image, image_len, journal, journal_len, path, 2, data, 0, 3).number;
+}
+
 /* A list of two writes of 4,096 bytes. */
 static void write_list(void)
 {
@@ -73,6 +83,13 @@ static void read_data(void)
 {
     static uint8_t buffer[4096];
     number = bulgefs_read(image, image_len, path, 2, 0, buffer, 4096).number;
+}
+
+static void read_next(void)
+{
+    static uint8_t buffer[4096];
+    uint64_t position = 0;
+    number = bulgefs_read_next(image, image_len, path, 2, &position, buffer, 4096).number;
 }
 
 static void look(void)
@@ -129,8 +146,9 @@ static const struct {
     void (*make)(void);
 } calls[] = {
     {"format", format}, {"journal_start", start}, {"create", create}, {"write", write_data},
-    {"write_list", write_list},
+    {"append", append}, {"append of nothing", append_nothing}, {"write_list", write_list},
     {"check", check},   {"lookup", lookup},       {"read", read_data}, {"look_in_place", look},
+    {"read_next", read_next},
     {"plain_check", plain_check}, {"load_table", load}, {"store_table", store},
     {"set_attributes", set_attributes}, {"set_attributes again", set_attributes},
     {"read_attributes", read_attributes}, {"clear_attributes", clear_attributes}, {"undo", undo},

@@ -1,21 +1,13 @@
 -- The answers: each case of an enum, as the fields of a struct.
 use Prim.Native.Nat.{ℕ, zero, suc}
 use mathlib.Core.Path.{_≡_, refl, sym, ap, _∙_}
-use mathlib.Core.List.{List}
 use native.Mathlib.Omega.{arith}
 use lib.ListN.{length}
-use Rattle.layout.specs.Looks.{ReadAnswer}
-use Rattle.layout.specs.Answers.{readAnswer}
 use Rattle.volume.specs.Change.{Change, slotGiven}
 use Rattle.journal.specs.Run.{State, Answer, changed, changeRefusal, changeAnswer, recordOf}
 use Rattle.journal.specs.Answers.{changedAnswer, undoneAnswer}
 use Rattle.journal.specs.declared.calls.Changed.{Changed}
 use Rattle.journal.specs.declared.calls.Undone.{Undone}
-use Rattle.layout.specs.declared.reading.Filled.{Filled}
-
--- the answer of a read, by the case that it is
-pub read-case : {v w : Filled} (b : List ℕ) (a : ReadAnswer) → v ≡ w → readAnswer v b ≡ a → readAnswer w b ≡ a
-read-case b a e h = ap (λ (x : Filled). readAnswer x b) (sym e) ∙ h
 
 -- the answer of a change or an undo, by the case that it is; write and delete give no slot
 pub change-case : {v w : Changed} (a : Answer) → v ≡ w → changedAnswer v ≡ a → changedAnswer w ≡ a

@@ -1,11 +1,13 @@
 // The C entry points: numbers, byte buffers and runs of 32-bit numbers only. Each call says, field by field, what the call below it says; include/bulgefs.h documents them
 // for C. Nothing is asked of the caller but buffers that do not overlap.
+ghost use Prim.Native.Nat.{_+_};
 ghost use mathlib.Core.Path.{_≡_};
 ghost use Rattle.layout.specs.Check.{check};
 ghost use Rattle.layout.specs.Looks.{LookupAnswer, ReadAnswer, Extent, lookup, read, extentOf, readAttributes};
 ghost use Rattle.volume.specs.Change.{Change as ChangeAsked, create, write, delete, createDirectory, deleteDirectory, setAttributes, clearAttributes, clearFlags, slotGiven};
 ghost use Rattle.volume.specs.Format.{formatRefusal, formatted};
 ghost use Rattle.chain_table.specs.Transfer.{loadTable, storeTable};
+ghost use Rattle.append.specs.Append.{afterAppend, appendAnswer};
 ghost use Rattle.write_list.specs.List.{listed, writeList};
 ghost use Rattle.salvage.specs.Salvage.{SalvageAnswer, salvage};
 ghost use Rattle.journal.specs.Journal.{startRefusal, afterStart};
@@ -108,6 +110,28 @@ pub extern "C" fn bulgefs_read(image: &[u8], path: &[u8], offset: u64, buffer: &
             number: number,
             count: 0,
         },
+    }
+}
+
+// A reader's read: C keeps the position, and lends it to each call. Image and path are lent for one lifetime, as a reader holds them.
+#[no_mangle]
+pub extern "C" fn bulgefs_read_next<'x>(
+    image: &'x [u8],
+    path: &'x [u8],
+    position: &mut u64,
+    buffer: &mut [u8],
+) -> Filled
+    ensures answer { λ r. ⌜ _≡_ {A = ReadAnswer} (record { number = r .number; count = r .count; buffer = now (buffer .exit) }) (read (now (image .entry)) (now (path .entry)) (now (position .entry)) (now (buffer .entry))) ⌝ }
+    ensures position { λ r. ⌜ now (position .exit) ≡ now (position .entry) + r .count ⌝ }
+{
+    let at = *position;
+    let t = reader::reader::read_at(image, path, at as usize, buffer);
+    let next = t.next;
+    let count = t.count;
+    *position = next as u64;
+    Filled {
+        number: t.number,
+        count: count as u32,
     }
 }
 
@@ -342,6 +366,24 @@ pub extern "C" fn bulgefs_undo(image: &mut [u8], journal: &mut [u8]) -> Changed
             number: number,
             size: 0,
         },
+    }
+}
+
+#[no_mangle]
+pub extern "C" fn bulgefs_append(
+    image: &mut [u8],
+    journal: &mut [u8],
+    path: &[u8],
+    piece: &[u8],
+    time: u64,
+) -> Changed
+    ensures answer { λ r. ⌜ changed (r .number) 0 (r .size) ≡ appendAnswer (state (now (image .entry)) (now (journal .entry))) (now (path .entry)) (now (piece .entry)) time ⌝ }
+    ensures state { λ _. ⌜ state (now (image .exit)) (now (journal .exit)) ≡ afterAppend (state (now (image .entry)) (now (journal .entry))) (now (path .entry)) (now (piece .entry)) time ⌝ }
+{
+    let c = with_slot(append::call::append(image, journal, path, piece, time));
+    Changed {
+        number: c.number,
+        size: c.size,
     }
 }
 

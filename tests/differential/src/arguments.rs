@@ -7,7 +7,7 @@ use reference::layout::*;
 use reference::path::Want;
 use reference::worked::list_of;
 use reference::{
-    Change, ClearAttributes, ClearFlags, Create, CreateDirectory, Delete, DeleteDirectory,
+    Append, Change, ClearAttributes, ClearFlags, Create, CreateDirectory, Delete, DeleteDirectory,
     SetAttributes, Write,
 };
 
@@ -486,6 +486,21 @@ pub fn any_attributes_buffer(rng: &mut Rng, blocks: usize) -> Vec<u8> {
         _ => rng.below(5000),
     };
     rng.bytes(length)
+}
+
+/// A piece for the end of a file of so many bytes, also one byte too long.
+pub fn any_piece(rng: &mut Rng, size: u64) -> Vec<u8> {
+    if rng.once_in(6) {
+        vec![]
+    } else {
+        any_data(rng, size, size)
+    }
+}
+
+pub fn any_append(rng: &mut Rng, image: &[u8]) -> Append {
+    let path = any_path(rng, image, Want::File);
+    let piece = any_piece(rng, size_of(image, &path));
+    Append { path, piece, time: any_time(rng) }
 }
 
 /// The same write with an offset that an item can hold.

@@ -69,6 +69,10 @@ extern "C" {
                         path: *const u8, path_len: usize,
                         offset: u64, buffer: *mut u8, buffer_len: usize) -> Filled;
 
+    pub fn bulgefs_read_next(image: *const u8, image_len: usize,
+                             path: *const u8, path_len: usize,
+                             position: *mut u64, buffer: *mut u8, buffer_len: usize) -> Filled;
+
     pub fn bulgefs_look_in_place(image: *const u8, image_len: usize,
                                  path: *const u8, path_len: usize,
                                  index: u64) -> Part;
@@ -118,6 +122,13 @@ extern "C" {
     pub fn bulgefs_clear_flags(image: *mut u8, image_len: usize,
                                journal: *mut u8, journal_len: usize,
                                path: *const u8, path_len: usize) -> Changed;
+
+    pub fn bulgefs_append(image: *mut u8, image_len: usize,
+                          journal: *mut u8, journal_len: usize,
+                          path: *const u8, path_len: usize,
+                          piece: *const u8, piece_len: usize,
+                          time: u64) -> Changed;
+
     pub fn bulgefs_write_list(image: *mut u8, image_len: usize,
                               journal: *mut u8, journal_len: usize,
                               list: *const u8, list_len: usize) -> Listed;

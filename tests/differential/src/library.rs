@@ -26,6 +26,11 @@ pub fn read(image: &Lent, path: &Lent, offset: u64, buffer: &mut Lent) -> Filled
     unsafe { ffi::bulgefs_read(at, len, path.ptr(), path.len(), offset, into, buffer.len()) }
 }
 
+pub fn read_next(image: &Lent, path: &Lent, position: &mut u64, buffer: &mut Lent) -> Filled {
+    let (at, len, into) = (image.ptr(), image.len(), buffer.mut_ptr());
+    unsafe { ffi::bulgefs_read_next(at, len, path.ptr(), path.len(), position, into, buffer.len()) }
+}
+
 pub fn read_attributes(image: &Lent, path: &Lent, buffer: &mut Lent) -> Filled {
     let (at, len, into) = (image.ptr(), image.len(), buffer.mut_ptr());
     unsafe { ffi::bulgefs_read_attributes(at, len, path.ptr(), path.len(), into, buffer.len()) }
@@ -125,6 +130,14 @@ impl Pair {
         unsafe {
             ffi::bulgefs_clear_flags(image, image_len, journal, journal_len,
                                      path.ptr(), path.len())
+        }
+    }
+
+    pub fn append(&mut self, path: &Lent, piece: &Lent, time: u64) -> Changed {
+        let (image, image_len, journal, journal_len) = self.lent();
+        unsafe {
+            ffi::bulgefs_append(image, image_len, journal, journal_len, path.ptr(), path.len(),
+                                piece.ptr(), piece.len(), time)
         }
     }
 

@@ -7,6 +7,7 @@ pub enum Entry {
     Format,
     Lookup,
     Read,
+    ReadNext,
     LookInPlace,
     Start,
     Create,
@@ -18,6 +19,7 @@ pub enum Entry {
     ReadAttributes,
     ClearAttributes,
     ClearFlags,
+    Append,
     WriteList,
     Undo,
     LoadTable,
@@ -27,12 +29,13 @@ pub enum Entry {
 
 /// Every entry point, and the numbers that it can answer. Look in place has
 /// no number; its row counts what look up would have answered.
-const ENTRIES: [(Entry, &str, &[u32]); 21] = [
+const ENTRIES: [(Entry, &str, &[u32]); 23] = [
     (Entry::Check, "check", &[0, 1, 2, 3, 4, 5, 6, 7]),
     (Entry::PlainCheck, "plain_check", &[0, 1, 2, 3, 4, 5, 6, 7]),
     (Entry::Format, "format", &[0, 1, 9, 14]),
     (Entry::Lookup, "lookup", &[0, 1, 2, 3, 4, 5, 6, 7, 9, 10, 17]),
     (Entry::Read, "read", &[0, 1, 2, 3, 4, 5, 6, 7, 9, 10, 12, 17]),
+    (Entry::ReadNext, "read_next", &[0, 1, 2, 3, 4, 5, 6, 7, 9, 10, 12, 17]),
     (Entry::LookInPlace, "look_in_place", &[0, 1, 2, 3, 4, 5, 6, 7, 9, 10, 17]),
     (Entry::Start, "journal_start", &[0, 8]),
     (Entry::Create, "create", &[0, 1, 2, 3, 4, 5, 6, 7, 8, 9, 10, 11, 13, 15, 17, 26]),
@@ -44,6 +47,7 @@ const ENTRIES: [(Entry, &str, &[u32]); 21] = [
     (Entry::ReadAttributes, "read_attr", &[0, 1, 2, 3, 4, 5, 6, 7, 9, 10, 17]),
     (Entry::ClearAttributes, "clear_attr", &[0, 1, 2, 3, 4, 5, 6, 7, 8, 9, 10, 15, 17]),
     (Entry::ClearFlags, "clear_flags", &[0, 1, 2, 3, 4, 5, 6, 7, 8, 9, 10, 15, 17]),
+    (Entry::Append, "append", &[0, 1, 2, 3, 4, 5, 6, 7, 8, 9, 10, 14, 15, 17]),
     (Entry::WriteList, "write_list", &[0, 1, 2, 3, 4, 5, 6, 7, 8, 9, 10, 12, 14, 15, 17, 19]),
     (Entry::Undo, "undo", &[0, 1, 2, 3, 4, 5, 6, 7, 8, 16]),
     (Entry::LoadTable, "load_table", &[0, 1, 2, 3, 4, 5, 6, 7, 21]),

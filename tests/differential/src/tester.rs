@@ -4,7 +4,7 @@ use crate::ffi;
 use crate::lent::Lent;
 use crate::library::{self, Pair};
 use crate::report::{Entry, Report};
-use reference::{Change, Listed, Salvaged, State};
+use reference::{Append, Change, Listed, Salvaged, State};
 
 /// The longest image that the plain check is run on: its time grows with the
 /// square of the length.
@@ -82,11 +82,31 @@ impl Tester {
         self.report.call(Entry::Lookup, number_of(&result), troubles);
     }
 
+    /// A read, and a reader's read at the same place.
     pub fn read(&mut self, image: &[u8], path: &[u8], offset: u64, buffer: &[u8]) {
         let result = reference::read(image, path, offset, buffer.len());
         self.fill(Entry::Read, image, path, buffer, result, |image, path, buffer| {
             library::read(image, path, offset, buffer)
         });
+        self.read_next(image, path, offset, buffer);
+    }
+
+    /// A reader's read. Gives the reference's number and the place after it.
+    pub fn read_next(
+        &mut self,
+        image: &[u8],
+        path: &[u8],
+        place: u64,
+        buffer: &[u8],
+    ) -> (u32, u64) {
+        let (mut got, mut expected) = (place, place);
+        let result = reference::read_next(image, path, &mut expected, buffer.len());
+        let number = number_of(&result);
+        self.fill(Entry::ReadNext, image, path, buffer, result, |image, path, buffer| {
+            library::read_next(image, path, &mut got, buffer)
+        });
+        self.report.agree("the place after a read", got, expected);
+        (number, expected)
     }
 
     pub fn read_attributes(&mut self, image: &[u8], path: &[u8], buffer: &[u8]) {
@@ -216,6 +236,36 @@ impl Tester {
         troubles.extend(pair.troubles(after));
         self.report.call(entry, number, troubles);
         number
+    }
+
+    /// An append. Gives the reference's number.
+    pub fn append(&mut self, state: &State, a: &Append) -> u32 {
+        let mut pair = self.lend_pair(state);
+        self.append_in(&mut pair, state, a)
+    }
+
+    pub fn append_in(&mut self, pair: &mut Pair, state: &State, a: &Append) -> u32 {
+        let (got, mut troubles) = self.make_append(pair, a);
+        let result = reference::append(state, a);
+        let number = number_of(&result);
+        let record = result.as_ref().map_or(0, |a| a.record);
+        let after = result.as_ref().map_or(state, |a| &a.state);
+        troubles.push(unequal(got, ffi::Changed { number, record }));
+        troubles.extend(pair.troubles(after));
+        self.report.call(Entry::Append, number, troubles);
+        number
+    }
+
+    /// Makes an append on lent buffers: the answer, and what happened to the
+    /// buffers that are only read.
+    pub fn make_append(
+        &mut self,
+        pair: &mut Pair,
+        a: &Append,
+    ) -> (ffi::Changed, Vec<Option<String>>) {
+        let (path, piece) = (self.lend(&a.path), self.lend(&a.piece));
+        let got = pair.append(&path, &piece, a.time);
+        (got, vec![path.trouble("path", &a.path), piece.trouble("piece", &a.piece)])
     }
 
     /// A list of writes. Gives the reference's number.

@@ -3,17 +3,19 @@
 //! the volume under test. (The rules call it a sheet, and its changes rows.)
 
 use crate::journal::{apply, State};
+use crate::pieces::{append, piece_write, Append};
 use crate::volume::{look_in_place, lookup, read, read_attributes, Change, Found};
 use crate::write_list::{write_list, writes};
 use crate::{check, Refusal};
 use std::ops::Range;
 
 /// A call of a run, with what it brings. A list of writes is no change itself;
-/// each write of it that is done is one.
+/// each write of it that is done is one. So is the write of a piece.
 #[derive(Clone, Debug)]
 pub enum Call {
     Change(Change),
     WriteList(Vec<u8>),
+    Append(Append),
     Undo,
     Check,
     Lookup { path: Vec<u8> },
@@ -77,6 +79,7 @@ impl Replay {
         match call {
             Call::Change(change) => self.change(change),
             Call::WriteList(list) => self.write_list(list),
+            Call::Append(a) => self.append(a),
             Call::Undo => self.undo(),
             look => look_at(&self.replayed.image, look),
         }
@@ -99,6 +102,18 @@ impl Replay {
         self.standing.extend(done.map(Change::Write));
         self.replayed = listed.state;
         Answer::Listed { number: listed.number, done: listed.done }
+    }
+
+    fn append(&mut self, a: &Append) -> Answer {
+        match append(&self.replayed, a) {
+            Err(number) => Answer::Changed { number, slot: 0, record: 0 },
+            Ok(appended) => {
+                let write = piece_write(&self.replayed.image, a);
+                self.standing.extend((!a.piece.is_empty()).then_some(Change::Write(write)));
+                self.replayed = appended.state;
+                Answer::Changed { number: 0, slot: 0, record: appended.record }
+            }
+        }
     }
 
     fn undo(&mut self) -> Answer {
@@ -137,7 +152,9 @@ fn look_at(image: &[u8], call: &Call) -> Answer {
             let range = look_in_place(image, path, *index);
             Answer::Part { bytes: image[range.clone()].to_vec(), range }
         }
-        Call::Change(_) | Call::WriteList(_) | Call::Undo => unreachable!("not a look"),
+        Call::Change(_) | Call::WriteList(_) | Call::Append(_) | Call::Undo => {
+            unreachable!("not a look")
+        }
     }
 }
 

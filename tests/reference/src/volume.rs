@@ -302,7 +302,12 @@ fn delete_directory(image: &[u8], d: &DeleteDirectory) -> Result<Changed, Refusa
 }
 
 fn write(image: &[u8], w: &Write) -> Result<Changed, Refusal> {
-    let place = place(&w.path, Want::File, w.data.len() <= MAX_DATA)?;
+    write_at_most(image, w, MAX_DATA)
+}
+
+/// A write that may bring so many bytes.
+pub fn write_at_most(image: &[u8], w: &Write, most: usize) -> Result<Changed, Refusal> {
+    let place = place(&w.path, Want::File, w.data.len() <= most)?;
     let file = place.find(image, Want::File)?;
     if w.offset > u64::from(file.size) {
         return Err(12);

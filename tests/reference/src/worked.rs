@@ -2,7 +2,7 @@
 //! this crate and for those that hold another implementation against it.
 
 use crate::{
-    format, start, Change, ClearAttributes, ClearFlags, Create, CreateDirectory, Delete,
+    format, start, Append, Change, ClearAttributes, ClearFlags, Create, CreateDirectory, Delete,
     DeleteDirectory, Refusal, SetAttributes, State, Write,
 };
 
@@ -27,6 +27,10 @@ pub fn create(path: &[u8]) -> Change {
 
 pub fn write(path: &[u8], offset: u64, data: &[u8]) -> Change {
     Change::Write(Write { path: path.to_vec(), offset, data: data.to_vec(), time: 9 })
+}
+
+pub fn piece(path: &[u8], bytes: &[u8]) -> Append {
+    Append { path: path.to_vec(), piece: bytes.to_vec(), time: 9 }
 }
 
 /// The list of these writes; an offset has 32 bits here, and a path's length 16.

@@ -1,4 +1,4 @@
-use Rattle.bulgefs.proofs.Bounds.{read-case}
+use Rattle.reader.proofs.Laws.{read-case}
 use mathlib.Core.Path.{ap}
 use native.Mathlib.Omega.{arith}
 use Rattle.layout.specs.Looks.{ReadAnswer}

@@ -24,6 +24,7 @@ fn every_call(rng: &mut Rng, t: &mut Tester, sound: &[u8], image: &[u8]) {
         t.change(&state, &change);
     }
     t.write_list(&state, &any_list(rng, sound));
+    t.append(&state, &any_append(rng, sound));
     t.undo(&state);
     // Its own suites make most salvages.
     if rng.once_in(4) {
@@ -138,6 +139,7 @@ pub fn journals(rng: &mut Rng, _: u64, t: &mut Tester) {
             t.change(&state, &change);
         }
         t.write_list(&state, &any_list(rng, &state.image));
+        t.append(&state, &any_append(rng, &state.image));
         t.undo(&state);
     }
     other_image(rng, t);
@@ -162,6 +164,7 @@ fn other_image(rng: &mut Rng, t: &mut Tester) {
             t.change(&state, &change);
         }
         t.write_list(&state, &any_list(rng, &state.image));
+        t.append(&state, &any_append(rng, &state.image));
         t.undo(&state);
     }
 }
@@ -186,6 +189,7 @@ fn noisy_journal(rng: &mut Rng, t: &mut Tester) {
             t.change(&state, &change);
         }
         t.write_list(&state, &any_list(rng, &state.image));
+        t.append(&state, &any_append(rng, &state.image));
         t.undo(&state);
     }
 }

@@ -10,6 +10,7 @@ mod lists;
 mod names;
 mod order;
 mod orders;
+mod pieces;
 mod runs;
 mod salvage;
 mod scripts;
@@ -52,6 +53,8 @@ pub const SUITES: &[Suite] = &[
     Suite { name: "salvage_largest", rounds: |_| 1, run: salvage::largest },
     Suite { name: "lists", rounds: |n| n.div_ceil(5), run: lists::run },
     Suite { name: "list_forms", rounds: |_| 1, run: lists::forms },
+    Suite { name: "pieces", rounds: |n| n.div_ceil(2), run: pieces::run },
+    Suite { name: "pieces_long", rounds: |n| n.div_ceil(250), run: pieces::long },
     Suite { name: "order", rounds: |n| n.div_ceil(25), run: order::all },
     Suite { name: "orders", rounds: |n| n, run: orders::run },
     Suite { name: "kept", rounds: |n| n.div_ceil(5), run: kept::run },

@@ -11,7 +11,8 @@ use crate::{damage, journals};
 use reference::layout::*;
 use reference::path::Want;
 use reference::{
-    Change, ClearAttributes, ClearFlags, Delete, DeleteDirectory, SetAttributes, State, Write,
+    Append, Change, ClearAttributes, ClearFlags, Delete, DeleteDirectory, SetAttributes, State,
+    Write,
 };
 
 pub fn all(rng: &mut Rng, _: u64, t: &mut Tester) {
@@ -19,6 +20,7 @@ pub fn all(rng: &mut Rng, _: u64, t: &mut Tester) {
     looks(rng, t);
     creates(rng, t);
     writes(rng, t);
+    appends(rng, t);
     deletes(rng, t);
     directory_creates(rng, t);
     directory_deletes(rng, t);
@@ -301,6 +303,34 @@ fn writes(rng: &mut Rng, t: &mut Tester) {
         let change = Change::Write(Write { path, offset, data, time: any_time(rng) });
         let stage = maybe_damage(rng, &reasons, &mut image);
         compare(t, &State { image, journal }, &change, lowest(&reasons, stage));
+    }
+}
+
+/// Pieces, and an empty one in each place. That one takes no block and has no
+/// record, so 14 and 15 are no reason to refuse it.
+fn appends(rng: &mut Rng, t: &mut Tester) {
+    for reasons in subsets(&[1, 8, 9, 17, 10, 14, 15]) {
+        t.report.about(format!("append, reasons {reasons:?}"));
+        let mut image = image_for(rng, &reasons);
+        let journal = journal_for(rng, &reasons, &image, 2);
+        let big = reasons.contains(&9) && rng.once_in(2);
+        let bad = reasons.contains(&9) && !big;
+        let path = path_for(rng, &reasons, &image, Want::File, bad);
+        let length = match (big, reasons.contains(&14)) {
+            (true, _) => rng.between(4097, 5000),
+            (_, true) => rng.between(512, 4096),
+            _ => rng.between(1, 4096),
+        };
+        let whole = Append { path, piece: rng.bytes(length), time: any_time(rng) };
+        let stage = maybe_damage(rng, &reasons, &mut image);
+        let state = State { image, journal };
+        let number = t.append(&state, &whole);
+        t.report.agree("plan", number, lowest(&reasons, stage));
+        let concern = |&reason: &u32| ![14, 15].contains(&reason) && (reason != 9 || bad);
+        let left: Vec<u32> = reasons.iter().copied().filter(concern).collect();
+        t.report.about(format!("append of an empty piece, reasons {reasons:?}"));
+        let number = t.append(&state, &Append { piece: vec![], ..whole });
+        t.report.agree("plan", number, lowest(&left, stage));
     }
 }
 

@@ -83,8 +83,16 @@ pub fn long(rng: &mut Rng, _: u64, t: &mut Tester) {
     play(rng, t, image, 500_000, &MIXES[0], 600);
 }
 
-/// A call of a run, or now and then a list of writes.
-pub fn any_step(rng: &mut Rng, replay: &Replay, mix: &Mix) -> Call {
+/// A call of a run, or now and then a list of writes or a piece.
+fn any_step(rng: &mut Rng, replay: &Replay, mix: &Mix) -> Call {
+    match rng.below(10) {
+        0 => Call::Append(any_append(rng, &replay.replayed().image)),
+        _ => any_scripted(rng, replay, mix),
+    }
+}
+
+/// A call that a script has an op for.
+pub fn any_scripted(rng: &mut Rng, replay: &Replay, mix: &Mix) -> Call {
     match rng.below(12) {
         0 => Call::WriteList(any_list(rng, &replay.replayed().image)),
         _ => any_call(rng, replay, mix),
@@ -178,6 +186,7 @@ fn brief(call: &Call) -> String {
         Call::Change(ClearAttributes(_)) => "clear of attributes".into(),
         Call::Change(ClearFlags(_)) => "clear of flags".into(),
         Call::WriteList(list) => format!("list of {} bytes", list.len()),
+        Call::Append(a) => format!("piece of {} bytes", a.piece.len()),
         Call::Undo => "undo".into(),
         Call::Check => "check".into(),
         Call::Lookup { .. } => "lookup".into(),
@@ -248,6 +257,11 @@ fn call_library(
             let answer = Answer::Listed { number: got.number, done: got.done };
             (Entry::WriteList, answer, vec![lent.trouble("list", list)])
         }
+        Call::Append(a) => {
+            let (got, troubles) = t.make_append(pair, a);
+            let answer = Answer::Changed { number: got.number, slot: 0, record: got.record };
+            (Entry::Append, answer, troubles)
+        }
         Call::Undo => {
             let got = pair.undo();
             let answer = Answer::Changed { number: got.number, slot: 0, record: got.record };
@@ -282,7 +296,9 @@ fn look_with_library(image: &Lent, call: &Call) -> (Entry, Answer, Vec<Option<St
             let bytes = image.content().get(range.clone()).map_or(vec![], |part| part.to_vec());
             (Entry::LookInPlace, Answer::Part { range, bytes }, vec![lent.trouble("path", path)])
         }
-        Call::Change(_) | Call::WriteList(_) | Call::Undo => unreachable!("not a look"),
+        Call::Change(_) | Call::WriteList(_) | Call::Append(_) | Call::Undo => {
+            unreachable!("not a look")
+        }
     }
 }
 

@@ -1,7 +1,7 @@
 //! Scripts: runs of calls through the program that runs a script on a fresh
 //! volume, held against the reference's replay. docs/SCRIPT.md has the form.
 
-use super::runs::{any_step, Mix, MIXES};
+use super::runs::{any_scripted, Mix, MIXES};
 use crate::arguments::any_path;
 use crate::lent::difference;
 use crate::rng::Rng;
@@ -123,7 +123,7 @@ impl Script {
 fn any_script(rng: &mut Rng, mix: &Mix) -> Script {
     let mut script = Script::new();
     for _ in 0..rng.between(0, 60) {
-        let call = any_step(rng, &script.replay, mix);
+        let call = any_scripted(rng, &script.replay, mix);
         let item = item_of(rng, &call).len();
         if script.bytes.len() + item > SCRIPT - 2 * ANSWERS
             || script.answers.len() + answer_size(&call) > ANSWERS - 16
@@ -215,6 +215,7 @@ fn item_of(rng: &mut Rng, call: &Call) -> Vec<u8> {
         Call::ReadAttributes { path, buffer } => (13, path, buffer),
         Call::Change(Change::ClearFlags(c)) => (14, &c.path, &[]),
         Call::WriteList(list) => (15, &[], list),
+        Call::Append(_) => unreachable!("a script has no op for a piece"),
     };
     header[0] = op;
     put_number(&mut header, PATH_LENGTH, path.len() as u32);

@@ -54,6 +54,7 @@ pub fn calls(rng: &mut Rng, _: u64, t: &mut Tester) {
             t.change(&state, &change);
         }
         t.write_list(&state, &any_list(rng, &image));
+        t.append(&state, &any_append(rng, &image));
         t.undo(&state);
     }
     exact_room(rng, t, &image);
