@@ -1,0 +1,100 @@
+/* back.c - takes steps back. */
+#include <stdlib.h>
+#include <string.h>
+
+#include "look.h"
+
+/* What goes: so many steps, so many records, the last of which has the number last. */
+typedef struct { uint32_t steps; size_t records, last; } share;
+
+/* How many records the last steps have. */
+static size_t records_of(const record_list *list, uint32_t steps)
+{
+    size_t count = 0;
+    while (count < list->count && list->records[list->count - 1 - count].step > list->steps - steps) count++;
+    return count;
+}
+
+static int undo(store *s, const share *goes)
+{
+    bytes after = copy_bytes(&s->image);
+    uint32_t number = BULGEFS_OK;
+    size_t done = 0;
+    while (done < goes->records && !number) {
+        number = undo_record(&s->image, &s->journal, &after, NULL, NULL);
+        if (!number) done++;
+    }
+    free(after.bytes);
+    return number ? refuse_record(s, number, goes->last - done) : DONE;
+}
+
+static int show(void *ctx, const change *one)
+{
+    put_change(ctx, one);
+    return 0;
+}
+
+static void say_taken(const char *words, const share *gone)
+{
+    printf("%s %u %s, %zu %s\n", words, (unsigned)gone->steps, gone->steps == 1 ? "step" : "steps",
+           gone->records, gone->records == 1 ? "record" : "records");
+}
+
+/* Says what the undo of the records changes. */
+static int try_back(store *s, const share *goes)
+{
+    bytes before = copy_bytes(&s->image);
+    int status = undo(s, goes);
+    if (!status) {
+        changes_each(&before, &s->image, show, stdout);
+        say_taken("would take back", goes);
+    }
+    free(before.bytes);
+    return status;
+}
+
+static int do_back(store *s, const share *goes)
+{
+    int status = undo(s, goes);
+    if (status) return status;
+    steps_cut(s);
+    status = store_commit(s);
+    if (!status) say_taken("took back", goes);
+    return status;
+}
+
+/* wanted 0 is all steps. */
+static int weigh(const store *s, uint32_t wanted, share *goes)
+{
+    record_list list;
+    uint32_t number = bulgefs_check(s->image.bytes, s->image.length);
+    if (number) return refuse(number, s->path);
+    number = steps_list(&s->journal, &s->steps, s->image.length, &list);
+    if (!number && !list.steps) number = BULGEFS_NOTHING_TO_UNDO;
+    if (number) return refuse(number, s->journal_path);
+    goes->steps = wanted ? wanted : list.steps;
+    goes->records = goes->steps <= list.steps ? records_of(&list, goes->steps) : 0;
+    goes->last = list.count;
+    free(list.records);
+    if (goes->records) return DONE;
+    say("%s: refused (%u): it holds just %u %s; nothing was changed", s->journal_path, (unsigned)BULGEFS_NOTHING_TO_UNDO,
+        (unsigned)list.steps, list.steps == 1 ? "step" : "steps");
+    return REFUSED;
+}
+
+int command_back(int argc, char **argv, const options *o)
+{
+    int all = take_flag(&argc, argv, "--all"), dry = take_flag(&argc, argv, "--dry-run"), status;
+    uint64_t steps = 1;
+    share goes;
+    store s;
+    if (!good_arguments(&argc, argv, 1, all ? 1 : 2)) return usage("back VOLUME [N|--all] [--dry-run]");
+    if (argc > 2 && read_number(argv[2], "N", 1, UINT32_MAX, &steps)) return FAILED;
+    status = store_open(&s, argv[1], o->journal, dry ? LOOK : CHANGE);
+    if (status) return status;
+    status = need_journal(&s);
+    if (!status) status = weigh(&s, all ? 0 : (uint32_t)steps, &goes);
+    if (!status) status = dry ? try_back(&s, &goes) : do_back(&s, &goes);
+    store_close(&s);
+    return status;
+}

@@ -1,0 +1,82 @@
+# Completion for bash: source this file, or put it as "bulgefs" into the folder of bash completions.
+
+# Words of a list of lines that begin with what is typed.
+_bulgefs_words() {
+    local IFS=$'\n'
+    mapfile -t COMPREPLY < <(compgen -W "$1" -- "$2")
+}
+
+_bulgefs_files() {
+    compopt -o filenames 2>/dev/null
+    mapfile -t COMPREPLY < <(compgen -f -- "$1")
+}
+
+# The entries of the directory that the path typed so far leads to.
+_bulgefs_paths() {
+    local volume=$1 typed=$2 folder name path
+    local -a names=()
+    [[ $typed == /* ]] || typed=/
+    folder=${typed%/*}
+    COMPREPLY=()
+    while IFS= read -r name; do
+        path=$folder/${name##*/}
+        [[ $name == */ ]] && name=${name%/} && path=$folder/${name##*/}/
+        [[ $path == "$typed"* ]] && names+=("$(printf '%q' "$path")")
+    done < <(bulgefs ls "$volume" "${folder:-/}" 2>/dev/null)
+    compopt -o nospace 2>/dev/null
+    COMPREPLY=("${names[@]}")
+}
+
+# What may stand after the command: its number of plain words so far says which.
+_bulgefs_argument() {
+    local command=$1 volume=$2 count=$3 typed=$4
+    case $command:$count in
+    *:0 | put:2 | get:2 | salvage:1 | report:1 | diff:1 | attr:3) _bulgefs_files "$typed" ;;
+    ls:1 | info:1 | cat:1 | get:1 | put:1 | rm:* | mkdir:1 | rmdir:* | attr:1) _bulgefs_paths "$volume" "$typed" ;;
+    attr:2) _bulgefs_words $'get\nset\nclear' "$typed" ;;
+    esac
+}
+
+_bulgefs_options() {
+    case $1 in
+    format) _bulgefs_words $'--root\n--name\n--uuid\n--journal\n--help' "$2" ;;
+    start) _bulgefs_words $'--journal\n--help' "$2" ;;
+    back) _bulgefs_words $'--all\n--dry-run\n--help' "$2" ;;
+    ls) _bulgefs_words $'-l\n-R\n--help' "$2" ;;
+    map) _bulgefs_words $'--all\n--svg\n--help' "$2" ;;
+    '') _bulgefs_words $'-j\n--json\n--help\n--version' "$2" ;;
+    *) _bulgefs_words --help "$2" ;;
+    esac
+}
+
+_bulgefs() {
+    local typed=${COMP_WORDS[COMP_CWORD]} before=${COMP_WORDS[COMP_CWORD - 1]} command='' volume='' count=0 i
+    COMPREPLY=()
+    for ((i = 1; i < COMP_CWORD; i++)); do
+        case ${COMP_WORDS[i]} in
+        -j | --root | --name | --uuid | --journal | --svg) i=$((i + 1)) ;;
+        -?*) ;;
+        *)
+            if [[ -z $command ]]; then
+                command=${COMP_WORDS[i]}
+            else
+                [[ -n $volume ]] || volume=${COMP_WORDS[i]}
+                count=$((count + 1))
+            fi
+            ;;
+        esac
+    done
+    case $before in
+    -j | --svg) _bulgefs_files "$typed" && return ;;
+    --root | --name | --uuid | --journal) return ;;
+    esac
+    if [[ $typed == -?* ]]; then
+        _bulgefs_options "$command" "$typed"
+    elif [[ -z $command ]]; then
+        _bulgefs_words $'format\nls\ninfo\ncheck\ncat\nget\nput\nrm\nmkdir\nrmdir\nattr\nstart\nlog\nback\nsalvage\nmap\nreport\ndiff' "$typed"
+    else
+        _bulgefs_argument "$command" "$volume" "$count" "$typed"
+    fi
+}
+
+complete -F _bulgefs bulgefs

@@ -1,0 +1,16 @@
+/* page.h - the parts of the report's page. */
+#ifndef BULGEFS_PAGE_H
+#define BULGEFS_PAGE_H
+
+#include "look.h"
+
+/* A number with commas between its thousands. */
+void page_number(FILE *out, uint64_t number);
+/* A path, its directories paler than its name. */
+void page_path(FILE *out, const char *path, int directory);
+void page_head(FILE *out, const char *title);
+void page_end(FILE *out);
+/* The journal as a line of steps, the one that Back takes first on top. */
+void page_journal(FILE *out, const store *s);
+
+#endif

@@ -1,0 +1,106 @@
+/* put.c - makes a file of the volume what a file outside is, in one step. */
+#include <stdlib.h>
+#include <string.h>
+
+#include "look.h"
+
+enum { ITEM_HEAD = 18, LONGEST = BULGEFS_BLOCK_SIZE * BULGEFS_MAX_BLOCKS };
+
+typedef struct { store *s; const uint8_t *path; size_t path_length; uint64_t time; const bytes *data; } job;
+
+static uint8_t *put_item(uint8_t *to, const job *j, size_t offset, size_t length)
+{
+    put_number(to, (uint32_t)(ITEM_HEAD + j->path_length + length));
+    put_number(to + 4, (uint32_t)(j->time >> 32));
+    put_number(to + 8, (uint32_t)j->time);
+    put_number(to + 12, (uint32_t)offset);
+    to[16] = (uint8_t)(j->path_length >> 8);
+    to[17] = (uint8_t)j->path_length;
+    memcpy(to + ITEM_HEAD, j->path, j->path_length);
+    memcpy(to + ITEM_HEAD + j->path_length, j->data->bytes + offset, length);
+    return to + ITEM_HEAD + j->path_length + length;
+}
+
+/* As many writes as a list holds, from offset on; gives the offset behind them, and the refusal. */
+static size_t write_some(const job *j, size_t offset, uint32_t *number)
+{
+    static uint8_t list[BULGEFS_MAX_LIST];
+    uint8_t *end = list + BULGEFS_LIST_HEAD;
+    bulgefs_listed done;
+    do {
+        size_t left = j->data->length - offset, length = left < BULGEFS_MAX_DATA ? left : BULGEFS_MAX_DATA;
+        end = put_item(end, j, offset, length);
+        offset += length;
+    } while (offset < j->data->length && (size_t)(list + sizeof list - end) >= ITEM_HEAD + j->path_length + BULGEFS_MAX_DATA);
+    list[0] = 1;
+    put_number(list + 1, (uint32_t)(end - list));
+    done = bulgefs_write_list(j->s->image.bytes, j->s->image.length, j->s->journal.bytes, j->s->journal.length, list, (size_t)(end - list));
+    *number = done.number;
+    return offset;
+}
+
+/* Writes all data; of no data one write, which sets the time. */
+static uint32_t write_data(const job *j)
+{
+    uint32_t number;
+    size_t offset = write_some(j, 0, &number);
+    while (!number && offset < j->data->length) offset = write_some(j, offset, &number);
+    return number;
+}
+
+static uint32_t create(const job *j, const entry *as)
+{
+    return bulgefs_create(j->s->image.bytes, j->s->image.length, j->s->journal.bytes, j->s->journal.length, j->path, j->path_length,
+                          as->type, as->user, as->group, as->permissions, 0, j->time).number;
+}
+
+/* A file cannot become shorter, so it goes and comes again. */
+static uint32_t replace(const job *j, const entry *old)
+{
+    uint8_t attributes[BULGEFS_MAX_ATTRIBUTE_BLOCKS * BULGEFS_BLOCK_SIZE];
+    bytes *image = &j->s->image, *journal = &j->s->journal;
+    bulgefs_filled kept = bulgefs_read_attributes(image->bytes, image->length, j->path, j->path_length, attributes, sizeof attributes);
+    uint32_t number = kept.number;
+    if (!number) number = bulgefs_delete(image->bytes, image->length, journal->bytes, journal->length, j->path, j->path_length).number;
+    if (!number) number = create(j, old);
+    if (!number && j->data->length) number = write_data(j);
+    if (number || !kept.count) return number;
+    return bulgefs_set_attributes(image->bytes, image->length, journal->bytes, journal->length, j->path, j->path_length,
+                                  attributes, kept.count).number;
+}
+
+static uint32_t put(const job *j, const char *path)
+{
+    entry fields = { .type = BULGEFS_PLAIN_FILE };
+    bulgefs_found found = bulgefs_lookup(j->s->image.bytes, j->s->image.length, j->path, j->path_length);
+    uint32_t number = found.number;
+    if (number && number != BULGEFS_NOT_FOUND) return number;
+    if (number) {
+        number = create(j, &fields);
+        return number || !j->data->length ? number : write_data(j);
+    }
+    if (j->data->length >= found.size) return write_data(j);
+    number = view_find(&j->s->image, path, &fields);
+    return number ? number : replace(j, &fields);
+}
+
+static int put_all(store *s, const char *path, const bytes *data, uint64_t time)
+{
+    job j = { s, (const uint8_t *)path, strlen(path), time, data };
+    uint32_t number = data->length > LONGEST ? BULGEFS_VOLUME_FULL : j.path_length > BULGEFS_MAX_PATH ? BULGEFS_BAD_ARGUMENT : put(&j, path);
+    return store_finish(s, number ? refuse(number, path) : DONE);
+}
+
+int command_put(int argc, char **argv, const options *o)
+{
+    bytes data;
+    uint64_t time;
+    store s;
+    int status;
+    if (!good_arguments(&argc, argv, 3, 3)) return usage("put VOLUME PATH FILE|-");
+    if (read_time(&time) || read_input(argv[3], LONGEST, &data)) return FAILED;
+    status = store_open(&s, argv[1], o->journal, CHANGE);
+    if (!status) status = put_all(&s, argv[2], &data, time);
+    free(data.bytes);
+    return status;
+}

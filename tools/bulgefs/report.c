@@ -1,0 +1,174 @@
+/* report VOLUME FILE.html: one page about a volume, its files, its blocks and its journal. */
+#include <inttypes.h>
+#include <stdlib.h>
+#include <string.h>
+
+#include "page.h"
+
+#define SHOWN_ENTRIES 5000u
+
+typedef struct { FILE *out; const store *s; listing list; block_use *blocks; totals sum; } report;
+
+static void put_card(FILE *out, uint64_t number, const char *unit, const char *words)
+{
+    fputs("<div class=\"card\"><b>", out);
+    page_number(out, number);
+    fprintf(out, "%s</b><span>%s</span></div>\n", unit, words);
+}
+
+static void put_journal_cards(const report *r)
+{
+    record_list list = { NULL, 0, 0, 0 };
+    const bytes *journal = &r->s->journal;
+
+    if (journal->bytes == NULL || steps_list(journal, &r->s->steps, r->s->image.length, &list) != 0)
+        return;
+    put_card(r->out, list.steps, "", list.steps == 1 ? "step to take back" : "steps to take back");
+    put_card(r->out, 100 * (uint64_t)list.used / journal->length, "%", "of the journal used");
+    free(list.records);
+}
+
+static void put_cards(const report *r)
+{
+    const bytes *image = &r->s->image;
+    uint32_t n = view_blocks(image), used = view_number(image, 20);
+
+    fputs("<div class=\"cards\">\n", r->out);
+    put_card(r->out, n, "", "blocks of 512 bytes");
+    put_card(r->out, used, "", "blocks used");
+    put_card(r->out, n - used, "", "blocks free");
+    put_card(r->out, r->sum.files, "", r->sum.files == 1 ? "file" : "files");
+    put_card(r->out, r->sum.directories, "", r->sum.directories == 1 ? "directory" : "directories");
+    put_card(r->out, r->sum.file_bytes, "", "bytes in files");
+    put_journal_cards(r);
+    fputs("</div>\n", r->out);
+}
+
+static void put_heading(const report *r, const char *path)
+{
+    const uint8_t *name;
+    size_t length = volume_name(&r->s->image, &name);
+    char title[BULGEFS_VOLUME_NAME_SIZE + 1];
+
+    memcpy(title, name, length);
+    title[length] = 0;
+    page_head(r->out, length == 0 ? path : title);
+    fputs("<h1>", r->out);
+    put_markup(r->out, length == 0 ? path : title);
+    fputs("</h1>\n<div><span class=\"tag\">sound</span> <span class=\"mono pale\">", r->out);
+    put_markup(r->out, path);
+    fputs(" &middot; ", r->out);
+    put_uuid(r->out, &r->s->image);
+    fputs("</span></div>\n", r->out);
+}
+
+static void put_blocks(const report *r)
+{
+    uint32_t n = view_blocks(&r->s->image);
+    cell all = cell_of(r->blocks, n, 0, n);
+    int use;
+
+    fputs("<section>\n<h2>Blocks</h2>\n<div class=\"bar\">", r->out);
+    for (use = 1; use <= USE_KINDS; use++)
+        if (all.counts[use % USE_KINDS] > 0)
+            fprintf(r->out, "<span class=\"u%d\" style=\"width:%.3f%%\" title=\"%s %" PRIu32 "\"></span>",
+                    use % USE_KINDS, 100.0 * all.counts[use % USE_KINDS] / n, use_names[use % USE_KINDS],
+                    all.counts[use % USE_KINDS]);
+    fputs("</div>\n", r->out);
+    map_svg(r->out, &r->s->image, &r->list, r->blocks, 0);
+    fputs("</section>\n", r->out);
+}
+
+static void put_cell_number(FILE *out, uint64_t number, int empty)
+{
+    fputs("<td class=\"n\">", out);
+    if (empty)
+        fputs("<span class=\"pale\">&ndash;</span>", out);
+    else
+        page_number(out, number);
+    fputs("</td>", out);
+}
+
+static void put_row(const report *r, const listed *item)
+{
+    const entry *e = &item->entry;
+    int directory = view_is_directory(e);
+
+    fputs("<tr><td>", r->out);
+    page_path(r->out, item->path, directory);
+    fputs("</td>", r->out);
+    put_cell_number(r->out, e->size, directory);
+    put_cell_number(r->out, e->blocks, 0);
+    put_cell_number(r->out, chain_pieces(&r->s->image, e->first, e->blocks), e->blocks == 0);
+    put_cell_number(r->out, e->attribute_size, e->attribute_size == 0);
+    put_cell_number(r->out, e->flags, e->flags == 0);
+    fprintf(r->out, "<td class=\"t\">0x%02x</td><td class=\"t\">%u : %u</td><td class=\"mono\">", e->type,
+            e->user, e->group);
+    put_permissions(r->out, e->permissions);
+    fputs("</td><td class=\"t\">", r->out);
+    put_time(r->out, e->modified);
+    fputs("</td></tr>\n", r->out);
+}
+
+static void put_files(const report *r)
+{
+    size_t i;
+
+    fputs("<section>\n<h2>Files and directories</h2>\n", r->out);
+    if (r->list.count == 0) {
+        fputs("<p class=\"pale\">The volume is empty.</p>\n</section>\n", r->out);
+        return;
+    }
+    fputs("<div class=\"wide\"><table>\n<tr><th>Path</th><th class=\"n\">Bytes</th>"
+          "<th class=\"n\">Blocks</th><th class=\"n\">Pieces</th><th class=\"n\">Attributes</th><th class=\"n\">Flags</th><th>Type</th>"
+          "<th>User : group</th><th>Permissions</th><th>Modified</th></tr>\n", r->out);
+    for (i = 0; i < r->list.count && i < SHOWN_ENTRIES; i++)
+        put_row(r, &r->list.items[i]);
+    fputs("</table></div>\n", r->out);
+    if (r->list.count > SHOWN_ENTRIES)
+        fprintf(r->out, "<p class=\"pale\">and %zu more</p>\n", r->list.count - SHOWN_ENTRIES);
+    fputs("</section>\n", r->out);
+}
+
+static int write_report(const store *s, const char *path, const char *file)
+{
+    char *text = NULL;
+    size_t length = 0;
+    report r = { open_memstream(&text, &length), s, { NULL, 0, 0 }, NULL, { 0, 0, 0, 0, 0, 0 } };
+    int status;
+
+    if (r.out == NULL)
+        return fail_system(file);
+    r.list = listing_read(&s->image);
+    r.blocks = owners_read(&s->image, &r.list);
+    r.sum = listing_totals(&s->image, &r.list);
+    put_heading(&r, path);
+    put_cards(&r);
+    put_blocks(&r);
+    put_files(&r);
+    page_journal(r.out, s);
+    page_end(r.out);
+    if (fclose(r.out) != 0)
+        status = fail_system(file);
+    else
+        status = write_output(file, (const uint8_t *)text, length);
+    free(r.blocks);
+    listing_free(&r.list);
+    free(text);
+    return status;
+}
+
+int command_report(int argc, char **argv, const options *o)
+{
+    store s;
+    int status;
+
+    if (!good_arguments(&argc, argv, 2, 2))
+        return usage("report VOLUME FILE.html");
+    status = open_sound(&s, argv[1], o);
+    if (status != DONE)
+        return status;
+    status = write_report(&s, argv[1], argv[2]);
+    store_close(&s);
+    return status;
+}

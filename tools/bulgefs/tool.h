@@ -1,0 +1,241 @@
+/*
+ * tool.h - what the parts of the command-line tool share.
+ *
+ * Every function that gives an exit status has said the reason on standard
+ * error when it is not 0.
+ */
+#ifndef BULGEFS_TOOL_H
+#define BULGEFS_TOOL_H
+
+#include <stddef.h>
+#include <stdint.h>
+#include <stdio.h>
+
+#include "bulgefs.h"
+
+/* Exit statuses. */
+enum { DONE = 0, REFUSED = 1, FAILED = 2 };
+
+/* A run of bytes in memory.  A file that does not exist has bytes NULL. */
+typedef struct { uint8_t *bytes; size_t length; } bytes;
+
+/* What stands in front of the command. */
+typedef struct { const char *journal; int json; } options;
+
+/* ---- say.c: words, numbers, time and memory ---- */
+
+/* The library's words and number, after what was tried; gives REFUSED. */
+int refuse(uint32_t number, const char *what);
+/* The words of errno, after what was tried; gives FAILED. */
+int fail_system(const char *what);
+/* How a command is used, its name first; gives FAILED. */
+int usage(const char *words);
+/* Words of the tool's own, in the form of printf, after "bulgefs: ". */
+void say(const char *form, ...)
+#if defined(__GNUC__)
+    __attribute__((format(printf, 1, 2)))
+#endif
+    ;
+/* A decimal number from low to high; 0, or FAILED with words that name it. */
+int read_number(const char *text, const char *name, uint64_t low, uint64_t high, uint64_t *number);
+/* Now in milliseconds since 1970 began (UTC), or the number in BULGEFS_TIME. */
+int read_time(uint64_t *time);
+/* Memory of so many bytes, all zero; ends the tool with FAILED if there is none. */
+void *take_memory(size_t length);
+/* More memory, as realloc; ends the tool with FAILED if there is none. */
+void *take_more(void *old, size_t length);
+bytes copy_bytes(const bytes *from);
+/* Big-endian numbers. */
+uint32_t number_at(const uint8_t *from);
+uint64_t time_at(const uint8_t *from);
+void put_number(uint8_t *to, uint32_t number);
+
+/* ---- sys.c: every operation that changes a file ---- */
+
+/* As the system's own: 0 or a descriptor, and -1 with errno. Writes are whole. */
+int sys_open_new(const char *path);                /* must not exist */
+int sys_write(int file, const void *from, size_t length);
+int sys_pwrite(int file, const void *from, size_t length, uint64_t offset);
+int sys_truncate(int file, uint64_t length);
+int sys_reserve(int file, uint64_t offset, uint64_t length);   /* room on the disk; no byte changes within the file */
+int sys_fsync(int file);
+int sys_rename(const char *from, const char *to);
+int sys_unlink(const char *path);
+int sys_fsync_folder(const char *path);            /* the folder that holds path */
+/* Prints the count of operations, if it is wanted (BULGEFS_FAULTS). */
+void sys_finish(void);
+
+/* These change nothing. */
+int sys_exists(const char *path);
+/*
+ * A whole plain file, at most limit bytes; longer ones give limit + 1.  A
+ * missing one is bytes NULL if missing_too, otherwise FAILED.
+ */
+int read_file(const char *path, size_t limit, int missing_too, bytes *into);
+/* As read_file, and "-" is standard input. */
+int read_input(const char *path, size_t limit, bytes *into);
+/* A new file of these bytes, or standard output for "-".  Never over an existing file. */
+int write_output(const char *path, const uint8_t *from, size_t length);
+
+/* ---- redo.c: a change of several files, written down before it is made ---- */
+
+enum { FILES = 3 };
+typedef struct { bytes before, after; } version;
+/*
+ * The content of a redo file that takes the files from before to after, and
+ * names the journal's path ("" is VOLUME.journal).  Length 0 if nothing changes.
+ */
+bytes redo_make(const version files[FILES], const char *journal_path);
+/* The journal's path in a redo file; NULL if the file is not whole. */
+char *redo_journal_path(const bytes *redo);
+/* Makes sure that the files can be written and have room on the disk; no byte changes. */
+int redo_reserve(const bytes *redo, const char *const paths[FILES]);
+/* Makes the files what the redo file says.  Made again it does the same. */
+int redo_apply(const bytes *redo, const char *const paths[FILES]);
+
+/* ---- store.c: volume, journal and steps as one ---- */
+
+typedef enum { LOOK, CHANGE, START } store_mode;
+
+typedef struct {
+    char *path, *journal_path, *steps_path, *redo_path, *redo_new_path, *lock_path;
+    char *redo_journal;                /* the journal's path in a redo file */
+    bytes image, journal, steps;       /* what the files shall be */
+    bytes old_image, old_journal, old_steps;
+    int lock;
+    store_mode mode;
+} store;
+
+/*
+ * Takes the lock, recovers, reads the three files.  journal NULL is VOLUME.journal.
+ * LOOK: shared lock; a missing journal has bytes NULL.  CHANGE: a journal must be
+ * there.  START: as CHANGE, and the journal may be missing.  On an exit status
+ * other than 0 nothing is left open.
+ */
+int store_open(store *, const char *path, const char *journal, store_mode mode);
+/* A volume that is not there yet: all of its files must be missing. */
+int store_create(store *, const char *path, const char *journal);
+/* Makes the files what the memory is, all of them or none.  Then only close it. */
+int store_commit(store *);
+/* Words for a journal that is not there, which a look may do without; 0 or FAILED. */
+int need_journal(const store *);
+/* Ends a change: if its status is 0, what it did becomes one step on the files. */
+int store_finish(store *, int status);
+void store_close(store *);
+/* A volume that is not there yet, of this image, with a journal just started. */
+int store_new(const char *path, const char *journal, const bytes *image, size_t journal_length);
+/* The length that the journal has, if a journal may have it, or else the usual one. */
+size_t same_journal(const store *);
+/* The length of a journal with room for a change of the whole image, twice, and 1 MiB more. */
+uint32_t usual_journal(size_t image_length);
+
+/* ---- steps.c: which records are one step ---- */
+
+/*
+ * VOLUME.steps holds 4-byte numbers: the journal's used length before each step
+ * of this tool, and after the last one.  A record outside of these is a step of
+ * its own; so is every record if the numbers do not fit the journal.
+ */
+typedef struct { uint32_t start, length, blocks, step; } record;   /* step counts from 1 */
+typedef struct { record *records; size_t count; uint32_t used, steps; } record_list;
+
+/* The records, oldest first; 0, or BULGEFS_BAD_JOURNAL.  Free records after use. */
+uint32_t steps_list(const bytes *journal, const bytes *steps, size_t image_length, record_list *);
+/* Adds what the journal got since the store was opened as one step. */
+void steps_add(store *);
+/* Cuts the steps that end above the journal's used length. */
+void steps_cut(store *);
+
+/* ---- changes.c: which paths differ between two sound images ---- */
+
+enum { APPEARED = '+', VANISHED = '-', CHANGED = '*' };
+enum {
+    CHANGED_BYTES = 1, CHANGED_ATTRIBUTES = 2, CHANGED_TIMES = 4,
+    CHANGED_TYPE = 8, CHANGED_OWNER = 16, CHANGED_FLAGS = 32, CHANGED_BLOCKS = 64
+};
+typedef struct entry entry;
+/* before is NULL for what appeared, after for what vanished; parts are of CHANGED. */
+typedef struct { int kind; unsigned parts; const char *path; const entry *before, *after; } change;
+typedef int (*each_change)(void *ctx, const change *);
+/*
+ * Calls for each path that differs, in the order of the paths; ends early with
+ * what is not 0.  Bytes and attributes are compared as content, wherever they
+ * lie; CHANGED_BLOCKS is a directory of another size.
+ */
+int changes_each(const bytes *before, const bytes *after, each_change, void *ctx);
+/* The parts in words: "bytes, times". */
+void put_parts(FILE *, unsigned parts);
+/* A line: the kind, the path, and the parts in brackets. */
+void put_change(FILE *, const change *);
+/* An object with change, path and parts. */
+void json_change(FILE *, const change *);
+
+/* ---- undo.c: one undo in memory ---- */
+
+enum { NOT_OF_VOLUME = 255 };
+/*
+ * Takes the last record back and calls for the path that it changed, if any.
+ * after has the image's length and becomes the image of before the undo.  Gives
+ * the library's refusal, or NOT_OF_VOLUME if the result is not sound, has another
+ * header, or differs in more than one path: then the buffers are of no use.
+ */
+uint32_t undo_record(bytes *image, bytes *journal, const bytes *after, each_change, void *ctx);
+/* Words for either, for the record of this number (from 1); gives REFUSED. */
+int refuse_record(const store *, uint32_t number, size_t record);
+
+/* ---- view.c: plain reading of a sound image ---- */
+
+struct entry {
+    uint8_t type, user, group, permissions;
+    uint32_t first, size, blocks, attribute_block, attribute_size, flags;
+    uint64_t created, modified;
+    uint8_t name[81];                  /* a zero follows */
+    size_t name_length;
+    uint32_t slot;
+    size_t offset;                     /* of the entry in the image */
+};
+typedef int (*each_entry)(void *ctx, const char *path, const entry *);
+/*
+ * Calls for each entry of the directory at path ("/" is the root), slots
+ * ascending, a directory before what is in it; for a file just for itself.
+ * Gives 0, or BULGEFS_NOT_FOUND, or what the call gave if that is not 0.
+ */
+int view_each(const bytes *image, const char *path, int recursive, each_entry, void *ctx);
+/* The entry at path, which is not "/": 0 or BULGEFS_NOT_FOUND. */
+uint32_t view_find(const bytes *image, const char *path, entry *);
+int view_is_directory(const entry *);
+/* The block after this one in its chain. */
+uint32_t view_next(const bytes *image, uint32_t block);
+/* A name for a terminal: control bytes and backslash escaped, UTF-8 kept. */
+void put_text(FILE *, const uint8_t *, size_t);
+
+/* ---- json.c ---- */
+
+/* A string with its quotes. */
+void json_string(FILE *, const uint8_t *, size_t);
+/* The same of a text that ends with a zero. */
+void json_text(FILE *, const char *);
+
+/* ---- commands: argv[0] is the command's name, argv[1] the volume ---- */
+
+int command_format(int argc, char **argv, const options *);
+int command_start(int argc, char **argv, const options *);
+int command_put(int argc, char **argv, const options *);
+int command_get(int argc, char **argv, const options *);
+int command_cat(int argc, char **argv, const options *);
+int command_rm(int argc, char **argv, const options *);
+int command_mkdir(int argc, char **argv, const options *);
+int command_rmdir(int argc, char **argv, const options *);
+int command_attr(int argc, char **argv, const options *);
+int command_log(int argc, char **argv, const options *);
+int command_back(int argc, char **argv, const options *);
+int command_salvage(int argc, char **argv, const options *);
+
+int command_ls(int argc, char **argv, const options *);
+int command_info(int argc, char **argv, const options *);
+int command_check(int argc, char **argv, const options *);
+int command_map(int argc, char **argv, const options *);
+int command_report(int argc, char **argv, const options *);
+int command_diff(int argc, char **argv, const options *);
+
+#endif

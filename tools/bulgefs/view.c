@@ -1,0 +1,241 @@
+/*
+ * Plain reading of an image that the library has called sound.  Every number
+ * that is followed is held against the image's length first, so that a wrong
+ * image gives wrong words and never a read outside the bytes lent.
+ */
+#include <string.h>
+
+#include "look.h"
+
+#define SLOT 128u
+#define NAME_AT 48u
+
+uint32_t view_number(const bytes *image, size_t at)
+{
+    const uint8_t *p;
+
+    if (image->length < 4 || at > image->length - 4)
+        return 0;
+    p = image->bytes + at;
+    return (uint32_t)p[0] << 24 | (uint32_t)p[1] << 16 | (uint32_t)p[2] << 8 | p[3];
+}
+
+static uint64_t view_time(const bytes *image, size_t at)
+{
+    return (uint64_t)view_number(image, at) << 32 | view_number(image, at + 4);
+}
+
+uint32_t view_blocks(const bytes *image)
+{
+    return (uint32_t)(image->length / BULGEFS_BLOCK_SIZE);
+}
+
+uint32_t view_table(const bytes *image)
+{
+    return BULGEFS_TABLE_BLOCKS(view_blocks(image));
+}
+
+uint32_t view_next(const bytes *image, uint32_t block)
+{
+    return view_number(image, BULGEFS_BLOCK_SIZE + 4 * (size_t)block);
+}
+
+int view_is_file(const entry *e)
+{
+    return e->type >= BULGEFS_MIN_FILE_TYPE && e->type <= BULGEFS_MAX_FILE_TYPE;
+}
+
+int view_is_directory(const entry *e)
+{
+    return e->type >= BULGEFS_MIN_DIRECTORY_TYPE && e->type <= BULGEFS_MAX_DIRECTORY_TYPE;
+}
+
+entry view_slot(const bytes *image, size_t offset, uint32_t slot)
+{
+    entry e;
+    const uint8_t *p;
+
+    memset(&e, 0, sizeof e);
+    e.slot = slot;
+    e.offset = offset;
+    if (image->length < SLOT || offset > image->length - SLOT)
+        return e;
+    p = image->bytes + offset;
+    e.type = p[0];
+    e.user = p[1];
+    e.group = p[2];
+    e.permissions = p[3];
+    e.first = view_number(image, offset + 4);
+    e.size = view_number(image, offset + 8);
+    e.blocks = view_number(image, offset + 12);
+    e.created = view_time(image, offset + 16);
+    e.modified = view_time(image, offset + 24);
+    e.attribute_block = view_number(image, offset + 32);
+    e.attribute_size = view_number(image, offset + 36);
+    e.flags = view_number(image, offset + 40);
+    while (e.name_length < BULGEFS_MAX_NAME && p[NAME_AT + e.name_length] != 0)
+        e.name_length++;
+    memcpy(e.name, p + NAME_AT, e.name_length);
+    return e;
+}
+
+chain chain_of(const bytes *image, uint32_t first, uint32_t blocks)
+{
+    chain c;
+
+    c.image = image;
+    c.block = first;
+    c.left = blocks;
+    return c;
+}
+
+int chain_step(chain *c, uint32_t *block)
+{
+    if (c->left == 0 || c->block <= view_table(c->image) || c->block >= view_blocks(c->image))
+        return 0;
+    *block = c->block;
+    c->left--;
+    c->block = view_next(c->image, c->block);
+    return 1;
+}
+
+uint32_t chain_pieces(const bytes *image, uint32_t first, uint32_t blocks)
+{
+    chain c = chain_of(image, first, blocks);
+    uint32_t block, last = 0, pieces = 0;
+
+    while (chain_step(&c, &block)) {
+        pieces += pieces == 0 || block != last + 1;
+        last = block;
+    }
+    return pieces;
+}
+
+entry view_root(const bytes *image)
+{
+    uint32_t first = view_table(image) + 1;
+    entry e = view_slot(image, BULGEFS_BLOCK_SIZE * (size_t)first, 0);
+
+    e.type = BULGEFS_PLAIN_DIRECTORY;
+    e.first = first;
+    e.size = 0;
+    e.name_length = 0;
+    e.name[0] = 0;
+    return e;
+}
+
+/* Gives the entries of a directory in ascending order of slots. */
+typedef struct { chain blocks; uint32_t block, slot, end; } slots;
+
+static slots slots_of(const bytes *image, const entry *directory)
+{
+    slots s;
+    uint32_t d = directory->blocks;
+
+    if (d > BULGEFS_MAX_DIRECTORY_BLOCKS)
+        d = BULGEFS_MAX_DIRECTORY_BLOCKS;
+    s.blocks = chain_of(image, directory->first, d);
+    s.block = 0;
+    s.slot = 0;
+    s.end = d == 0 ? 0 : 4 * d - 1;
+    return s;
+}
+
+static int slots_step(slots *s, entry *e)
+{
+    size_t at;
+
+    while (s->slot < s->end) {
+        if (s->slot % 4 == 0 && !chain_step(&s->blocks, &s->block))
+            return 0;
+        at = BULGEFS_BLOCK_SIZE * (size_t)s->block + SLOT * (size_t)(s->slot % 4);
+        *e = view_slot(s->blocks.image, at, s->slot);
+        s->slot++;
+        if (view_is_file(e) || view_is_directory(e))
+            return 1;
+    }
+    return 0;
+}
+
+static int find_name(const bytes *image, const entry *directory, const char *name, size_t length,
+                     entry *found)
+{
+    slots s = slots_of(image, directory);
+
+    while (slots_step(&s, found))
+        if (found->name_length == length && memcmp(found->name, name, length) == 0)
+            return 1;
+    return 0;
+}
+
+uint32_t view_find(const bytes *image, const char *path, entry *found)
+{
+    entry at = view_root(image);
+    size_t length;
+
+    if (*path != '/')
+        return BULGEFS_NOT_FOUND;
+    while (path[0] == '/' && path[1] != 0) {
+        path++;
+        length = strcspn(path, "/");
+        if (!view_is_directory(&at) || !find_name(image, &at, path, length, found))
+            return BULGEFS_NOT_FOUND;
+        at = *found;
+        path += length;
+    }
+    if (*path == '/' && !view_is_directory(&at))
+        return BULGEFS_NOT_FOUND;
+    *found = at;
+    return 0;
+}
+
+/* Where a visit of the tree is, and whom it tells. */
+typedef struct {
+    const bytes *image;
+    char path[BULGEFS_MAX_PATH + 1];
+    int recursive;
+    each_entry each;
+    void *context;
+} visit;
+
+static int visit_directory(visit *v, const entry *directory, size_t length, unsigned level)
+{
+    slots s = slots_of(v->image, directory);
+    entry e;
+    int stop;
+
+    while (slots_step(&s, &e)) {
+        if (length + 1 + e.name_length > BULGEFS_MAX_PATH)
+            continue;
+        v->path[length] = '/';
+        memcpy(v->path + length + 1, e.name, e.name_length);
+        v->path[length + 1 + e.name_length] = 0;
+        stop = v->each(v->context, v->path, &e);
+        if (stop == 0 && v->recursive && view_is_directory(&e) && level < BULGEFS_MAX_LEVELS)
+            stop = visit_directory(v, &e, length + 1 + e.name_length, level + 1);
+        if (stop != 0)
+            return stop;
+    }
+    return 0;
+}
+
+int view_each(const bytes *image, const char *path, int recursive, each_entry each, void *context)
+{
+    visit v;
+    entry at;
+    size_t length = strlen(path);
+
+    if (view_find(image, path, &at) != 0 || length > BULGEFS_MAX_PATH)
+        return BULGEFS_NOT_FOUND;
+    v.image = image;
+    v.recursive = recursive;
+    v.each = each;
+    v.context = context;
+    if (path[length - 1] == '/')
+        length--;
+    memcpy(v.path, path, length);
+    v.path[length] = 0;
+    if (view_is_file(&at))
+        return each(context, v.path, &at);
+    return visit_directory(&v, &at, length, 0);
+}
