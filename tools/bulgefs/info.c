@@ -128,7 +128,10 @@ static void print_entry(const bytes *image, const char *path, const entry *e)
     line("type");
     printf("0x%02x, %s\n", e->type, view_is_directory(e) ? "directory" : "file");
     line("size");
-    printf("%" PRIu32 " bytes, %" PRIu32 " blocks\n", e->size, e->blocks);
+    put_count(stdout, e->size, "byte", "bytes");
+    printf(", ");
+    put_count(stdout, e->blocks, "block", "blocks");
+    printf("\n");
     line("slot");
     printf("%" PRIu32 ", in block %zu\n", e->slot, e->offset / BULGEFS_BLOCK_SIZE);
     line("user, group");
