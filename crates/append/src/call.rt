@@ -27,7 +27,7 @@ fn append_nothing(image: &[u8], path: &[u8], offset: usize, time: u64) -> Change
         offset: offset,
         time: time,
     };
-    let number = volume::change::refusal(image, what, path, b"");
+    let number = volume::change::refusal(image, what, path, b"").number;
     if number != 0 {
         return Changed::Refused(number);
     }

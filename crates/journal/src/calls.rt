@@ -88,15 +88,16 @@ pub fn change_ready(
     ensures state { λ _. ⌜ state (now (image .exit)) (now (journal .exit)) ≡ afterChange (state (now (image .entry)) (now (journal .entry))) (asked what (now (path .entry)) (now (bytes .entry))) ⌝ }
     ensures numbered { λ r. ⌜ ChangeNumbered r ⌝ }
 {
-    let refusal = volume::change::refusal(image, what, path, bytes);
+    let found = volume::change::refusal(image, what, path, bytes);
+    let refusal = found.number;
     if refusal != 0 {
         return Changed::Refused(refusal);
     }
-    let size = super::naming::record_change(image, journal, what, path, bytes);
+    let size = super::naming::record_change(image, journal, what, path, bytes, found);
     if size == 0 {
         return Changed::Refused(15);
     }
-    let slot = volume::change::make(image, what, path, bytes);
+    let slot = volume::change::make(image, what, path, bytes, found);
     Changed::Done {
         slot: slot,
         size: size,

@@ -1,4 +1,4 @@
-// Recording a change before it is made: its named blocks are marked, and their bytes saved.
+// Recording a change before it is made: its named blocks are marked, and their bytes saved. What it is about was found.
 ghost use mathlib.Core.Path.{_≡_};
 ghost use Prim.Native.Nat.{_≤_};
 ghost use lib.ListN.{length};
@@ -7,9 +7,11 @@ ghost use Rattle.layout.specs.Bytes.{zeros};
 ghost use Rattle.layout.specs.Geometry.{blockCount};
 ghost use Rattle.volume.specs.Change.{refusal};
 ghost use Rattle.volume.specs.Asked.{asked};
+ghost use Rattle.volume.specs.Walks.Targets.{Target};
 ghost use Rattle.journal.specs.Run.{recordOf, state};
 ghost use Rattle.journal.specs.Walks.Changes.{Ready, Recorded};
 use super::recording::record_marked;
+use layout::file::File;
 use layout::limits::SMALL_BLOCKS;
 use volume::change::Change;
 
@@ -20,31 +22,46 @@ fn record_with(
     what: Change,
     name: &[u8],
     bytes: &[u8],
+    found: File,
     marks: &mut [u8],
 ) -> u32
-    requires { ⌜ (Ready (now image) (now journal)) × (refusal (now image) (asked what (now name) (now bytes)) ≡ 0) × (blockCount (now image) ≤ length (now marks)) × (now marks ≡ zeros (length (now marks))) ⌝ }
+    requires { ⌜ (Ready (now image) (now journal)) × (refusal (now image) (asked what (now name) (now bytes)) ≡ 0) × (Target (now image) (asked what (now name) (now bytes)) (found .slot) (found .block) (found .first) (found .size) (found .blocks)) × (blockCount (now image) ≤ length (now marks)) × (now marks ≡ zeros (length (now marks))) ⌝ }
     ensures { λ r. ⌜ Recorded (now (journal .entry)) (recordOf (state (now (image .entry)) (now (journal .entry))) (asked what (now (name .entry)) (now (bytes .entry)))) r (now (journal .exit)) ⌝ }
 {
-    volume::change::mark_named(image, what, name, bytes, marks);
+    volume::change::mark_named(image, what, name, bytes, found, marks);
     record_marked(image, journal, marks)
 }
 
 // The same of a small volume.
-fn record_small(image: &[u8], journal: &mut [u8], what: Change, name: &[u8], bytes: &[u8]) -> u32
-    requires { ⌜ (Ready (now image) (now journal)) × (refusal (now image) (asked what (now name) (now bytes)) ≡ 0) × (blockCount (now image) ≤ smallBlocks) ⌝ }
+fn record_small(
+    image: &[u8],
+    journal: &mut [u8],
+    what: Change,
+    name: &[u8],
+    bytes: &[u8],
+    found: File,
+) -> u32
+    requires { ⌜ (Ready (now image) (now journal)) × (refusal (now image) (asked what (now name) (now bytes)) ≡ 0) × (Target (now image) (asked what (now name) (now bytes)) (found .slot) (found .block) (found .first) (found .size) (found .blocks)) × (blockCount (now image) ≤ smallBlocks) ⌝ }
     ensures { λ r. ⌜ Recorded (now (journal .entry)) (recordOf (state (now (image .entry)) (now (journal .entry))) (asked what (now (name .entry)) (now (bytes .entry)))) r (now (journal .exit)) ⌝ }
 {
     let mut marks = layout::table::few_marks();
-    record_with(image, journal, what, name, bytes, &mut marks)
+    record_with(image, journal, what, name, bytes, found, &mut marks)
 }
 
 // The same of any volume.
-fn record_large(image: &[u8], journal: &mut [u8], what: Change, name: &[u8], bytes: &[u8]) -> u32
-    requires { ⌜ (Ready (now image) (now journal)) × (refusal (now image) (asked what (now name) (now bytes)) ≡ 0) ⌝ }
+fn record_large(
+    image: &[u8],
+    journal: &mut [u8],
+    what: Change,
+    name: &[u8],
+    bytes: &[u8],
+    found: File,
+) -> u32
+    requires { ⌜ (Ready (now image) (now journal)) × (refusal (now image) (asked what (now name) (now bytes)) ≡ 0) × (Target (now image) (asked what (now name) (now bytes)) (found .slot) (found .block) (found .first) (found .size) (found .blocks)) ⌝ }
     ensures { λ r. ⌜ Recorded (now (journal .entry)) (recordOf (state (now (image .entry)) (now (journal .entry))) (asked what (now (name .entry)) (now (bytes .entry)))) r (now (journal .exit)) ⌝ }
 {
     let mut marks = layout::table::no_marks();
-    record_with(image, journal, what, name, bytes, &mut marks)
+    record_with(image, journal, what, name, bytes, found, &mut marks)
 }
 
 pub fn record_change(
@@ -53,12 +70,13 @@ pub fn record_change(
     what: Change,
     name: &[u8],
     bytes: &[u8],
+    found: File,
 ) -> u32
-    requires { ⌜ (Ready (now image) (now journal)) × (refusal (now image) (asked what (now name) (now bytes)) ≡ 0) ⌝ }
+    requires { ⌜ (Ready (now image) (now journal)) × (refusal (now image) (asked what (now name) (now bytes)) ≡ 0) × (Target (now image) (asked what (now name) (now bytes)) (found .slot) (found .block) (found .first) (found .size) (found .blocks)) ⌝ }
     ensures { λ r. ⌜ Recorded (now (journal .entry)) (recordOf (state (now (image .entry)) (now (journal .entry))) (asked what (now (name .entry)) (now (bytes .entry)))) r (now (journal .exit)) ⌝ }
 {
     if image.len() / 512 <= SMALL_BLOCKS {
-        return record_small(image, journal, what, name, bytes);
+        return record_small(image, journal, what, name, bytes, found);
     }
-    record_large(image, journal, what, name, bytes)
+    record_large(image, journal, what, name, bytes, found)
 }

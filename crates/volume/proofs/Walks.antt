@@ -19,3 +19,4 @@ pub mod Create
 pub mod DeleteDirectory
 pub mod Taken
 pub mod CreateDirectory
+pub mod Targets

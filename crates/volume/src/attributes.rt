@@ -8,12 +8,16 @@ ghost use Rattle.layout.specs.Geometry.{blockCount};
 ghost use Rattle.layout.specs.Table.{next, freeBlocks};
 ghost use Rattle.layout.specs.Directory.{isFile};
 ghost use Rattle.layout.specs.Check.{check};
-ghost use Rattle.layout.specs.Paths.{fileRefusal, entryOf};
+ghost use Rattle.layout.specs.Paths.{fileRefusal};
+ghost use Rattle.layout.specs.Walks.Looks.{Opens};
+ghost use Rattle.layout.specs.Walks.Slots.{entryAt};
 ghost use Rattle.volume.specs.Entries.{grown};
 ghost use Rattle.volume.specs.Write.{put};
 ghost use Rattle.volume.specs.Attributes.{setAttributesRefusal, setAttributesAt, setAttributesNamed, clearAttributesAt, clearAttributesNamed};
-ghost use Rattle.volume.specs.Walks.Attributes.{setFormRefusal, Attributed, Fillable};
+ghost use Rattle.volume.specs.Walks.Attributes.{setFormRefusal, Fillable};
 ghost use Rattle.volume.specs.Walks.Marks.{marked};
+ghost use Rattle.volume.specs.Walks.Targets.{Standing};
+use layout::file::File;
 use layout::limits::MAX_ATTRIBUTES;
 
 // Whether so many bytes are whole blocks, one at least.
@@ -42,58 +46,35 @@ fn form_refusal(path: &[u8], count: usize) -> u32
     0
 }
 
-// The refusal of a set, 9, 20, 17, 10 or 14, or 0. The blocks of the old chain count as free.
-pub fn set_attributes_refusal(image: &[u8], path: &[u8], count: usize) -> u32
+// The file, or the refusal of a set, 9, 20, 17, 10 or 14. The blocks of the old chain count as free.
+pub fn set_attributes_refusal(image: &[u8], path: &[u8], count: usize) -> File
     requires { ⌜ check (now image) ≡ 0 ⌝ }
-    ensures { λ r. ⌜ r ≡ setAttributesRefusal (now (image .entry)) (now (path .entry)) count ⌝ }
+    ensures { λ r. ⌜ Opens isFile (now (image .entry)) (now (path .entry)) (setAttributesRefusal (now (image .entry)) (now (path .entry)) count) (r .number) (r .slot) (r .block) (r .first) (r .size) (r .blocks) ⌝ }
 {
     let form = form_refusal(path, count);
     if form != 0 {
-        return form;
+        return layout::file::refused(form);
     }
     let f = layout::file::open_file(image, path);
     let number = f.number;
     if number != 0 {
-        return number;
+        return f;
     }
     let old = layout::file::attribute_chain(image, f.block, f.slot);
     if layout::number::header_number(image, 24) + old.blocks < count / 512 {
-        return 14;
+        return layout::file::refused(14);
     }
-    0
-}
-
-// A file by the place of its entry, with the chain of its attributes.
-struct Attributes {
-    slot: usize,
-    block: usize,
-    first: usize,
-    blocks: usize,
-}
-
-// The attributes of the file of a path that is there.
-fn locate_attributes(image: &[u8], path: &[u8]) -> Attributes
-    requires { ⌜ (check (now image) ≡ 0) × (fileRefusal (now image) (now path) ≡ 0) ⌝ }
-    ensures { λ r. ⌜ Attributed (now (image .entry)) (entryOf isFile (now (image .entry)) (now (path .entry))) (r .slot) (r .block) (r .first) (r .blocks) ⌝ }
-{
-    let f = super::file::locate(image, path);
-    let c = layout::file::attribute_chain(image, f.block, f.slot);
-    Attributes {
-        slot: f.slot,
-        block: f.block,
-        first: c.first,
-        blocks: c.blocks,
-    }
+    f
 }
 
 // Marks the blocks that an accepted set names. The new blocks are those that are the lowest free ones once the old chain is freed.
-pub fn set_attributes_named(image: &[u8], path: &[u8], count: usize, marks: &mut [u8])
-    requires { ⌜ (check (now image) ≡ 0) × (setAttributesRefusal (now image) (now path) count ≡ 0) × (blockCount (now image) ≤ length (now marks)) ⌝ }
-    ensures { λ _. ⌜ now (marks .exit) ≡ marked (now (marks .entry)) (setAttributesNamed (now (image .entry)) (entryOf isFile (now (image .entry)) (now (path .entry))) count) ⌝ }
+pub fn set_attributes_named(image: &[u8], found: File, count: usize, marks: &mut [u8])
+    requires { ⌜ (check (now image) ≡ 0) × (Standing (now image) (λ path. setAttributesRefusal (now image) path count) (found .slot) (found .block) (found .first) (found .size) (found .blocks)) × (blockCount (now image) ≤ length (now marks)) ⌝ }
+    ensures { λ _. ⌜ now (marks .exit) ≡ marked (now (marks .entry)) (setAttributesNamed (now (image .entry)) (entryAt (found .block) (found .slot)) count) ⌝ }
 {
-    let old = locate_attributes(image, path);
+    let old = layout::file::attribute_chain(image, found.block, found.slot);
     let n = image.len() / 512;
-    super::marks::mark(marks, old.block);
+    super::marks::mark(marks, found.block);
     super::marks::mark_freed(image, n, old.first, old.blocks, marks);
     super::marks::mark(marks, 0);
     super::marks::mark_free(image, n, old.first, old.blocks, count / 512, marks);
@@ -112,35 +93,35 @@ fn fill_blocks(image: &mut [u8], n: usize, bytes: &[u8]) -> usize
 }
 
 // An accepted set: frees the old chain, then takes blocks for the new one and sets the entry's two fields.
-pub fn set_attributes(image: &mut [u8], path: &[u8], bytes: &[u8])
-    requires { ⌜ (check (now image) ≡ 0) × (setAttributesRefusal (now image) (now path) (length (now bytes)) ≡ 0) ⌝ }
-    ensures { λ _. ⌜ now (image .exit) ≡ setAttributesAt (now (image .entry)) (entryOf isFile (now (image .entry)) (now (path .entry))) (now (bytes .entry)) ⌝ }
+pub fn set_attributes(image: &mut [u8], found: File, bytes: &[u8])
+    requires { ⌜ (check (now image) ≡ 0) × (Standing (now image) (λ path. setAttributesRefusal (now image) path (length (now bytes))) (found .slot) (found .block) (found .first) (found .size) (found .blocks)) ⌝ }
+    ensures { λ _. ⌜ now (image .exit) ≡ setAttributesAt (now (image .entry)) (entryAt (found .block) (found .slot)) (now (bytes .entry)) ⌝ }
 {
-    let old = locate_attributes(image, path);
+    let old = layout::file::attribute_chain(image, found.block, found.slot);
     let n = image.len() / 512;
     super::table::release(image, n, old.first, old.blocks);
     let first = fill_blocks(image, n, bytes);
-    super::file::set_attribute_fields(image, old.block, old.slot, first, bytes.len() / 512);
+    super::file::set_attribute_fields(image, found.block, found.slot, first, bytes.len() / 512);
 }
 
 // Marks the blocks that an accepted clear names.
-pub fn clear_attributes_named(image: &[u8], path: &[u8], marks: &mut [u8])
-    requires { ⌜ (check (now image) ≡ 0) × (fileRefusal (now image) (now path) ≡ 0) × (blockCount (now image) ≤ length (now marks)) ⌝ }
-    ensures { λ _. ⌜ now (marks .exit) ≡ marked (now (marks .entry)) (clearAttributesNamed (now (image .entry)) (entryOf isFile (now (image .entry)) (now (path .entry)))) ⌝ }
+pub fn clear_attributes_named(image: &[u8], found: File, marks: &mut [u8])
+    requires { ⌜ (check (now image) ≡ 0) × (Standing (now image) (fileRefusal (now image)) (found .slot) (found .block) (found .first) (found .size) (found .blocks)) × (blockCount (now image) ≤ length (now marks)) ⌝ }
+    ensures { λ _. ⌜ now (marks .exit) ≡ marked (now (marks .entry)) (clearAttributesNamed (now (image .entry)) (entryAt (found .block) (found .slot))) ⌝ }
 {
-    let a = locate_attributes(image, path);
+    let a = layout::file::attribute_chain(image, found.block, found.slot);
     let n = image.len() / 512;
-    super::marks::mark(marks, a.block);
+    super::marks::mark(marks, found.block);
     super::marks::mark_freed(image, n, a.first, a.blocks, marks);
 }
 
 // An accepted clear: frees the chain and sets the two fields to 0.
-pub fn clear_attributes(image: &mut [u8], path: &[u8])
-    requires { ⌜ (check (now image) ≡ 0) × (fileRefusal (now image) (now path) ≡ 0) ⌝ }
-    ensures { λ _. ⌜ now (image .exit) ≡ clearAttributesAt (now (image .entry)) (entryOf isFile (now (image .entry)) (now (path .entry))) ⌝ }
+pub fn clear_attributes(image: &mut [u8], found: File)
+    requires { ⌜ (check (now image) ≡ 0) × (Standing (now image) (fileRefusal (now image)) (found .slot) (found .block) (found .first) (found .size) (found .blocks)) ⌝ }
+    ensures { λ _. ⌜ now (image .exit) ≡ clearAttributesAt (now (image .entry)) (entryAt (found .block) (found .slot)) ⌝ }
 {
-    let a = locate_attributes(image, path);
+    let a = layout::file::attribute_chain(image, found.block, found.slot);
     let n = image.len() / 512;
     super::table::release(image, n, a.first, a.blocks);
-    super::file::set_attribute_fields(image, a.block, a.slot, 0, 0);
+    super::file::set_attribute_fields(image, found.block, found.slot, 0, 0);
 }

@@ -1,13 +1,22 @@
 // A change as one value, for the journal above: its refusal, its named blocks as marks and the change itself, on an image that the caller has
-// checked. The path and the data stand beside it.
+// checked. The path and the data stand beside it. Its path is looked up once: what the refusal found is handed on.
 ghost use mathlib.Core.Path.{_≡_};
-ghost use Prim.Native.Nat.{_≤_};
+ghost use Prim.Native.Nat.{_≤_, _<_};
 ghost use lib.ListN.{length};
 ghost use Rattle.layout.specs.Geometry.{blockCount};
 ghost use Rattle.layout.specs.Check.{check};
 ghost use Rattle.volume.specs.Change.{refusal, after, named, slotGiven};
 ghost use Rattle.volume.specs.Asked.{asked};
 ghost use Rattle.volume.specs.Walks.Marks.{marked};
+ghost use Rattle.volume.specs.Walks.Targets.{Target, Prepared, answered};
+use super::attributes::clear_attributes;
+use super::attributes::set_attributes;
+use super::create::create_at;
+use super::create_directory::create_directory;
+use super::delete::drop_entry;
+use super::file::clear_bytes;
+use super::write::write_at;
+use layout::file::File;
 
 // The kind of a change, with its numbers.
 pub enum Change {
@@ -39,10 +48,10 @@ pub enum Change {
     ClearFlags,
 }
 
-// The refusal, 9 to 26, or 0.
-pub fn refusal(image: &[u8], what: Change, path: &[u8], bytes: &[u8]) -> u32
+// What the change is about, or the refusal, 9 to 26.
+pub fn refusal(image: &[u8], what: Change, path: &[u8], bytes: &[u8]) -> File
     requires { ⌜ check (now image) ≡ 0 ⌝ }
-    ensures { λ r. ⌜ r ≡ refusal (now (image .entry)) (asked what (now (path .entry)) (now (bytes .entry))) ⌝ }
+    ensures { λ r. ⌜ Prepared (now (image .entry)) (asked what (now (path .entry)) (now (bytes .entry))) (r .number) (r .slot) (r .block) (r .first) (r .size) (r .blocks) ⌝ }
 {
     match what {
         Change::Create { kind, flags, .. } => super::create::create_refusal(
@@ -57,7 +66,7 @@ pub fn refusal(image: &[u8], what: Change, path: &[u8], bytes: &[u8]) -> u32
             offset,
             bytes.len(),
         ),
-        Change::Delete => super::delete::delete_refusal(image, path),
+        Change::Delete => layout::file::open_file(image, path),
         Change::CreateDirectory {
             kind,
             flags,
@@ -70,61 +79,52 @@ pub fn refusal(image: &[u8], what: Change, path: &[u8], bytes: &[u8]) -> u32
             path,
             bytes.len(),
         ),
-        Change::ClearAttributes => super::delete::delete_refusal(image, path),
-        Change::ClearFlags => super::delete::delete_refusal(image, path),
+        Change::ClearAttributes => layout::file::open_file(image, path),
+        Change::ClearFlags => layout::file::open_file(image, path),
     }
 }
 
 // Marks the blocks that an accepted change names.
-pub fn mark_named(image: &[u8], what: Change, path: &[u8], bytes: &[u8], marks: &mut [u8])
-    requires { ⌜ (check (now image) ≡ 0) × (refusal (now image) (asked what (now path) (now bytes)) ≡ 0) × (blockCount (now image) ≤ length (now marks)) ⌝ }
+pub fn mark_named(
+    image: &[u8],
+    what: Change,
+    path: &[u8],
+    bytes: &[u8],
+    found: File,
+    marks: &mut [u8],
+)
+    requires { ⌜ (check (now image) ≡ 0) × (refusal (now image) (asked what (now path) (now bytes)) ≡ 0) × (Target (now image) (asked what (now path) (now bytes)) (found .slot) (found .block) (found .first) (found .size) (found .blocks)) × (blockCount (now image) ≤ length (now marks)) ⌝ }
     ensures { λ _. ⌜ now (marks .exit) ≡ marked (now (marks .entry)) (named (now (image .entry)) (asked what (now (path .entry)) (now (bytes .entry)))) ⌝ }
 {
     match what {
-        Change::Create { kind, flags, .. } => super::create::create_named(
+        Change::Create { .. } => super::marks::mark(marks, found.block),
+        Change::Write { offset, .. } => super::write::write_at_named(
             image,
-            path,
-            kind,
-            flags,
-            marks,
-        ),
-        Change::Write { offset, .. } => super::write::write_named(
-            image,
-            path,
+            found,
             offset,
             bytes.len(),
             marks,
         ),
-        Change::Delete => super::delete::delete_named(image, path, marks),
-        Change::CreateDirectory {
-            kind,
-            flags,
-            blocks,
-            ..
-        } => {
-            super::create_directory::create_directory_named(image, path, kind, flags, blocks, marks)
+        Change::Delete => super::delete::drop_named(image, found, marks),
+        Change::CreateDirectory { blocks, .. } => {
+            super::create_directory::create_directory_named(image, found.block, blocks, marks)
         }
-        Change::DeleteDirectory => super::delete_directory::delete_directory_named(
-            image,
-            path,
-            marks,
-        ),
+        Change::DeleteDirectory => super::delete::drop_named(image, found, marks),
         Change::SetAttributes => super::attributes::set_attributes_named(
             image,
-            path,
+            found,
             bytes.len(),
             marks,
         ),
-        Change::ClearAttributes => super::attributes::clear_attributes_named(image, path, marks),
-        Change::ClearFlags => super::flags::clear_flags_named(image, path, marks),
+        Change::ClearAttributes => super::attributes::clear_attributes_named(image, found, marks),
+        Change::ClearFlags => super::marks::mark(marks, found.block),
     }
 }
 
-// Makes an accepted change; gives the slot that it answers, or 0.
-pub fn make(image: &mut [u8], what: Change, path: &[u8], bytes: &[u8]) -> u32
-    requires { ⌜ (check (now image) ≡ 0) × (refusal (now image) (asked what (now path) (now bytes)) ≡ 0) ⌝ }
-    ensures slot { λ r. ⌜ r ≡ slotGiven (now (image .entry)) (asked what (now (path .entry)) (now (bytes .entry))) ⌝ }
-    ensures bytes { λ _. ⌜ now (image .exit) ≡ after (now (image .entry)) (asked what (now (path .entry)) (now (bytes .entry))) ⌝ }
+// Makes the bytes of an accepted change.
+fn apply(image: &mut [u8], what: Change, path: &[u8], bytes: &[u8], found: File)
+    requires { ⌜ (check (now image) ≡ 0) × (refusal (now image) (asked what (now path) (now bytes)) ≡ 0) × (Target (now image) (asked what (now path) (now bytes)) (found .slot) (found .block) (found .first) (found .size) (found .blocks)) ⌝ }
+    ensures { λ _. ⌜ now (image .exit) ≡ after (now (image .entry)) (asked what (now (path .entry)) (now (bytes .entry))) ⌝ }
 {
     match what {
         Change::Create {
@@ -134,15 +134,21 @@ pub fn make(image: &mut [u8], what: Change, path: &[u8], bytes: &[u8]) -> u32
             permissions,
             flags,
             time,
-        } => { super::create::create(image, path, kind, user, group, permissions, flags, time) }
-        Change::Write { offset, time } => {
-            super::write::write(image, path, offset, bytes, time);
-            0
+        } => {
+            create_at(
+                image,
+                found,
+                path,
+                kind,
+                user,
+                group,
+                permissions,
+                flags,
+                time,
+            );
         }
-        Change::Delete => {
-            super::delete::delete(image, path);
-            0
-        }
+        Change::Write { offset, time } => write_at(image, found, offset, bytes, time),
+        Change::Delete => drop_entry(image, found),
         Change::CreateDirectory {
             kind,
             user,
@@ -152,8 +158,9 @@ pub fn make(image: &mut [u8], what: Change, path: &[u8], bytes: &[u8]) -> u32
             blocks,
             time,
         } => {
-            super::create_directory::create_directory(
+            create_directory(
                 image,
+                found,
                 path,
                 kind,
                 user,
@@ -162,23 +169,38 @@ pub fn make(image: &mut [u8], what: Change, path: &[u8], bytes: &[u8]) -> u32
                 flags,
                 time,
                 blocks,
-            )
+            );
         }
-        Change::DeleteDirectory => {
-            super::delete_directory::delete_directory(image, path);
-            0
-        }
-        Change::SetAttributes => {
-            super::attributes::set_attributes(image, path, bytes);
-            0
-        }
-        Change::ClearAttributes => {
-            super::attributes::clear_attributes(image, path);
-            0
-        }
-        Change::ClearFlags => {
-            super::flags::clear_flags(image, path);
-            0
-        }
+        Change::DeleteDirectory => drop_entry(image, found),
+        Change::SetAttributes => set_attributes(image, found, bytes),
+        Change::ClearAttributes => clear_attributes(image, found),
+        Change::ClearFlags => clear_bytes(image, found.block, found.slot, 40, 4),
     }
+}
+
+// The slot that a change answers: of a create, of a directory too, that of its entry; 0 for the others.
+fn slot_of(what: Change, slot: usize) -> u32
+    requires { ⌜ slot < 256 ⌝ }
+    ensures { λ r. ⌜ r ≡ answered what slot ⌝ }
+{
+    match what {
+        Change::Create { .. } => slot as u32,
+        Change::Write { .. } => 0,
+        Change::Delete => 0,
+        Change::CreateDirectory { .. } => slot as u32,
+        Change::DeleteDirectory => 0,
+        Change::SetAttributes => 0,
+        Change::ClearAttributes => 0,
+        Change::ClearFlags => 0,
+    }
+}
+
+// Makes an accepted change; gives the slot that it answers, or 0.
+pub fn make(image: &mut [u8], what: Change, path: &[u8], bytes: &[u8], found: File) -> u32
+    requires { ⌜ (check (now image) ≡ 0) × (refusal (now image) (asked what (now path) (now bytes)) ≡ 0) × (Target (now image) (asked what (now path) (now bytes)) (found .slot) (found .block) (found .first) (found .size) (found .blocks)) ⌝ }
+    ensures slot { λ r. ⌜ r ≡ slotGiven (now (image .entry)) (asked what (now (path .entry)) (now (bytes .entry))) ⌝ }
+    ensures bytes { λ _. ⌜ now (image .exit) ≡ after (now (image .entry)) (asked what (now (path .entry)) (now (bytes .entry))) ⌝ }
+{
+    apply(image, what, path, bytes, found);
+    slot_of(what, found.slot)
 }

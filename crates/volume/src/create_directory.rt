@@ -11,11 +11,13 @@ ghost use Rattle.layout.specs.Geometry.{blockCount};
 ghost use Rattle.layout.specs.Table.{next, freeBlocks};
 ghost use Rattle.layout.specs.Directory.{isDirectory};
 ghost use Rattle.layout.specs.Check.{check};
-ghost use Rattle.volume.specs.Entries.{entryBytes, grown};
+ghost use Rattle.volume.specs.Entries.{entryBytes, grown, blocksNamed};
 ghost use Rattle.volume.specs.Create.{createSlot};
-ghost use Rattle.volume.specs.Directories.{createDirectoryRefusal, createDirectoryImage, createDirectoryNamed};
+ghost use Rattle.volume.specs.Directories.{createDirectoryRefusal, newDirectoryBlocks, createDirectoryImage};
 ghost use Rattle.volume.specs.Walks.Marks.{marked};
+ghost use Rattle.volume.specs.Walks.Places.{Vacant, Searched};
 use super::slot::Fields;
+use layout::file::File;
 use layout::limits::MAX_DIRECTORY;
 
 // Whether type and number of blocks are those of a directory.
@@ -31,45 +33,37 @@ fn shaped(kind: u8, d: u32) -> bool
     d <= MAX_DIRECTORY
 }
 
-// The number of the refusal, or 0.
-pub fn create_directory_refusal(image: &[u8], path: &[u8], kind: u8, flags: u32, d: u32) -> u32
+// The place of a new directory's entry, or the refusal.
+pub fn create_directory_refusal(image: &[u8], path: &[u8], kind: u8, flags: u32, d: u32) -> File
     requires { ⌜ check (now image) ≡ 0 ⌝ }
-    ensures { λ r. ⌜ r ≡ createDirectoryRefusal (now (image .entry)) (now (path .entry)) kind flags d ⌝ }
+    ensures { λ r. ⌜ Searched (now (image .entry)) (now (path .entry)) (createDirectoryRefusal (now (image .entry)) (now (path .entry)) kind flags d) (r .number) (r .first) (r .slot) (r .block) ⌝ }
 {
     if !shaped(kind, d) {
-        return 9;
+        return layout::file::refused(9);
     }
     let form = layout::file::whole_path_refusal(path);
     let brought = super::place::brought_refusal(form, flags);
     if brought != 0 {
-        return brought;
+        return layout::file::refused(brought);
     }
     let p = super::place::find_place(image, path);
     let number = p.number;
     if number != 0 {
-        return number;
+        return p;
     }
     if layout::number::header_number(image, 24) < d as usize {
-        return 14;
+        return layout::file::refused(14);
     }
-    0
+    p
 }
 
-// Marks the blocks that an accepted one names.
-pub fn create_directory_named(
-    image: &[u8],
-    path: &[u8],
-    kind: u8,
-    flags: u32,
-    d: u32,
-    marks: &mut [u8],
-)
-    requires { ⌜ (check (now image) ≡ 0) × (createDirectoryRefusal (now image) (now path) kind flags d ≡ 0) × (blockCount (now image) ≤ length (now marks)) ⌝ }
-    ensures { λ _. ⌜ now (marks .exit) ≡ marked (now (marks .entry)) (createDirectoryNamed (now (image .entry)) (now (path .entry)) d) ⌝ }
+// Marks the block of a new directory's entry and what its d blocks name.
+pub fn create_directory_named(image: &[u8], block: usize, d: u32, marks: &mut [u8])
+    requires { ⌜ (check (now image) ≡ 0) × (block < blockCount (now image)) × (d ≤ length (freeBlocks (next (now image)) (blockCount (now image)))) × (blockCount (now image) ≤ length (now marks)) ⌝ }
+    ensures { λ _. ⌜ now (marks .exit) ≡ marked (now (marks .entry)) (block ∷ blocksNamed (newDirectoryBlocks (now (image .entry)) d)) ⌝ }
 {
-    let p = super::place::vacant(image, path);
     let n = image.len() / 512;
-    super::marks::mark(marks, p.block);
+    super::marks::mark(marks, block);
     super::marks::mark_grown(image, n, 0, d as usize, marks);
 }
 
@@ -132,9 +126,10 @@ fn put_directory(
     end_block(image, last);
 }
 
-// Creates a directory of d blocks; gives its slot.
+// Creates a directory of d blocks, its entry at the place found for it; gives its slot.
 pub fn create_directory(
     image: &mut [u8],
+    found: File,
     path: &[u8],
     kind: u8,
     user: u8,
@@ -144,14 +139,13 @@ pub fn create_directory(
     time: u64,
     d: u32,
 ) -> u32
-    requires { ⌜ (check (now image) ≡ 0) × (createDirectoryRefusal (now image) (now path) kind flags d ≡ 0) ⌝ }
+    requires { ⌜ (check (now image) ≡ 0) × (createDirectoryRefusal (now image) (now path) kind flags d ≡ 0) × (Vacant (now image) (now path) (found .first) (found .slot) (found .block)) ⌝ }
     ensures slot { λ r. ⌜ r ≡ createSlot (now (image .entry)) (now (path .entry)) ⌝ }
     ensures bytes { λ r. ⌜ now (image .exit) ≡ createDirectoryImage (now (image .entry)) (now (path .entry)) kind user group permissions flags time d ⌝ }
 {
-    let p = super::place::vacant(image, path);
     let t = take_blocks(image, d as usize);
     let name = layout::path::last_part(path);
-    put_directory(image, t.first, t.last, p.home, d, time, name);
+    put_directory(image, t.first, t.last, found.first, d, time, name);
     let f = Fields {
         kind: kind,
         user: user,
@@ -163,6 +157,6 @@ pub fn create_directory(
         time: time,
         flags: flags,
     };
-    super::slot::put_slot(image, p.block, p.slot, f, name);
-    p.slot as u32
+    super::slot::put_slot(image, found.block, found.slot, f, name);
+    found.slot as u32
 }

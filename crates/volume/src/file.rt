@@ -1,26 +1,13 @@
-// The file of a path: its entry, found and written. The work on an entry is given the 512 bytes of its block.
+// The entry of a file, written. The work on an entry is given the 512 bytes of its block.
 ghost use mathlib.Core.Path.{_≡_};
 ghost use Prim.Native.Nat.{_+_, _*_, _≤_, _<_};
 ghost use lib.ListN.{length};
 ghost use Rattle.layout.specs.Bytes.{zeros, splice};
-ghost use Rattle.layout.specs.Check.{check};
-ghost use Rattle.layout.specs.Directory.{isFile};
-ghost use Rattle.layout.specs.Paths.{fileRefusal};
 ghost use Rattle.volume.specs.Write.{setFile};
 ghost use Rattle.volume.specs.Attributes.{setAttributeFields};
 use super::number::put32;
 use super::number::put64;
-ghost use Rattle.layout.specs.Walks.Looks.{Located};
 ghost use Rattle.layout.specs.Walks.Slots.{entryAt};
-
-// The file of a path that is there.
-pub fn locate(image: &[u8], path: &[u8]) -> layout::file::File
-    requires { ⌜ (check (now image) ≡ 0) × (fileRefusal (now image) (now path) ≡ 0) ⌝ }
-    ensures file { λ r. ⌜ Located isFile (now (image .entry)) (now (path .entry)) (r .slot) (r .block) (r .first) (r .size) (r .blocks) ⌝ }
-    ensures number { λ r. ⌜ r .number ≡ 0 ⌝ }
-{
-    layout::file::open_file(image, path)
-}
 
 // Zeroes the `count` bytes at `at`.
 fn clear_part(s: &mut [u8], at: usize, count: usize)

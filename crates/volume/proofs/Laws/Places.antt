@@ -165,18 +165,22 @@ directory-at-path s path r =
 -- what an accepted write has
 pub record WriteGiven (s path : List ℕ) (offset count : ℕ) : Type 0 where
   pub there : At isFile s path
-  pub few : count ≤ maxData
   pub within-size : offset ≤ sizeOf s (entryOf isFile s path)
   pub room : needed s (entryOf isFile s path) offset count ≤ length (freeBlocks (next s) (blockCount s))
 
-pub write-given : (s path : List ℕ) (offset count : ℕ) → writeRefusal s path offset count ≡ 0 → WriteGiven s path offset count
-unfolding writeRefusal writeAtRefusal
-write-given s path offset count r =
-    let x = require-zero (leb count maxData && pathOk path) 8 _ r in
-    let y = firstOf-zero (fileRefusal s path) _ (x .1) in
-    let g = require-zero (leb offset (sizeOf s (entryOf isFile s path))) 11 _ (y .1) in
+pub write-at-given : (s path : List ℕ) (offset count : ℕ) → fileRefusal s path ≡ 0 → writeAtRefusal s (entryOf isFile s path) offset count ≡ 0 → WriteGiven s path offset count
+unfolding writeAtRefusal
+write-at-given s path offset count z r =
+    let g = require-zero (leb offset (sizeOf s (entryOf isFile s path))) 11 _ r in
     let h = require-zero (leb (needed s (entryOf isFile s path) offset count) (length (freeBlocks (next s) (blockCount s)))) 13 _ (g .1) in
-    record { there = file-at-path s path (y .0); few = leb-true _ _ (and-split (leb count maxData) (pathOk path) (x .0) .0); within-size = leb-true _ _ (g .0); room = leb-true _ _ (h .0) }
+    record { there = file-at-path s path z; within-size = leb-true _ _ (g .0); room = leb-true _ _ (h .0) }
+
+pub write-at : (s path : List ℕ) (offset count : ℕ) → writeRefusal s path offset count ≡ 0 → (fileRefusal s path ≡ 0) × (writeAtRefusal s (entryOf isFile s path) offset count ≡ 0)
+unfolding writeRefusal
+write-at s path offset count r = firstOf-zero (fileRefusal s path) _ (require-zero (leb count maxData && pathOk path) 8 _ r .1)
+
+pub write-given : (s path : List ℕ) (offset count : ℕ) → writeRefusal s path offset count ≡ 0 → WriteGiven s path offset count
+write-given s path offset count r = let y = write-at s path offset count r in write-at-given s path offset count (y .0) (y .1)
 
 -- what an accepted set has, of the file whose entry is at e
 pub record SetGiven (s : List ℕ) (e count : ℕ) : Type 0 where

@@ -25,7 +25,7 @@ use Rattle.volume.specs.Attributes.{emptied, newAttributes, setAttribute
 use Rattle.volume.specs.Walks.Marks.{marked}
 use Rattle.volume.specs.Walks.Data.{Placed}
 use Rattle.volume.specs.Walks.Searches.{without}
-use Rattle.volume.specs.Walks.Attributes.{setFormRefusal, Attributed, Fillable}
+use Rattle.volume.specs.Walks.Attributes.{setFormRefusal, Fillable}
 use Rattle.layout.proofs.Laws.Tests.{firstOf-refused}
 use Rattle.layout.proofs.Laws.Lists.{select-same}
 use Rattle.layout.proofs.Laws.Files.{attributes-few}
@@ -99,8 +99,16 @@ module _ (path : List ℕ) (count : ℕ) where
           go true false rest z = absurd (omega arith)
           go false b rest z = absurd (omega arith)
 
-      pub set-path-refused : (f : ℕ) → f ≡ fileRefusal s path → (f ≡ 0 → ⊥) → f ≡ setAttributesRefusal s path count
-      set-path-refused f q h = sym (by-file ∙ rw (← q) (firstOf-refused f _ h))
+      pub set-path-refused : (fileRefusal s path ≡ 0 → ⊥) → fileRefusal s path ≡ setAttributesRefusal s path count
+      set-path-refused h = sym (by-file ∙ firstOf-refused (fileRefusal s path) _ h)
+
+-- the entry at e stands in a slot of a block, and its attributes are the chain of `blocks` blocks from `first` on
+pub record Attributed (s : List ℕ) (e slot block first blocks : ℕ) : Type 0 where
+  pub place : entryAt block slot ≡ e
+  pub inside : block < blockCount s
+  pub start : first ≡ attributeBlock s e
+  pub count : blocks ≡ attributeSize s e
+  pub chained : chainOk (next s) (blockCount s) first blocks ≡ true
 
 -- the attributes of a file that is there
 module _ (s path : List ℕ) (ok : check s ≡ 0) (r : fileRefusal s path ≡ 0) where
@@ -142,13 +150,13 @@ module _ {s : List ℕ} {e slot b first blocks : ℕ} (a : Attributed s e slot b
   unfolding emptied
   emptied-is = ap (released s (blockCount s)) attributes-are
 
-  pub cleared-is : setAttributeFields (released s (blockCount s) (chain (next s) first blocks)) (entryAt b slot) 0 0 ≡ clearAttributesAt s e
+  pub cleared-is : setAttributeFields (released s (blockCount s) (chain (next s) first blocks)) (entryAt b slot) 0 0 ≡ clearAttributesAt s (entryAt b slot)
   unfolding clearAttributesAt
-  cleared-is = rw (emptied-is, a .place)
+  cleared-is = rw (a .place, emptied-is)
 
-  pub cleared-named : (m : List ℕ) → marked (marked m (b ∷ [])) (blocksNamed (chain (next s) first blocks)) ≡ marked m (clearAttributesNamed s e)
+  pub cleared-named : (m : List ℕ) → marked (marked m (b ∷ [])) (blocksNamed (chain (next s) first blocks)) ≡ marked m (clearAttributesNamed s (entryAt b slot))
   unfolding marked clearAttributesNamed
-  cleared-named m = rw (attributes-are, attributes-in)
+  cleared-named m = rw (a .place, attributes-are, attributes-in)
 
   module _ (ok : check s ≡ 0) where
     pub attributes-run : ChainBelow s (blockCount s) first blocks
@@ -196,12 +204,12 @@ module _ (s path : List ℕ) (count : ℕ) {slot b first blocks : ℕ} (ok : che
     pub set-named : (m : List ℕ)
         → marked (marked (marked (marked m (b ∷ [])) (blocksNamed (chain (next s) first blocks))) (0 ∷ []))
         (joined (λ x. x ∷ tableBlockOf x ∷ []) (take (count / 512) (freeBlocks (without (next s) (chain (next s) first blocks)) (blockCount s))))
-        ≡ marked m (setAttributesNamed s (entryOf isFile s path) count)
+        ≡ marked m (setAttributesNamed s (entryAt b slot) count)
     unfolding marked setAttributesNamed
     set-named m =
         marked-pairs (take (count / 512) vacant) (marked (marked m (b ∷ [])) (blocksNamed (chain (next s) first blocks))) some
         ∙ marked-both (chain (next s) first blocks) (take (count / 512) vacant) (marked m (b ∷ []))
-        ∙ rw (new-is, attributes-are a, attributes-in a)
+        ∙ rw (a .place, new-is, attributes-are a, attributes-in a)
 
     -- the image without the old chain
     module _ (t : List ℕ) (et : t ≡ released s (blockCount s) (chain (next s) first blocks)) where
@@ -249,6 +257,6 @@ module _ (s path bytes : List ℕ) {slot b first blocks : ℕ} (ok : check s ≡
     pub set-numbers : (start < 4294967296) × (length bytes / 512 < 4294967296)
     set-numbers = (rw (es, taken-is) (set-first-small s path ok bytes r), omega (arith, set-given s path (length bytes) r .few))
 
-    pub set-done : setAttributeFields u (entryAt b slot) start (length bytes / 512) ≡ setAttributesAt s (entryOf isFile s path) bytes
+    pub set-done : setAttributeFields u (entryAt b slot) start (length bytes / 512) ≡ setAttributesAt s (entryAt b slot) bytes
     unfolding setAttributesAt
-    set-done = rw (eu, es, taken-is, now, a .place, set-many s path ok bytes r)
+    set-done = rw (a .place, eu, es, taken-is, now, set-many s path ok bytes r)

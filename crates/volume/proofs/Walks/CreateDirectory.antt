@@ -57,8 +57,8 @@ module _ (s path : List ℕ) (type flags d : ℕ) where
           let b = require-zero (shallow (parts path)) 16 0 (a .1) in
           rw (← f, a .0, b .0, none)
 
-      pub create-directory-place : (r : ℕ) → r ≡ placeRefusal s path → (r ≡ 0 → ⊥) → r ≡ createDirectoryRefusal s path type flags d
-      create-directory-place r e ne = sym (by-place ∙ rw (← e) (firstOf-refused r (require (leb d (length (freeBlocks (next s) (blockCount s)))) 14 0) ne))
+      pub create-directory-place : (placeRefusal s path ≡ 0 → ⊥) → placeRefusal s path ≡ createDirectoryRefusal s path type flags d
+      create-directory-place ne = sym (by-place ∙ firstOf-refused (placeRefusal s path) (require (leb d (length (freeBlocks (next s) (blockCount s)))) 14 0) ne)
 
       module _ (z : placeRefusal s path ≡ 0) (ok : check s ≡ 0) (free : ℕ) (ef : free ≡ be32 s 24) where
         decided : createDirectoryRefusal s path type flags d ≡ require (leb d free) 14 0
@@ -74,14 +74,21 @@ module _ (s path : List ℕ) (type flags d : ℕ) where
 pub directory-path : {s path : List ℕ} {type flags d : ℕ} → check s ≡ 0 → CreateDirectoryGiven s path type flags d → PathGiven s path
 directory-path ok g = record { sound = ok; good = g .good; few = path-levels _ (g .good) (g .deep) .0 }
 
--- what is written, and the blocks named
+-- the blocks named
+pub create-directory-marked : (s : List ℕ) (b d : ℕ) (m : List ℕ)
+    → marked (marked m (b ∷ [])) (take d (freeBlocks (next s) (blockCount s)) ++ entriesNamed (changedEntries 0 (take d (freeBlocks (next s) (blockCount s)))))
+    ≡ marked m (b ∷ blocksNamed (newDirectoryBlocks s d))
+unfolding marked newDirectoryBlocks blocksNamed
+create-directory-marked s b d m = rw (changed-first (take d (freeBlocks (next s) (blockCount s))))
+
+pub create-directory-named : {s path : List ℕ} {h k b : ℕ} → Vacant s path h k b → (d : ℕ) (m : List ℕ) → marked m (b ∷ blocksNamed (newDirectoryBlocks s d)) ≡ marked m (createDirectoryNamed s path d)
+unfolding createDirectoryNamed
+create-directory-named v d m = rw (vacant-block v)
+
+-- what is written
 module _ {s path : List ℕ} {h k b : ℕ} (v : Vacant s path h k b) (d : ℕ) (ok : check s ≡ 0) (d₁ : 1 ≤ d) (room : d ≤ length (freeBlocks (next s) (blockCount s))) where
   abbrev new : List ℕ
   new = take d (freeBlocks (next s) (blockCount s))
-
-  pub create-directory-marked : (m : List ℕ) → marked (marked m (b ∷ [])) (new ++ entriesNamed (changedEntries 0 new)) ≡ marked m (createDirectoryNamed s path d)
-  unfolding marked createDirectoryNamed newDirectoryBlocks blocksNamed
-  create-directory-marked m = rw (changed-first new, vacant-block v)
 
   -- the blocks that are written lie in the image
   home-below : PathGiven s path → placeRefusal s path ≡ 0 → h < blockCount s

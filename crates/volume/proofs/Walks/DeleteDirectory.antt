@@ -36,9 +36,9 @@ module _ (s path : List ℕ) where
   unfolding deleteDirectoryRefusal
   delete-directory-given r = firstOf-zero (directoryRefusal s path) _ r .0
 
-  pub delete-directory-refused : (r : ℕ) → r ≡ directoryRefusal s path → (r ≡ 0 → ⊥) → r ≡ deleteDirectoryRefusal s path
+  pub delete-directory-refused : (directoryRefusal s path ≡ 0 → ⊥) → directoryRefusal s path ≡ deleteDirectoryRefusal s path
   unfolding deleteDirectoryRefusal
-  delete-directory-refused r e ne = rw (← e) (sym (firstOf-refused r (require (isEmpty s (firstBlock s (entryOf isDirectory s path))) 18 0) ne))
+  delete-directory-refused ne = sym (firstOf-refused (directoryRefusal s path) (require (isEmpty s (firstBlock s (entryOf isDirectory s path))) 18 0) ne)
 
   module _ (z : directoryRefusal s path ≡ 0) where
     -- it is one of the tree

@@ -28,8 +28,11 @@ pub brought-fine : (form flags r : ℕ) → r ≡ broughtRefusal form flags → 
 unfolding broughtRefusal
 brought-fine form flags r e z = let a = firstOf-zero form _ (sym e ∙ z) in (sym (a .0), require-zero (eqb flags 0) 25 0 (a .1) .0)
 
-pub refused-place : {s path : List ℕ} {number h k b : ℕ} → number ≡ placeRefusal s path → (number ≡ 0 → ⊥) → Searched s path number h k b
+pub refused-place : {s path : List ℕ} {refusal number h k b : ℕ} → number ≡ refusal → (number ≡ 0 → ⊥) → Searched s path refusal number h k b
 refused-place e ne = record { number-is = e; vacant = λ z. absurd (ne z) }
+
+pub place-as : {s path : List ℕ} {refusal refusal′ number h k b : ℕ} → refusal ≡ refusal′ → Searched s path refusal number h k b → Searched s path refusal′ number h k b
+place-as e f = record { number-is = f .number-is ∙ e; vacant = f .vacant }
 
 module _ {s path : List ℕ} {h k b : ℕ} (sp : Spotted isUsed s path h k b) where
   pub home-none : h ≡ 0 → 10 ≡ placeRefusal s path
@@ -49,7 +52,7 @@ module _ {s path : List ℕ} {h k b : ℕ} (sp : Spotted isUsed s path h k b) wh
       unfolding placeRefusal
       slots-full q = rw (← sp .there, ne-eqb h 0 ne, ← sp .stands .slot, eq-eqb k 0 z, ← st .slot, eq-eqb j 0 q)
 
-      pub place-found : (j ≡ 0 → ⊥) → Searched s path 0 h j a
+      pub place-found : (j ≡ 0 → ⊥) → Searched s path (placeRefusal s path) 0 h j a
       unfolding placeRefusal place createSlot
       place-found q =
           let f = st .block q in

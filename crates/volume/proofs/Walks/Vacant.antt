@@ -1,20 +1,24 @@
--- The blocks that are free when those of a chain are freed: the walk along the chain for the lowest, and the lower one of it and a free block.
-use Prim.Native.Nat.{ℕ, _-_, _≤_, _<_, min}
+-- The blocks that are free when those of a chain are freed: the walk along the chain for the lowest, the walk along the table for a free one, and the lower
+-- one of both.
+use Prim.Native.Nat.{ℕ, _+_, _-_, _≤_, _<_, min}
 use mathlib.Core.Path.{_≡_, refl, sym, ap, subst, _∙_}
 use mathlib.Core.Bool.{Bool, true, false, cond, _||_}
 use mathlib.Core.List.{List}
+use mathlib.Core.Logic.{⊎-elim, _≢_}
 use native.Mathlib.Omega.{arith}
 use lib.Dec.{eqb}
 use lib.ListN.{length}
 use borrow.Author.Tests.{eq-eqb, ne-eqb}
 use Rattle.layout.specs.Lists.{has}
 use Rattle.layout.specs.Table.{next, chain}
+use Rattle.layout.specs.Walks.Chains.{countUsed}
 use Rattle.layout.specs.Walks.Shapes.{ChainBelow}
-use Rattle.volume.specs.Search.{lowestFree, Exact, searched}
 use Rattle.volume.specs.Walks.Searches.{without, freeFrom, First, FirstFree}
-use Rattle.volume.proofs.Laws.Notes.{first-of, first-either, first-same, search-lowest}
+use Rattle.volume.proofs.Laws.Notes.{first-either, first-same}
 use Rattle.volume.proofs.Walks.Grow.{first-free}
+use Rattle.layout.proofs.Laws.Tests.{lt-or-ge}
 use Rattle.layout.proofs.Laws.Chains.{chain-suc, chain-none}
+use Rattle.layout.proofs.Walks.Chains.{countUsed-all}
 use Rattle.layout.proofs.Walks.Shapes.{run-rest}
 
 -- the walk that looks for the lowest block from `from` on
@@ -75,11 +79,42 @@ module _ (v : ℕ → ℕ) (bs : List ℕ) (b : ℕ) where
       go false true e = e
       go false false e = e
 
+-- every block from a on, below b, is in use
+pub record InUse (v : ℕ → ℕ) (a b : ℕ) : Type 0 where
+  pub low : a ≤ b
+  pub used : (c : ℕ) → a ≤ c → c < b → v c ≢ 0
+
+pub in-use-none : (v : ℕ → ℕ) (a : ℕ) → InUse v a a
+in-use-none v a = record { low = omega arith; used = λ c l u. absurd (omega arith) }
+
+pub free-here : (v : ℕ → ℕ) (b n : ℕ) → b < n → v b ≡ 0 → First (λ x. eqb (v x) 0) b n b
+free-here v b n h e = record { high = omega arith; before = λ c l u. absurd (omega arith); met = λ k. (omega arith, eq-eqb (v b) 0 e) }
+
+module _ {v : ℕ → ℕ} {a b : ℕ} (w : InUse v a b) where
+  in-use-more : (e : ℕ) → b ≤ e → ((c : ℕ) → b ≤ c → c < e → v c ≢ 0) → InUse v a e
+  in-use-more e h f = record { low = omega (arith, w .low); used = λ c l u. ⊎-elim (λ k. w .used c l k) (λ k. f c k u) (lt-or-ge c b) }
+
+  pub in-use-entry : v b ≢ 0 → InUse v a (b + 1)
+  in-use-entry ne = in-use-more (b + 1) (omega arith) (λ c l u z. let e : b ≡ c = omega arith in ne (ap v e ∙ z))
+
+  pub in-use-run : (k used : ℕ) → used ≡ countUsed v b k → k ≤ used → InUse v a (b + k)
+  in-use-run k used e h = in-use-more (b + k) (omega arith) (λ c l u. countUsed-all v k b (omega arith) c l u)
+
+  pub free-behind : (n r : ℕ) → First (λ x. eqb (v x) 0) b n r → First (λ x. eqb (v x) 0) a n r
+  free-behind n r f =
+      record {
+        high = f .high;
+        before = λ c l u. ⊎-elim (λ k. ne-eqb (v c) 0 (w .used c l k)) (λ k. f .before c k u) (lt-or-ge c b);
+        met = λ k. (omega (arith, w .low, f .met k .0), f .met k .1);
+      }
+
+  pub free-nowhere : (n : ℕ) → n ≤ b → First (λ x. eqb (v x) 0) a n n
+  free-nowhere n h = record { high = omega arith; before = λ c l u. ne-eqb (v c) 0 (w .used c l (omega arith)); met = λ k. absurd (omega arith) }
+
 -- the lower one of a free block and a block of the chain
-pub vacant-first : (notes : List ℕ) (v : ℕ → ℕ) (bs : List ℕ) (a n b c : ℕ) → Exact v n notes → a ≤ n → 0 < length (freeFrom (without v bs) a (n - a))
-    → b ≡ searched notes v a n → First (λ x. has eqb x bs) a n c → FirstFree (without v bs) a (n - a) (min b c)
-unfolding lowestFree
-vacant-first notes v bs a n b c exact h some e f =
+pub vacant-first : (v : ℕ → ℕ) (bs : List ℕ) (a n b c : ℕ) → a ≤ n → 0 < length (freeFrom (without v bs) a (n - a))
+    → First (λ x. eqb (v x) 0) a n b → First (λ x. has eqb x bs) a n c → FirstFree (without v bs) a (n - a) (min b c)
+vacant-first v bs a n b c h some f g =
     first-free (without v bs) a n (min b c) h some
     (first-same (λ x. eqb (v x) 0 || has eqb x bs) (λ x. eqb (without v bs x) 0) a n (min b c) (λ x l. vacant-test v bs x)
-    (first-either (λ x. eqb (v x) 0) (λ x. has eqb x bs) a n b c (subst (λ (x : ℕ). First (λ y. eqb (v y) 0) a n x) (sym (e ∙ search-lowest notes v n exact a)) (first-of (λ y. eqb (v y) 0) n a)) f))
+    (first-either (λ x. eqb (v x) 0) (λ x. has eqb x bs) a n b c f g))

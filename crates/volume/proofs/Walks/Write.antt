@@ -1,7 +1,7 @@
 -- The refusals of a write, and what an accepted one has.
 use Prim.Native.Nat.{ℕ, _+_, _-_, _≤_, _<_, max}
 use mathlib.Core.Path.{_≡_, refl, sym, ap, _∙_}
-use mathlib.Core.Bool.{Bool, true, false, not, _&&_}
+use mathlib.Core.Bool.{Bool, true, false, not}
 use mathlib.Core.List.{List}
 use native.Mathlib.Omega.{arith}
 use lib.Dec.{eqb, leb}
@@ -13,25 +13,22 @@ use Rattle.layout.specs.Geometry.{blockCount, blocksFor}
 use Rattle.layout.specs.Table.{next}
 use Rattle.layout.specs.Directory.{typeOf, isFile}
 use Rattle.layout.specs.Check.{check}
-use Rattle.layout.specs.Limits.{maxData}
 use Rattle.layout.specs.Paths.{parts, pathOk, leading, shallow, pathSlot, entryOf, fileRefusal}
 use Rattle.volume.specs.Write.{newSize, needed, writeAtRefusal, writeRefusal}
 use Rattle.layout.specs.Walks.Looks.{Located}
+use Rattle.layout.specs.Walks.Slots.{entryAt}
+use Rattle.volume.specs.Walks.Targets.{Standing}
 use Rattle.layout.proofs.Walks.Looks.{located-ok}
 use Rattle.layout.proofs.Laws.Looks.{path-file}
 use Rattle.layout.proofs.Laws.Chains.{chainOk-split}
 use Rattle.layout.proofs.Laws.Counts.{chain-most}
 use Rattle.layout.proofs.Walks.Shapes.{sound-shape}
-use Rattle.layout.proofs.Laws.Tests.{firstOf-refused, firstOf-zero, require-zero}
+use Rattle.layout.proofs.Laws.Tests.{firstOf-refused}
 use Rattle.volume.proofs.Laws.Places.{At}
 use Rattle.layout.proofs.Laws.Owners.{free-count}
 use Rattle.layout.proofs.Laws.Sound.{sound}
 
--- the path of an accepted write is accepted; its entry is of the type asked for
-pub path-given : (s path : List ℕ) (offset count : ℕ) → writeRefusal s path offset count ≡ 0 → fileRefusal s path ≡ 0
-unfolding writeRefusal
-path-given s path offset count r = firstOf-zero (fileRefusal s path) _ (require-zero (leb count maxData && pathOk path) 8 _ r .1) .0
-
+-- the entry of a path is of the type asked for
 pub at-typed : (type : ℕ → Bool) (s path : List ℕ) → At type s path → type (typeOf s (entryOf type s path)) ≡ true
 unfolding entryOf
 at-typed type s path A = A .named .typed
@@ -52,27 +49,31 @@ module _ (s path : List ℕ) (offset count : ℕ) where
         go true y x = refl
         go false y x = refl
 
-    pub path-refused : (r : ℕ) → r ≡ fileRefusal s path → (r ≡ 0 → ⊥) → r ≡ writeRefusal s path offset count
-    path-refused r e h = sym (by-path ∙ rw (← e) (firstOf-refused r (writeAtRefusal s (entryOf isFile s path) offset count) h))
+    pub path-refused : (fileRefusal s path ≡ 0 → ⊥) → fileRefusal s path ≡ writeRefusal s path offset count
+    path-refused h = sym (by-path ∙ firstOf-refused (fileRefusal s path) (writeAtRefusal s (entryOf isFile s path) offset count) h)
 
-    module _ (z : fileRefusal s path ≡ 0) {slot b first size blocks : ℕ} (o : Located isFile s path slot b first size blocks) where
-      at-entry : writeRefusal s path offset count ≡ writeAtRefusal s (entryOf isFile s path) offset count
-      at-entry = by-path ∙ rw z
+    pub by-entry : fileRefusal s path ≡ 0 → {slot b first size blocks : ℕ} → Located isFile s path slot b first size blocks → writeAtRefusal s (entryAt b slot) offset count ≡ writeRefusal s path offset count
+    by-entry z o = sym (by-path ∙ rw (z, ← o .place))
 
-      pub offset-far : size < offset → 12 ≡ writeRefusal s path offset count
-      unfolding writeAtRefusal
-      offset-far h = sym (at-entry ∙ rw (← o .bytes, lt-leb offset size h))
+-- the refusal of a write to a file that was found
+module _ {s : List ℕ} {slot b first size blocks : ℕ} (st : Standing s (fileRefusal s) slot b first size blocks) (offset count : ℕ) where
+  o : Located isFile s (st .path) slot b first size blocks
+  o = st .located
 
-      module _ (ok : check s ≡ 0) (near : offset ≤ size) (free need : ℕ) (ef : free ≡ be32 s 24) (en : need ≡ blocksFor (max size (offset + count)) - blocks) where
-        decided : writeRefusal s path offset count ≡ require (leb need free) 14 0
-        unfolding writeAtRefusal needed newSize
-        decided = at-entry ∙ rw (free-count s (sound s ok), ← o .bytes, ← o .count, le-leb offset size near, ← en, ← ef)
+  pub offset-far : size < offset → 12 ≡ writeAtRefusal s (entryAt b slot) offset count
+  unfolding writeAtRefusal
+  offset-far h = rw (o .place, ← o .bytes, lt-leb offset size h)
 
-        pub room-none : free < need → 14 ≡ writeRefusal s path offset count
-        room-none h = sym (decided ∙ rw (lt-leb need free h))
+  module _ (ok : check s ≡ 0) (near : offset ≤ size) (free need : ℕ) (ef : free ≡ be32 s 24) (en : need ≡ blocksFor (max size (offset + count)) - blocks) where
+    decided : writeAtRefusal s (entryAt b slot) offset count ≡ require (leb need free) 14 0
+    unfolding writeAtRefusal needed newSize
+    decided = rw (o .place, free-count s (sound s ok), ← o .bytes, ← o .count, le-leb offset size near, ← en, ← ef)
 
-        pub room-there : need ≤ free → 0 ≡ writeRefusal s path offset count
-        room-there h = sym (decided ∙ rw (le-leb need free h))
+    pub room-none : free < need → 14 ≡ writeAtRefusal s (entryAt b slot) offset count
+    room-none h = sym (decided ∙ rw (lt-leb need free h))
+
+    pub room-there : need ≤ free → 0 ≡ writeAtRefusal s (entryAt b slot) offset count
+    room-there h = sym (decided ∙ rw (le-leb need free h))
 
 -- the sizes of a file that was opened
 module _ {s path : List ℕ} {slot b first size blocks : ℕ} (o : Located isFile s path slot b first size blocks) (z : fileRefusal s path ≡ 0) (ok : check s ≡ 0) where

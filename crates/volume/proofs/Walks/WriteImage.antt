@@ -1,6 +1,6 @@
 -- A write, step by step: the blocks taken, the data put and the entry set again give writeAt.
 use Prim.Native.Nat.{ℕ, _+_, _*_, _≤_, _<_}
-use mathlib.Core.Path.{_≡_, sym, ap, _∙_}
+use mathlib.Core.Path.{_≡_, sym, ap, _∙_, subst}
 use mathlib.Core.Bool.{true}
 use mathlib.Core.List.{List, _++_}
 use mathlib.Core.Logic.{⊎-elim}
@@ -13,16 +13,18 @@ use Rattle.layout.specs.Geometry.{blockCount, blocksFor, inVolume}
 use Rattle.layout.specs.Table.{next, chain, freeBlocks}
 use Rattle.layout.specs.Directory.{typeOf, blocksOf, isFile, fileBlocks}
 use Rattle.layout.specs.Check.{check}
-use Rattle.layout.specs.Paths.{home, pathSlot, entryOf}
+use Rattle.layout.specs.Paths.{home, pathSlot, entryOf, fileRefusal}
+use Rattle.layout.specs.Walks.Looks.{Located}
 use Rattle.layout.specs.Walks.Slots.{entryAt}
 use Rattle.volume.specs.Entries.{grown}
-use Rattle.volume.specs.Write.{newSize, newBlocks, put, setFile, writeAt, writeRefusal}
+use Rattle.volume.specs.Write.{newSize, newBlocks, put, setFile, writeAt, writeAtRefusal}
 use Rattle.volume.specs.Walks.Data.{Placed}
 use Rattle.volume.specs.Walks.Searches.{Growable}
+use Rattle.volume.specs.Walks.Targets.{Standing}
 use Rattle.volume.specs.Walks.Writes.{startOf, Planned}
-use Rattle.volume.proofs.Laws.Places.{At, WriteGiven, write-given}
+use Rattle.volume.proofs.Laws.Places.{At, WriteGiven, write-at-given}
 use Rattle.volume.proofs.Laws.Framed.{at-entry}
-use Rattle.volume.proofs.Walks.Write.{path-given, at-typed}
+use Rattle.volume.proofs.Walks.Write.{at-typed}
 use Rattle.volume.proofs.Laws.Frame.{put-length}
 use Rattle.volume.proofs.Laws.Space.{all-above, all-below, all-length, all-size, last-below}
 use Rattle.volume.proofs.Laws.Write.{larger-blocks, larger-length, first-small, few}
@@ -34,11 +36,21 @@ use Rattle.layout.proofs.Walks.Shapes.{sound-shape}
 use Rattle.layout.proofs.Laws.Looks.{path-file}
 use Rattle.layout.proofs.Laws.Owners.{file-used, free-count}
 
-module _ (s path : List ℕ) (offset : ℕ) (bytes : List ℕ) (ok : check s ≡ 0) (r : writeRefusal s path offset (length bytes) ≡ 0)
-    {slot b last taken held first size blocks : ℕ} (p : Planned s (entryOf isFile s path) offset (length bytes) slot b last taken held first size blocks)
+module _ {s : List ℕ} {slot b first was held : ℕ} (st : Standing s (fileRefusal s) slot b first was held) (offset : ℕ) (bytes : List ℕ) (ok : check s ≡ 0)
+    (r : writeAtRefusal s (entryAt b slot) offset (length bytes) ≡ 0)
+    {last taken size blocks : ℕ} (plan : Planned s (entryAt b slot) offset (length bytes) last taken held first size blocks)
   where
+    abbrev path : List ℕ
+    path = st .path
+
     abbrev e : ℕ
-    e = entryOf isFile s path
+    e = entryOf isFile s (st .path)
+
+    o : Located isFile s path slot b first was held
+    o = st .located
+
+    p : Planned s e offset (length bytes) last taken held first size blocks
+    p = subst (λ (x : ℕ). Planned s x offset (length bytes) last taken held first size blocks) (o .place) plan
 
     abbrev n : ℕ
     n = blockCount s
@@ -56,7 +68,7 @@ module _ (s path : List ℕ) (offset : ℕ) (bytes : List ℕ) (ok : check s ≡
     S = sound s ok
 
     given : WriteGiven s path offset (length bytes)
-    given = write-given s path offset (length bytes) r
+    given = write-at-given s path offset (length bytes) (st .accepted) (subst (λ (x : ℕ). writeAtRefusal s x offset (length bytes) ≡ 0) (o .place) r)
 
     abbrev k : ℕ
     k = pathSlot isFile s path
@@ -103,7 +115,7 @@ module _ (s path : List ℕ) (offset : ℕ) (bytes : List ℕ) (ok : check s ≡
 
     size-is : blocks ≡ blocksFor size
     unfolding entryOf
-    size-is = blocks-is ∙ all-size s S e E file offset (length bytes) (path-file s path (path-given s path offset (length bytes) r) ok .blocks) (given .room) ∙ ap blocksFor (sym (p .bytes))
+    size-is = blocks-is ∙ all-size s S e E file offset (length bytes) (path-file s path (st .accepted) ok .blocks) (given .room) ∙ ap blocksFor (sym (p .bytes))
 
     length-is : length larger ≡ 512 * n
     unfolding entryOf
@@ -137,8 +149,8 @@ module _ (s path : List ℕ) (offset : ℕ) (bytes : List ℕ) (ok : check s ≡
               let l : length u ≡ 512 * n = ap length put-is ∙ put-length n (S .least) (old ++ new) larger offset bytes length-is (all-below s S e E file offset (length bytes)) in
               let f : start < 4294967296 = rw first-is (first-small s S d (A .home-in) k (A .named .low) (A .named .high) (A .named .typed) offset bytes 0 (given .room)) in
               let m : blocks ≤ n = rw blocks-is (few s S d (A .home-in) k (A .named .low) (A .named .high) (A .named .typed) offset bytes 0 (given .room)) in
-              (omega (arith, p .inside), f, omega (arith, size-is, S .most), omega (arith, S .most))
+              (omega (arith, o .inside), f, omega (arith, size-is, S .most), omega (arith, S .most))
 
-          pub write-done : (time : ℕ) → setFile u (entryAt b slot) start size blocks time ≡ writeAt s e offset bytes time
+          pub write-done : (time : ℕ) → setFile u (entryAt b slot) start size blocks time ≡ writeAt s (entryAt b slot) offset bytes time
           unfolding writeAt
-          write-done time = rw (put-is, p .place, first-is, p .bytes, p .number)
+          write-done time = rw (put-is, o .place, first-is, p .bytes, p .number)

@@ -7,7 +7,7 @@ use Rattle.layout.specs.Refusals.{require, firstOf}
 use Rattle.layout.specs.Geometry.{blockCount}
 use Rattle.layout.specs.Paths.{home}
 use Rattle.layout.specs.Walks.Slots.{entryAt}
-use Rattle.volume.specs.Create.{placeRefusal, createSlot, place}
+use Rattle.volume.specs.Create.{createSlot, place}
 
 -- 26, which comes just after 9 and 17, the refusals by the path's form
 unfoldable pub broughtRefusal : (form flags : ℕ) → ℕ
@@ -22,6 +22,6 @@ pub record Vacant (s path : List ℕ) (h slot b : ℕ) : Type 0 where
   pub here : entryAt b slot ≡ place s path
 
 -- what a search gives: the number of its refusal, and if that is 0, the place
-pub record Searched (s path : List ℕ) (number h slot b : ℕ) : Type 0 where
-  pub number-is : number ≡ placeRefusal s path
+pub record Searched (s path : List ℕ) (refusal number h slot b : ℕ) : Type 0 where
+  pub number-is : number ≡ refusal
   pub vacant : number ≡ 0 → Vacant s path h slot b

@@ -15,7 +15,7 @@ returns : tie.Need-returns
 returns c = search needs
 
 returns-2 : tie.Need-returns-2
-returns-2 c = (ap (λ (x : ℕ). changed x 0 0) (sym (c .if1 .left) ∙ c .before .refusal .ensures), tt)
+returns-2 c = (ap (λ (x : ℕ). changed x 0 0) (sym (c .if1 .left) ∙ c .before .refusal .ensures .number-is), tt)
 
 pub append-nothing-spec : {M : Type 1} → statement M
 append-nothing-spec =

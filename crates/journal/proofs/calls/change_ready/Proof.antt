@@ -15,14 +15,14 @@ same-length c = search needs
 returns : tie.Need-returns
 returns c =
     let p = c .before .before .before .before .before .before .before .pre in
-    let d = change-refused _ _ _ p _ (c .before .refusal .ensures) (c .if1 .taken) in
+    let d = change-refused _ _ _ p _ (c .before .refusal .ensures .number-is) (c .if1 .taken) in
     (d .0, (d .1, c .if1 .taken))
 
 record-change-requires : tie.Need-record-change-requires
 record-change-requires c κs =
     let r = c .before .before in
     let refusal = r .before .refusal in
-    (c .before .before .before .before .before .before .before .before .before .pre, sym (refusal .ensures) ∙ r .if1 .left)
+    (c .before .before .before .before .before .before .before .before .before .pre, sym (refusal .ensures .number-is) ∙ r .if1 .left, refusal .ensures .target (r .if1 .left))
 
 same-length-2 : tie.Need-same-length-2
 same-length-2 c = search needs
@@ -36,14 +36,14 @@ returns-2 c =
     let r = c .before .before .before .before .before .before in
     let refusal = r .before .refusal in
     let p = c .before .before .before .before .before .before .before .before .before .before .before .before .before .pre in
-    let d = change-full _ _ _ p (sym (refusal .ensures) ∙ r .if1 .left) _ _ (record-change .ensures) (c .if2 .taken) in
+    let d = change-full _ _ _ p (sym (refusal .ensures .number-is) ∙ r .if1 .left) _ _ (record-change .ensures) (c .if2 .taken) in
     (d .0, (d .1, λ e. omega arith))
 
 make-requires : tie.Need-make-requires
 make-requires c κs =
     let r = c .before .before .before .before .before .before .before in
     let refusal = r .before .refusal in
-    (c .before .before .before .before .before .before .before .before .before .before .before .before .before .before .pre .sound, sym (refusal .ensures) ∙ r .if1 .left)
+    (c .before .before .before .before .before .before .before .before .before .before .before .before .before .before .pre .sound, sym (refusal .ensures .number-is) ∙ r .if1 .left, refusal .ensures .target (r .if1 .left))
 
 same-length-4 : tie.Need-same-length-4
 same-length-4 c = search needs
@@ -59,7 +59,7 @@ returns-3 c =
     let r = c .before .before .before .before .before .before .before .before .before .before in
     let refusal = r .before .refusal in
     let p = c .before .before .before .before .before .before .before .before .before .before .before .before .before .before .before .before .before .pre in
-    let d = change-done _ _ _ p (sym (refusal .ensures) ∙ r .if1 .left) _ _ (record-change .ensures) (f .if2 .left) _ (make .ensures .0) _ (make .ensures .1) in
+    let d = change-done _ _ _ p (sym (refusal .ensures .number-is) ∙ r .if1 .left) _ _ (record-change .ensures) (f .if2 .left) _ (make .ensures .0) _ (make .ensures .1) in
     (d .0, (d .1, tt))
 
 pub change-ready-spec : {M : Type 1} → statement M

@@ -15,7 +15,7 @@ record-with-requires : tie.Need-record-with-requires
 record-with-requires c κs =
     let p = c .before .before .before .before .before .before .before .pre in
     let f = zeros-own _ _ (c .before .before .no-marks .ensures) in
-    (p .0, p .1, omega (arith, f .0, sound _ (p .0 .sound) .most), f .1)
+    (p .0, p .1, p .2, omega (arith, f .0, sound _ (p .0 .sound) .most), f .1)
 
 same-length : tie.Need-same-length
 same-length c = search needs

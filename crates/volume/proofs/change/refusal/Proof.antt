@@ -1,5 +1,6 @@
-use Rattle.volume.specs.Change.{refusal}
 use borrow.Author.Needs.{needs}
+use Rattle.volume.specs.Change.{refusal}
+use Rattle.volume.specs.Walks.Targets.{Target}
 use Rattle.volume.proofs.change.refusal.Statement.{statement}
 use Rattle.volume.proofs.change.refusal.Tie as tie
 
@@ -18,8 +19,8 @@ write-refusal-requires c κs = search needs
 enum-told : tie.Need-enum-told
 enum-told c = search needs
 
-delete-refusal-requires : tie.Need-delete-refusal-requires
-delete-refusal-requires c κs = search needs
+open-file-requires : tie.Need-open-file-requires
+open-file-requires c κs = search needs
 
 enum-known-what-3 : tie.Need-enum-known-what-3
 enum-known-what-3 c = search needs
@@ -42,46 +43,46 @@ set-attributes-refusal-requires c κs = search needs
 enum-told-4 : tie.Need-enum-told-4
 enum-told-4 c = search needs
 
-delete-refusal-requires-2 : tie.Need-delete-refusal-requires-2
-delete-refusal-requires-2 c κs = search needs
+open-file-requires-2 : tie.Need-open-file-requires-2
+open-file-requires-2 c κs = search needs
 
 enum-told-5 : tie.Need-enum-told-5
 enum-told-5 c = search needs
 
-delete-refusal-requires-3 : tie.Need-delete-refusal-requires-3
-delete-refusal-requires-3 c κs = search needs
+open-file-requires-3 : tie.Need-open-file-requires-3
+open-file-requires-3 c κs = search needs
 
 returns : tie.Need-returns
-unfolding refusal
-returns c = rw (c .before .before .what .given .1) (c .create-refusal .ensures)
+unfolding refusal Target
+returns c = rw (c .before .before .what .given .1) (record { number-is = c .create-refusal .ensures .number-is; target = c .create-refusal .ensures .vacant })
 
 returns-2 : tie.Need-returns-2
-unfolding refusal
-returns-2 c = rw (c .before .before .what2 .given .1) (c .write-refusal .ensures)
+unfolding refusal Target
+returns-2 c = rw (c .before .before .what2 .given .1) (record { number-is = c .write-refusal .ensures .number-is; target = c .write-refusal .ensures .file })
 
 returns-3 : tie.Need-returns-3
-unfolding refusal
-returns-3 c = rw (c .before .enum-told .given .1) (c .delete-refusal .ensures)
+unfolding refusal Target
+returns-3 c = rw (c .before .enum-told .given .1) (record { number-is = c .open-file .ensures .number-is; target = c .open-file .ensures .file })
 
 returns-4 : tie.Need-returns-4
-unfolding refusal
-returns-4 c = rw (c .before .before .what3 .given .1) (c .create-directory-refusal .ensures)
+unfolding refusal Target
+returns-4 c = rw (c .before .before .what3 .given .1) (record { number-is = c .create-directory-refusal .ensures .number-is; target = c .create-directory-refusal .ensures .vacant })
 
 returns-5 : tie.Need-returns-5
-unfolding refusal
-returns-5 c = rw (c .before .enum-told2 .given .1) (c .delete-directory-refusal .ensures)
+unfolding refusal Target
+returns-5 c = rw (c .before .enum-told2 .given .1) (record { number-is = c .delete-directory-refusal .ensures .number-is; target = c .delete-directory-refusal .ensures .file })
 
 returns-6 : tie.Need-returns-6
-unfolding refusal
-returns-6 c = rw (c .before .enum-told3 .given .1) (c .set-attributes-refusal .ensures)
+unfolding refusal Target
+returns-6 c = rw (c .before .enum-told3 .given .1) (record { number-is = c .set-attributes-refusal .ensures .number-is; target = c .set-attributes-refusal .ensures .file })
 
 returns-7 : tie.Need-returns-7
-unfolding refusal
-returns-7 c = rw (c .before .enum-told4 .given .1) (c .delete-refusal2 .ensures)
+unfolding refusal Target
+returns-7 c = rw (c .before .enum-told4 .given .1) (record { number-is = c .open-file2 .ensures .number-is; target = c .open-file2 .ensures .file })
 
 returns-8 : tie.Need-returns-8
-unfolding refusal
-returns-8 c = rw (c .before .enum-told5 .given .1) (c .delete-refusal3 .ensures)
+unfolding refusal Target
+returns-8 c = rw (c .before .enum-told5 .given .1) (record { number-is = c .open-file3 .ensures .number-is; target = c .open-file3 .ensures .file })
 
 pub refusal-spec : {M : Type 1} → statement M
 refusal-spec =
@@ -92,7 +93,7 @@ refusal-spec =
     enum-known-what-2
     write-refusal-requires
     enum-told
-    delete-refusal-requires
+    open-file-requires
     enum-known-what-3
     create-directory-refusal-requires
     enum-told-2
@@ -100,9 +101,9 @@ refusal-spec =
     enum-told-3
     set-attributes-refusal-requires
     enum-told-4
-    delete-refusal-requires-2
+    open-file-requires-2
     enum-told-5
-    delete-refusal-requires-3
+    open-file-requires-3
     returns
     returns-2
     returns-3

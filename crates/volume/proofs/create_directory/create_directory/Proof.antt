@@ -1,71 +1,64 @@
-use Rattle.volume.proofs.Laws.Places.{create-directory-given}
+use borrow.Author.Needs.{needs}
 use mathlib.Core.Path.{_∙_}
 use native.Mathlib.Omega.{arith}
+use Rattle.layout.proofs.Walks.Shapes.{sound-shape}
+use Rattle.volume.proofs.Laws.Places.{create-directory-given}
 use Rattle.volume.proofs.Walks.Create.{name-short}
 use Rattle.volume.proofs.Walks.CreateDirectory.{directory-path, create-directory-room, create-directory-written}
-use Rattle.layout.proofs.Walks.Shapes.{sound-shape}
-use borrow.Author.Needs.{needs}
 use Rattle.volume.proofs.create_directory.create_directory.Statement.{statement}
 use Rattle.volume.proofs.create_directory.create_directory.Tie as tie
 
-vacant-requires : tie.Need-vacant-requires
-vacant-requires c κs =
-    let p = c .before .before .before .pre in
-    let a = c .before .before .before .args in
-    let g = create-directory-given (a .image .now) (a .path .now) (a .kind) (a .flags) (a .d) (p .1) in
-    (directory-path (p .0) g, g .placed)
-
 take-blocks-requires : tie.Need-take-blocks-requires
 take-blocks-requires c κs =
-    let p = c .before .before .before .before .before .pre in
-    let a = c .before .before .before .before .before .args in
+    let p = c .before .before .before .pre in
+    let a = c .before .before .before .args in
     let g = create-directory-given (a .image .now) (a .path .now) (a .kind) (a .flags) (a .d) (p .1) in
     (p .0, g .least, g .room)
 
 last-part-requires : tie.Need-last-part-requires
 last-part-requires c κs =
-    let p = c .before .before .before .before .before .before .before .before .pre in
-    let a = c .before .before .before .before .before .before .before .before .args in
+    let p = c .before .before .before .before .before .before .pre in
+    let a = c .before .before .before .before .before .before .args in
     create-directory-given (a .image .now) (a .path .now) (a .kind) (a .flags) (a .d) (p .1) .good
 
 put-directory-requires : tie.Need-put-directory-requires
 put-directory-requires c κs =
-    let p = c .before .before .before .before .before .before .before .before .before .before .pre in
-    let a = c .before .before .before .before .before .before .before .before .before .before .args in
+    let p = c .before .before .before .before .before .before .before .before .pre in
+    let a = c .before .before .before .before .before .before .before .before .args in
     let g = create-directory-given (a .image .now) (a .path .now) (a .kind) (a .flags) (a .d) (p .1) in
     let t = c .before .before .before .before .take-blocks .ensures in
-    let r = create-directory-room (c .before .before .before .before .before .before .vacant .ensures) (a .d) (p .0) (g .least) (g .room) (directory-path (p .0) g) (g .placed) _ _ (t .1 .0) (t .1 .1) _ (t .0) in
+    let r = create-directory-room (p .2) (a .d) (p .0) (g .least) (g .room) (directory-path (p .0) g) (g .placed) _ _ (t .1 .0) (t .1 .1) _ (t .0) in
     (r .0, r .1, r .2, r .3, name-short (a .path .now) _ (g .good) (c .before .last-part .ensures))
 
-cast-t22 : tie.Need-cast-t22
-cast-t22 c =
-    let p = c .before .before .before .before .before .before .before .before .before .before .before .before .before .before .pre in
-    let a = c .before .before .before .before .before .before .before .before .before .before .before .before .before .before .args in
+cast-t20 : tie.Need-cast-t20
+cast-t20 c =
+    let p = c .before .before .before .before .before .before .before .before .before .before .before .before .pre in
+    let a = c .before .before .before .before .before .before .before .before .before .before .before .before .args in
     let g = create-directory-given (a .image .now) (a .path .now) (a .kind) (a .flags) (a .d) (p .1) in
     let t = c .before .before .before .before .before .before .before .before .take-blocks .ensures in
-    let r = create-directory-room (c .before .before .before .before .before .before .before .before .before .before .vacant .ensures) (a .d) (p .0) (g .least) (g .room) (directory-path (p .0) g) (g .placed) _ _ (t .1 .0) (t .1 .1) _ (t .0) .2 in
+    let r = create-directory-room (p .2) (a .d) (p .0) (g .least) (g .room) (directory-path (p .0) g) (g .placed) _ _ (t .1 .0) (t .1 .1) _ (t .0) .2 in
     omega (arith, r)
 
 put-slot-requires : tie.Need-put-slot-requires
 put-slot-requires c κs =
-    let p = c .before .before .before .before .before .before .before .before .before .before .before .before .before .before .before .pre in
-    let a = c .before .before .before .before .before .before .before .before .before .before .before .before .before .before .before .args in
+    let p = c .before .before .before .before .before .before .before .before .before .before .before .before .before .pre in
+    let a = c .before .before .before .before .before .before .before .before .before .before .before .before .before .args in
     let g = create-directory-given (a .image .now) (a .path .now) (a .kind) (a .flags) (a .d) (p .1) in
     let h = sound-shape (a .image .now) (p .0) in
-    (omega (arith, c .before .before .before .before .before .before .before .before .before .before .before .vacant .ensures .inside), name-short (a .path .now) _ (g .good) (c .before .before .before .before .before .before .last-part .ensures))
+    (omega (arith, p .2 .inside), name-short (a .path .now) _ (g .good) (c .before .before .before .before .before .before .last-part .ensures))
 
 cast-result : tie.Need-cast-result
-cast-result c = search needs
+cast-result c = omega (arith, c .before .before .before .before .before .before .before .before .before .before .before .before .before .before .before .before .before .pre .2 .low)
 
 same-length : tie.Need-same-length
 same-length c = search needs
 
 returns : tie.Need-returns
 returns c =
-    let p = c .before .before .before .before .before .before .before .before .before .before .before .before .before .before .before .before .before .before .before .pre in
-    let a = c .before .before .before .before .before .before .before .before .before .before .before .before .before .before .before .before .before .before .before .args in
+    let p = c .before .before .before .before .before .before .before .before .before .before .before .before .before .before .before .before .before .pre in
+    let a = c .before .before .before .before .before .before .before .before .before .before .before .before .before .before .before .before .before .args in
     let g = create-directory-given (a .image .now) (a .path .now) (a .kind) (a .flags) (a .d) (p .1) in
-    let v = c .before .before .before .before .before .before .before .before .before .before .before .before .before .before .before .vacant .ensures in
+    let v = p .2 in
     let t = c .before .before .before .before .before .before .before .before .before .before .before .before .before .take-blocks .ensures in
     let name = c .before .before .before .before .before .before .before .before .before .before .last-part .ensures in
     let made = c .before .before .before .before .before .before .before .before .put-directory .ensures in (
@@ -78,11 +71,10 @@ pub create-directory-spec : {M : Type 1} → statement M
 create-directory-spec =
     tie.close
     (tie.spec
-    vacant-requires
     take-blocks-requires
     last-part-requires
     put-directory-requires
-    cast-t22
+    cast-t20
     put-slot-requires
     cast-result
     same-length

@@ -6,13 +6,13 @@ use Rattle.volume.proofs.table.take_lowest.Statement.{statement}
 use Rattle.volume.proofs.table.take_lowest.Tie as tie
 
 abbrev Inv-loop : tie.InvT-loop
-Inv-loop image₀ n last count notes₀ end₀ from₀ left₀ image notes end from left = (length notes ≡ length notes₀) × Growing image₀ n last count image notes end from left
+Inv-loop image₀ n last count first notes₀ end₀ from₀ left₀ image notes end from left = (length notes ≡ length notes₀) × Growing image₀ n last count image notes end from left
 
 abbrev μ-loop : tie.MeasureT-loop
-μ-loop image₀ n last count notes₀ end₀ from₀ left₀ image notes end from left = left
+μ-loop image₀ n last count first notes₀ end₀ from₀ left₀ image notes end from left = left
 
 loop-holds : tie.Need-loop-holds Inv-loop μ-loop
-loop-holds c = (refl, growing _ _ _ _ _ (c .before .before .pre .0) (c .before .before .pre .1))
+loop-holds c = (refl, growing _ _ _ _ _ _ (c .before .before .pre .0) (c .before .before .pre .1) (c .before .before .pre .2))
 
 search-requires : tie.Need-search-requires Inv-loop μ-loop
 search-requires c κs =
