@@ -234,6 +234,23 @@ static void show_text(const char *path)
 }
 
 /* The purchases of all boxes that have one. */
+/* The volume's name and counts, and what its root holds, slot by slot. */
+static void show_volume(void)
+{
+    uint8_t labels[BULGEFS_LABELS_SIZE], name[BULGEFS_MAX_NAME + 1] = {0};
+    bulgefs_volume v = bulgefs_info(image, sizeof image, labels, sizeof labels);
+    require(v.number, "info", "the volume");
+    printf("  \"%.*s\": %u of %u blocks used\n", (int)BULGEFS_VOLUME_NAME_SIZE,
+           (const char *)labels + sizeof(bulgefs_uuid), (unsigned)v.used, (unsigned)v.blocks);
+    bulgefs_slot e = bulgefs_entry(image, sizeof image, bytes("/"), 1, 1, name, BULGEFS_MAX_NAME);
+    while (e.slot != 0) {
+        printf("  slot %u: %-9s %u bytes, %u blocks, time %u\n", (unsigned)e.slot,
+               (const char *)name, (unsigned)e.size, (unsigned)e.blocks, (unsigned)e.modified);
+        e = bulgefs_entry(image, sizeof image, bytes("/"), 1, e.slot + 1, name, BULGEFS_MAX_NAME);
+    }
+    require(e.number, "entry", "/");
+}
+
 static void show_purchases(void)
 {
     for (int i = 0; i < BOXES; i++) {
@@ -298,6 +315,7 @@ static void install(void)
     replace(scenes, scene_list(), 1003);
     set_purchase(boxes[0].path, "bought 2024-05-13, invoice 4471");
     set_purchase(boxes[2].path, "bought 2025-01-30, invoice 5120");
+    show_volume();
     show_text(scenes);
     show_purchases();
     look_for_deleted();

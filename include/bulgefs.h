@@ -80,8 +80,8 @@ extern "C" {
  * The version of this header, 10000 * major + 100 * minor + patch.  The minor
  * number rises with every call, number or limit that comes or changes.
  */
-#define BULGEFS_VERSION            1000u
-#define BULGEFS_VERSION_TEXT       "0.10.0"
+#define BULGEFS_VERSION            1100u
+#define BULGEFS_VERSION_TEXT       "0.11.0"
 
 /*
  * The compiler says if an answer is not used.  Define BULGEFS_CHECKED as
@@ -105,6 +105,7 @@ extern "C" {
 #define BULGEFS_MAX_LEVELS         8u        /* levels of directories below the root   */
 #define BULGEFS_MAX_NAME           80u       /* bytes in the longest name              */
 #define BULGEFS_VOLUME_NAME_SIZE   128u      /* bytes of a volume name, always         */
+#define BULGEFS_LABELS_SIZE        144u      /* bytes of a UUID and a volume name      */
 #define BULGEFS_MAX_DATA           4096u     /* bytes that one write or append accepts */
 #define BULGEFS_MAX_LIST           65536u    /* bytes in the longest list of writes    */
 #define BULGEFS_MAX_ATTRIBUTE_BLOCKS 8u      /* blocks of a file's attributes          */
@@ -265,6 +266,25 @@ typedef struct { uint32_t number, count; } bulgefs_filled;
 /* A part of the caller's image: offset of its first byte, and its length. */
 typedef struct { uint32_t start, length; } bulgefs_part;
 
+/*
+ * A volume: its blocks, those in use, those free (used + free = blocks), and
+ * the blocks of its root directory.
+ */
+typedef struct { uint32_t number, blocks, used, free, root_blocks; } bulgefs_volume;
+
+/*
+ * An entry of a directory: its slot, or 0 if there is none; its fields.  size
+ * is in bytes and 0 of a directory; blocks and attribute_size are in blocks;
+ * first and attribute_block are 0 where there are none.
+ */
+typedef struct {
+    uint32_t number, slot;
+    uint8_t type, user, group, permissions;
+    uint32_t flags;
+    uint64_t created, modified;
+    uint32_t first, size, blocks, attribute_block, attribute_size;
+} bulgefs_slot;
+
 /* The slot of what was created, and the length of the record added to the journal. */
 typedef struct { uint32_t number, slot, record; } bulgefs_created;
 
@@ -372,6 +392,43 @@ BULGEFS_CHECKED
 bulgefs_part bulgefs_look_in_place(const uint8_t *image, size_t image_len,
                                    const uint8_t *path, size_t path_len,
                                    uint64_t index);
+
+/*
+ * Tells the volume's numbers, and copies its UUID (16 bytes) and behind it its
+ * volume name (128 bytes) into the buffer: as many of these 144 as fit.  The
+ * rest of the buffer stays as it is.
+ * Refusals: 1 to 7.
+ */
+BULGEFS_CHECKED
+bulgefs_volume bulgefs_info(const uint8_t *image, size_t image_len,
+                            uint8_t *labels, size_t labels_len);
+
+/*
+ * Tells of the entry in the lowest slot, from the given one on, that is not
+ * free, of a directory; the path of the root is "/".  Files and directories
+ * are both told, in slot order.  The name's field, the name and zeros after
+ * it, is copied into the buffer: as many of its 80 bytes as fit.  The rest of
+ * the buffer stays as it is, so that a byte 0 at its end ends every name.  If
+ * there is no such slot the call is accepted, slot and all other fields are 0,
+ * and the buffer stays as it is.  So a directory is listed by
+ *
+ *   uint8_t name[BULGEFS_MAX_NAME + 1] = { 0 };
+ *   bulgefs_slot e = bulgefs_entry(image, image_len, path, path_len,
+ *                                  1, name, BULGEFS_MAX_NAME);
+ *   while (e.slot != 0) {
+ *       ...
+ *       e = bulgefs_entry(image, image_len, path, path_len,
+ *                         e.slot + 1, name, BULGEFS_MAX_NAME);
+ *   }
+ *
+ * after which e.number is 0, or the refusal.  Slot 0 is taken as slot 1.
+ * Refusals: 1 to 7, BULGEFS_BAD_ARGUMENT, BULGEFS_TOO_DEEP, BULGEFS_NOT_FOUND
+ * (also for the path of a file).
+ */
+BULGEFS_CHECKED
+bulgefs_slot bulgefs_entry(const uint8_t *image, size_t image_len,
+                           const uint8_t *path, size_t path_len,
+                           uint32_t slot, uint8_t *name, size_t name_len);
 
 /*
  * Makes an empty journal of the whole buffer and writes every byte of it.

@@ -140,6 +140,39 @@ typedef struct {
 #define PATH       (BIT(9) | BIT(10) | BIT(17))
 #define MAY(set, n) ((n) <= 26 && ((set) | 1u) >> (n) & 1u)
 
+/* The volume and an entry, on an image whose check gives this number. */
+static void call_overview(const material *m, const buffer *image, const buffer *path,
+                          uint32_t number)
+{
+    buffer into = lend(m->data, m->data_len);
+    size_t most = into.len < BULGEFS_LABELS_SIZE ? into.len : BULGEFS_LABELS_SIZE;
+    bulgefs_volume v = bulgefs_info(image->at, image->len, into.at, into.len);
+    expect(v.number == number, "info: number");
+    expect(v.number == 0 ? v.used + v.free == v.blocks && v.root_blocks > 0
+                         : (v.blocks | v.used | v.free | v.root_blocks) == 0,
+           "info: counts, or zeros");
+    expect(v.number == 0 || unchanged(&into), "info: refused without a change");
+    expect(into.len == most || memcmp(into.at + most, into.before + most, into.len - most) == 0,
+           "info: the rest stays");
+    give_back(&into);
+
+    into = lend(m->data, m->data_len);
+    most = into.len < BULGEFS_MAX_NAME ? into.len : BULGEFS_MAX_NAME;
+    bulgefs_slot e = bulgefs_entry(image->at, image->len, path->at, path->len,
+                                   (uint32_t)m->offset, into.at, into.len);
+    expect(MAY(STAGES | PATH, e.number), "entry: number");
+    expect(number == 0 || e.number == number, "entry: stage");
+    expect(e.slot == 0 ? (e.type | e.user | e.group | e.permissions | e.flags | e.created
+                          | e.modified | e.first | e.size | e.blocks | e.attribute_block
+                          | e.attribute_size) == 0
+                             && unchanged(&into)
+                       : e.number == 0 && e.type != 0 && e.slot >= (uint32_t)m->offset,
+           "entry: fields, or zeros");
+    expect(into.len == most || memcmp(into.at + most, into.before + most, into.len - most) == 0,
+           "entry: the rest stays");
+    give_back(&into);
+}
+
 static void call_looks(const material *m)
 {
     buffer image = lend_const(m->image, m->image_len);
@@ -185,6 +218,8 @@ static void call_looks(const material *m)
     expect(into.len == a.count
                || memcmp(into.at + a.count, into.before + a.count, into.len - a.count) == 0,
            "read_attributes: the rest stays");
+
+    call_overview(m, &image, &path, number);
 
     expect(unchanged(&image) && unchanged(&path), "looks: nothing changed");
     give_back(&image);

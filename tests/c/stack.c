@@ -97,6 +97,19 @@ static void look(void)
     number = bulgefs_look_in_place(image, image_len, path, 2, 0).length == 512 ? 0 : 99;
 }
 
+static void info(void)
+{
+    static uint8_t labels[BULGEFS_LABELS_SIZE];
+    number = bulgefs_info(image, image_len, labels, sizeof labels).number;
+}
+
+static void entry(void)
+{
+    static uint8_t name[BULGEFS_MAX_NAME];
+    bulgefs_slot e = bulgefs_entry(image, image_len, path, 1, 1, name, sizeof name);
+    number = e.slot == 1 ? e.number : 99;
+}
+
 static void set_attributes(void)
 {
     number = bulgefs_set_attributes(image, image_len, journal, journal_len, path, 2, data, 4096)
@@ -148,7 +161,7 @@ static const struct {
     {"format", format}, {"journal_start", start}, {"create", create}, {"write", write_data},
     {"append", append}, {"append of nothing", append_nothing}, {"write_list", write_list},
     {"check", check},   {"lookup", lookup},       {"read", read_data}, {"look_in_place", look},
-    {"read_next", read_next},
+    {"read_next", read_next}, {"info", info}, {"entry", entry},
     {"plain_check", plain_check}, {"load_table", load}, {"store_table", store},
     {"set_attributes", set_attributes}, {"set_attributes again", set_attributes},
     {"read_attributes", read_attributes}, {"clear_attributes", clear_attributes}, {"undo", undo},

@@ -76,6 +76,9 @@ static void answers(void)
     expect(sizeof(bulgefs_filled) == 8 && sizeof(bulgefs_part) == 8, "filled, part");
     expect(sizeof(bulgefs_created) == 12 && sizeof(bulgefs_changed) == 8, "created, changed");
     expect(sizeof(bulgefs_listed) == 8, "listed");
+    expect(sizeof(bulgefs_volume) == 20 && sizeof(bulgefs_slot) == 56, "volume, slot");
+    expect(BULGEFS_LABELS_SIZE == sizeof(bulgefs_uuid) + BULGEFS_VOLUME_NAME_SIZE,
+           "BULGEFS_LABELS_SIZE");
     expect(BULGEFS_VERSION >= 1000u && strlen(BULGEFS_VERSION_TEXT) >= 5, "version");
     expect(BULGEFS_MAX_REPORT == BULGEFS_SLOTS_PER_BLOCK * BULGEFS_MAX_DIRECTORY_BLOCKS,
            "BULGEFS_MAX_REPORT");

@@ -12,10 +12,10 @@ static void print_counts(const bytes *image)
 {
     listing list = listing_read(image);
     totals sum = listing_totals(image, &list);
+    bulgefs_volume v = view_volume(image).numbers;
 
     printf("sound\n");
-    printf("blocks %" PRIu32 ", used %" PRIu32 ", free %" PRIu32 "\n", view_blocks(image),
-           view_number(image, 20), view_number(image, 24));
+    printf("blocks %" PRIu32 ", used %" PRIu32 ", free %" PRIu32 "\n", v.blocks, v.used, v.free);
     put_count(stdout, sum.directories, "directory", "directories");
     printf(" below the root, ");
     put_count(stdout, sum.files, "file", "files");
@@ -29,9 +29,9 @@ static void json_counts(const bytes *image)
 {
     listing list = listing_read(image);
     totals sum = listing_totals(image, &list);
+    bulgefs_volume v = view_volume(image).numbers;
 
-    printf(",\"blocks\":%" PRIu32 ",\"used\":%" PRIu32 ",\"free\":%" PRIu32, view_blocks(image),
-           view_number(image, 20), view_number(image, 24));
+    printf(",\"blocks\":%" PRIu32 ",\"used\":%" PRIu32 ",\"free\":%" PRIu32, v.blocks, v.used, v.free);
     printf(",\"directories\":%" PRIu32 ",\"files\":%" PRIu32 ",\"bytes\":%" PRIu64
            ",\"with_attributes\":%" PRIu32, sum.directories, sum.files, sum.file_bytes,
            sum.with_attributes);

@@ -13,19 +13,20 @@ static void line(const char *name)
 
 static void print_volume(const bytes *image, const totals *sum)
 {
+    volume_info volume = view_volume(image);
     const uint8_t *name;
-    size_t length = volume_name(image, &name);
+    size_t length = volume_name(&volume, &name);
     entry root = view_root(image);
 
     line("name");
     put_text(stdout, name, length);
     printf("\n");
     line("uuid");
-    put_uuid(stdout, image);
+    put_uuid(stdout, &volume);
     printf("\n");
     line("blocks");
-    printf("%" PRIu32 ", used %" PRIu32 ", free %" PRIu32 "\n", view_blocks(image),
-           view_number(image, 20), view_number(image, 24));
+    printf("%" PRIu32 ", used %" PRIu32 ", free %" PRIu32 "\n", volume.numbers.blocks,
+           volume.numbers.used, volume.numbers.free);
     line("table");
     put_count(stdout, view_table(image), "block", "blocks");
     printf("\n");
@@ -76,17 +77,18 @@ static void json_journal(const store *s)
 static void json_volume(const store *s, const totals *sum)
 {
     const bytes *image = &s->image;
+    volume_info volume = view_volume(image);
     const uint8_t *name;
-    size_t length = volume_name(image, &name);
+    size_t length = volume_name(&volume, &name);
     entry root = view_root(image);
 
     printf("{\"name\":");
     json_string(stdout, name, length);
     printf(",\"uuid\":\"");
-    put_uuid(stdout, image);
+    put_uuid(stdout, &volume);
     printf("\",\"blocks\":%" PRIu32 ",\"used\":%" PRIu32 ",\"free\":%" PRIu32
-           ",\"table_blocks\":%" PRIu32, view_blocks(image), view_number(image, 20),
-           view_number(image, 24), view_table(image));
+           ",\"table_blocks\":%" PRIu32, volume.numbers.blocks, volume.numbers.used,
+           volume.numbers.free, view_table(image));
     printf(",\"root_block\":%" PRIu32 ",\"root_blocks\":%" PRIu32 ",\"created\":%" PRIu64,
            root.first, root.blocks, root.created);
     printf(",\"directories\":%" PRIu32 ",\"files\":%" PRIu32 ",\"bytes\":%" PRIu64,
@@ -97,7 +99,7 @@ static void json_volume(const store *s, const totals *sum)
     printf("}\n");
 }
 
-/* The blocks of a chain as stretches: "4-7 12". */
+/* The blocks of a chain as stretches, in plain C: "4-7 12". */
 static void print_chain(const char *name, const bytes *image, uint32_t first, uint32_t count)
 {
     chain c = chain_of(image, first, count);

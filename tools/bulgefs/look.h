@@ -9,12 +9,15 @@
 
 /* ---- view.c ---- */
 
-/* Numbers of an image; bytes outside of it read as 0. */
+/* Numbers of an image in plain C; bytes outside of it read as 0. */
 uint32_t view_number(const bytes *image, size_t at);
 uint32_t view_blocks(const bytes *image);
 uint32_t view_table(const bytes *image);
 entry view_slot(const bytes *image, size_t offset, uint32_t slot);
 int view_is_file(const entry *e);
+/* The volume as the library tells it: its numbers, then its UUID and its name. */
+typedef struct { bulgefs_volume numbers; uint8_t labels[BULGEFS_LABELS_SIZE]; } volume_info;
+volume_info view_volume(const bytes *image);
 /* The root has no entry: this is what one would say. */
 entry view_root(const bytes *image);
 
@@ -71,13 +74,13 @@ const char *stage_name(uint32_t stage);
 
 void put_time(FILE *out, uint64_t milliseconds);
 void put_permissions(FILE *out, uint8_t permissions);
-void put_uuid(FILE *out, const bytes *image);
+void put_uuid(FILE *out, const volume_info *volume);
 /* A text that ends with a zero, by put_text. */
 void put_path(FILE *out, const char *path);
 /* The same for a page or a picture: markup escaped too. */
 void put_markup(FILE *out, const char *text);
 /* The volume name up to its first zero. */
-size_t volume_name(const bytes *image, const uint8_t **name);
+size_t volume_name(const volume_info *volume, const uint8_t **name);
 /* "1 file", "2 files". */
 void put_count(FILE *out, uint64_t count, const char *one, const char *many);
 

@@ -1,4 +1,4 @@
-/* map VOLUME [--all] [--svg FILE]: what each block is used for. */
+/* map VOLUME [--all] [--svg FILE]: what each block is used for, found in plain C by walking the chains of all entries. */
 #include <ctype.h>
 #include <inttypes.h>
 #include <stdlib.h>

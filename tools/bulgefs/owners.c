@@ -1,4 +1,4 @@
-/* The tree of a sound image as a list, and the owner of each of its blocks. */
+/* The tree of a sound image as a list, as the library tells it, and the owner of each of its blocks, by chains walked in plain C. */
 #include <stdlib.h>
 #include <string.h>
 

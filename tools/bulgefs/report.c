@@ -30,13 +30,12 @@ static void put_journal_cards(const report *r)
 
 static void put_cards(const report *r)
 {
-    const bytes *image = &r->s->image;
-    uint32_t n = view_blocks(image), used = view_number(image, 20);
+    bulgefs_volume v = view_volume(&r->s->image).numbers;
 
     fputs("<div class=\"cards\">\n", r->out);
-    put_card(r->out, n, "", "blocks of 512 bytes");
-    put_card(r->out, used, "", "blocks used");
-    put_card(r->out, n - used, "", "blocks free");
+    put_card(r->out, v.blocks, "", "blocks of 512 bytes");
+    put_card(r->out, v.used, "", "blocks used");
+    put_card(r->out, v.free, "", "blocks free");
     put_card(r->out, r->sum.files, "", r->sum.files == 1 ? "file" : "files");
     put_card(r->out, r->sum.directories, "", r->sum.directories == 1 ? "directory" : "directories");
     put_card(r->out, r->sum.file_bytes, "", "bytes in files");
@@ -46,8 +45,9 @@ static void put_cards(const report *r)
 
 static void put_heading(const report *r, const char *path)
 {
+    volume_info volume = view_volume(&r->s->image);
     const uint8_t *name;
-    size_t length = volume_name(&r->s->image, &name);
+    size_t length = volume_name(&volume, &name);
     char title[BULGEFS_VOLUME_NAME_SIZE + 1];
 
     memcpy(title, name, length);
@@ -58,7 +58,7 @@ static void put_heading(const report *r, const char *path)
     fputs("</h1>\n<div><span class=\"tag\">sound</span> <span class=\"mono pale\">", r->out);
     put_markup(r->out, path);
     fputs(" &middot; ", r->out);
-    put_uuid(r->out, &r->s->image);
+    put_uuid(r->out, &volume);
     fputs("</span></div>\n", r->out);
 }
 

@@ -107,23 +107,19 @@ void put_permissions(FILE *out, uint8_t permissions)
         fputc(permissions & (0x80u >> bit) ? letters[bit] : '-', out);
 }
 
-void put_uuid(FILE *out, const bytes *image)
+void put_uuid(FILE *out, const volume_info *volume)
 {
     size_t i;
 
-    for (i = 0; i < 16 && 112 + i < image->length; i++)
-        fprintf(out, i == 4 || i == 6 || i == 8 || i == 10 ? "-%02x" : "%02x",
-                image->bytes[112 + i]);
+    for (i = 0; i < 16; i++)
+        fprintf(out, i == 4 || i == 6 || i == 8 || i == 10 ? "-%02x" : "%02x", volume->labels[i]);
 }
 
-size_t volume_name(const bytes *image, const uint8_t **name)
+size_t volume_name(const volume_info *volume, const uint8_t **name)
 {
     size_t length = 0;
 
-    *name = image->bytes;
-    if (image->length < BULGEFS_BLOCK_SIZE)
-        return 0;
-    *name = image->bytes + 128;
+    *name = volume->labels + 16;
     while (length < BULGEFS_VOLUME_NAME_SIZE && (*name)[length] != 0)
         length++;
     return length;

@@ -183,7 +183,7 @@ uint32_t undo_record(bytes *image, bytes *journal, const bytes *after, each_chan
 /* Words for either, for the record of this number (from 1); gives REFUSED. */
 int refuse_record(const store *, uint32_t number, size_t record);
 
-/* ---- view.c: plain reading of a sound image ---- */
+/* ---- view.c: a sound image as the library tells it, its chains in plain C ---- */
 
 struct entry {
     uint8_t type, user, group, permissions;

@@ -1,7 +1,9 @@
 /*
- * Plain reading of an image that the library has called sound.  Every number
- * that is followed is held against the image's length first, so that a wrong
- * image gives wrong words and never a read outside the bytes lent.
+ * A sound image: its numbers, labels and entries as the library tells them
+ * (bulgefs_info, bulgefs_entry), which is proved.  Chains, the block of a slot
+ * and the root's own times are read here in plain C, and that is not.  Every
+ * number that is followed is held against the image's length first, so that a
+ * wrong image gives wrong words and never a read outside the bytes lent.
  */
 #include <string.h>
 
@@ -111,6 +113,15 @@ uint32_t chain_pieces(const bytes *image, uint32_t first, uint32_t blocks)
     return pieces;
 }
 
+volume_info view_volume(const bytes *image)
+{
+    volume_info v;
+
+    memset(&v, 0, sizeof v);
+    v.numbers = bulgefs_info(image->bytes, image->length, v.labels, sizeof v.labels);
+    return v;
+}
+
 entry view_root(const bytes *image)
 {
     uint32_t first = view_table(image) + 1;
@@ -118,74 +129,89 @@ entry view_root(const bytes *image)
 
     e.type = BULGEFS_PLAIN_DIRECTORY;
     e.first = first;
+    e.blocks = view_volume(image).numbers.root_blocks;
     e.size = 0;
     e.name_length = 0;
     e.name[0] = 0;
     return e;
 }
 
-/* Gives the entries of a directory in ascending order of slots. */
-typedef struct { chain blocks; uint32_t block, slot, end; } slots;
+/* A directory: the first length bytes of path, none for the root, and its entry. */
+typedef struct { const bytes *image; const char *path; size_t length; entry self; } folder;
 
-static slots slots_of(const bytes *image, const entry *directory)
+/* Where slot k of a directory stands in the image; 0 where its chain is wrong. */
+static size_t slot_offset(const folder *f, uint32_t slot)
 {
-    slots s;
-    uint32_t d = directory->blocks;
+    chain c = chain_of(f->image, f->self.first, f->self.blocks);
+    uint32_t block = 0, i;
 
-    if (d > BULGEFS_MAX_DIRECTORY_BLOCKS)
-        d = BULGEFS_MAX_DIRECTORY_BLOCKS;
-    s.blocks = chain_of(image, directory->first, d);
-    s.block = 0;
-    s.slot = 0;
-    s.end = d == 0 ? 0 : 4 * d - 1;
-    return s;
-}
-
-static int slots_step(slots *s, entry *e)
-{
-    size_t at;
-
-    while (s->slot < s->end) {
-        if (s->slot % 4 == 0 && !chain_step(&s->blocks, &s->block))
+    for (i = 0; i <= slot / 4; i++)
+        if (!chain_step(&c, &block))
             return 0;
-        at = BULGEFS_BLOCK_SIZE * (size_t)s->block + SLOT * (size_t)(s->slot % 4);
-        *e = view_slot(s->blocks.image, at, s->slot);
-        s->slot++;
-        if (view_is_file(e) || view_is_directory(e))
-            return 1;
-    }
-    return 0;
+    return BULGEFS_BLOCK_SIZE * (size_t)block + SLOT * (size_t)(slot % 4);
 }
 
-static int find_name(const bytes *image, const entry *directory, const char *name, size_t length,
-                     entry *found)
+/* The entry in the lowest slot, from the given one on, that is not free; 0 if there is none. */
+static int next_entry(const folder *f, uint32_t slot, entry *e)
 {
-    slots s = slots_of(image, directory);
+    uint8_t name[BULGEFS_MAX_NAME + 1] = { 0 };
+    const uint8_t *path = (const uint8_t *)(f->length == 0 ? "/" : f->path);
+    bulgefs_slot s = bulgefs_entry(f->image->bytes, f->image->length, path, f->length == 0 ? 1 : f->length,
+                                   slot, name, BULGEFS_MAX_NAME);
 
-    while (slots_step(&s, found))
+    memset(e, 0, sizeof *e);
+    if (s.slot == 0)
+        return 0;
+    e->slot = s.slot;
+    e->type = s.type;
+    e->user = s.user;
+    e->group = s.group;
+    e->permissions = s.permissions;
+    e->first = s.first;
+    e->size = s.size;
+    e->blocks = s.blocks;
+    e->created = s.created;
+    e->modified = s.modified;
+    e->attribute_block = s.attribute_block;
+    e->attribute_size = s.attribute_size;
+    e->flags = s.flags;
+    e->name_length = strlen((const char *)name);
+    memcpy(e->name, name, sizeof name);
+    e->offset = slot_offset(f, s.slot);
+    return 1;
+}
+
+static int find_name(const folder *f, const char *name, size_t length, entry *found)
+{
+    uint32_t slot = 1;
+
+    while (next_entry(f, slot, found)) {
         if (found->name_length == length && memcmp(found->name, name, length) == 0)
             return 1;
+        slot = found->slot + 1;
+    }
     return 0;
 }
 
 uint32_t view_find(const bytes *image, const char *path, entry *found)
 {
-    entry at = view_root(image);
+    folder f = { image, path, 0, view_root(image) };
+    const char *rest = path;
     size_t length;
 
     if (*path != '/')
         return BULGEFS_NOT_FOUND;
-    while (path[0] == '/' && path[1] != 0) {
-        path++;
-        length = strcspn(path, "/");
-        if (!view_is_directory(&at) || !find_name(image, &at, path, length, found))
+    while (rest[0] == '/' && rest[1] != 0) {
+        length = strcspn(rest + 1, "/");
+        if (!view_is_directory(&f.self) || !find_name(&f, rest + 1, length, found))
             return BULGEFS_NOT_FOUND;
-        at = *found;
-        path += length;
+        f.self = *found;
+        rest += 1 + length;
+        f.length = (size_t)(rest - path);
     }
-    if (*path == '/' && !view_is_directory(&at))
+    if (*rest == '/' && !view_is_directory(&f.self))
         return BULGEFS_NOT_FOUND;
-    *found = at;
+    *found = f.self;
     return 0;
 }
 
@@ -200,11 +226,13 @@ typedef struct {
 
 static int visit_directory(visit *v, const entry *directory, size_t length, unsigned level)
 {
-    slots s = slots_of(v->image, directory);
+    folder f = { v->image, v->path, length, *directory };
+    uint32_t slot = 1;
     entry e;
     int stop;
 
-    while (slots_step(&s, &e)) {
+    while (next_entry(&f, slot, &e)) {
+        slot = e.slot + 1;
         if (length + 1 + e.name_length > BULGEFS_MAX_PATH)
             continue;
         v->path[length] = '/';

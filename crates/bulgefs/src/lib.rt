@@ -3,7 +3,8 @@
 ghost use Prim.Native.Nat.{_+_};
 ghost use mathlib.Core.Path.{_≡_};
 ghost use Rattle.layout.specs.Check.{check};
-ghost use Rattle.layout.specs.Looks.{LookupAnswer, ReadAnswer, Extent, lookup, read, extentOf, readAttributes};
+ghost use Rattle.layout.specs.Looks.{LookupAnswer, ReadAnswer, Extent, lookup, read, extentOf, readAttributes, volumeInfo, nextEntry};
+ghost use Rattle.layout.specs.Answers.{volumeAnswer, entryAnswer};
 ghost use Rattle.volume.specs.Change.{Change as ChangeAsked, create, write, delete, createDirectory, deleteDirectory, setAttributes, clearAttributes, clearFlags, slotGiven};
 ghost use Rattle.volume.specs.Format.{formatRefusal, formatted};
 ghost use Rattle.chain_table.specs.Transfer.{loadTable, storeTable};
@@ -160,6 +161,26 @@ pub extern "C" fn bulgefs_look_in_place(image: &[u8], path: &[u8], index: u64) -
         start: x.start as u32,
         length: x.size as u32,
     }
+}
+
+// Structs of numbers are handed on as the layout gives them.
+#[no_mangle]
+pub extern "C" fn bulgefs_info(image: &[u8], labels: &mut [u8]) -> layout::overview::VolumeInfo
+    ensures { λ r. ⌜ volumeAnswer r (now (labels .exit)) ≡ volumeInfo (now (image .entry)) (now (labels .entry)) ⌝ }
+{
+    layout::overview::info(image, labels)
+}
+
+#[no_mangle]
+pub extern "C" fn bulgefs_entry(
+    image: &[u8],
+    path: &[u8],
+    slot: u32,
+    name: &mut [u8],
+) -> layout::overview::EntryInfo
+    ensures { λ r. ⌜ entryAnswer r (now (name .exit)) ≡ nextEntry (now (image .entry)) (now (path .entry)) slot (now (name .entry)) ⌝ }
+{
+    layout::overview::next_entry(image, path, slot as usize, name)
 }
 
 #[no_mangle]

@@ -1,7 +1,6 @@
 // The journal: what undo needs of each change. The calls are in the public modules.
 pub mod calls;
 mod naming;
-pub mod number;
 mod recording;
 mod restoring;
 mod scan;

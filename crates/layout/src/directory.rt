@@ -2,9 +2,9 @@
 ghost use Prim.Native.Nat.{_+_, _-_, _*_, _≤_, _<_};
 ghost use mathlib.Core.Bool.{_&&_, true};
 ghost use mathlib.Core.Path.{_≡_};
-ghost use lib.ListN.{length};
+ghost use lib.ListN.{length, getD};
 ghost use Rattle.layout.specs.Lists.{within, same};
-ghost use Rattle.layout.specs.Bytes.{be32, part};
+ghost use Rattle.layout.specs.Bytes.{be32, be64, part};
 ghost use Rattle.layout.specs.Table.{next, chain, tableBlockOf};
 ghost use Rattle.layout.specs.Directory.{typeOf, isFile, isDirectory, nameOf, nameOk, goodName, slotOf, freeSlot, blocksOf, directory, isEmpty};
 ghost use Rattle.layout.specs.Check.{attributesOk, fileOk, directoryEntryOk, slotOk};
@@ -167,10 +167,10 @@ fn self_ok(block: &[u8], b: usize, parent: usize) -> bool
     d <= MAX_DIRECTORY
 }
 
-// The slots of an image, by the block b that holds slot k: its type, a number of its entry, whether it is right.
-fn type_of(block: &[u8], o: usize) -> u8
+// The slots of an image, by the block b that holds slot k: its type, a byte and numbers of its entry, whether it is right.
+fn byte_of(block: &[u8], o: usize) -> u8
     requires { ⌜ o < length (now block) ⌝ }
-    ensures { λ r. ⌜ r ≡ typeOf (now (block .entry)) o ⌝ }
+    ensures { λ r. ⌜ r ≡ getD (now (block .entry)) o 0 ⌝ }
 {
     block[o]
 }
@@ -180,15 +180,31 @@ pub fn type_at(image: &[u8], b: usize, k: usize) -> u8
     ensures { λ r. ⌜ r ≡ typeOf (now (image .entry)) (entryAt b k) ⌝ }
 {
     let o = 128 * (k % 4);
-    type_of(super::bytes::block(image, b), o)
+    byte_of(super::bytes::block(image, b), o)
 }
 
-fn word_at(image: &[u8], b: usize, k: usize, at: usize) -> u32
+pub fn byte_at(image: &[u8], b: usize, k: usize, at: usize) -> u8
+    requires { ⌜ (512 * b + 512 ≤ length (now image)) × (at < 128) ⌝ }
+    ensures { λ r. ⌜ r ≡ getD (now (image .entry)) (entryAt b k + at) 0 ⌝ }
+{
+    let o = 128 * (k % 4) + at;
+    byte_of(super::bytes::block(image, b), o)
+}
+
+pub fn word_at(image: &[u8], b: usize, k: usize, at: usize) -> u32
     requires { ⌜ (512 * b + 512 ≤ length (now image)) × (at + 4 ≤ 128) ⌝ }
     ensures { λ r. ⌜ r ≡ be32 (now (image .entry)) (entryAt b k + at) ⌝ }
 {
     let o = 128 * (k % 4) + at;
     get32(super::bytes::block(image, b), o)
+}
+
+pub fn time_at(image: &[u8], b: usize, k: usize, at: usize) -> u64
+    requires { ⌜ (512 * b + 512 ≤ length (now image)) × (at + 8 ≤ 128) ⌝ }
+    ensures { λ r. ⌜ r ≡ be64 (now (image .entry)) (entryAt b k + at) ⌝ }
+{
+    let o = 128 * (k % 4) + at;
+    super::number::get64(super::bytes::block(image, b), o)
 }
 
 pub fn number_at(image: &[u8], b: usize, k: usize, at: usize) -> usize

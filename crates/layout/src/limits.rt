@@ -22,6 +22,9 @@ pub const MAX_NAME: usize = 80;
 
 pub const NAME_FIELD: usize = 80;
 
+// The header's UUID has 16 bytes, and the volume name behind it 128.
+pub const LABELS: usize = 144;
+
 // One write takes at most 4,096 bytes of data.
 pub const MAX_DATA: usize = 4096;
 

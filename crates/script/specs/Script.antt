@@ -1,19 +1,19 @@
 -- Scripts: a run's calls as bytes, and its answers as bytes. A script is a sequence of items that fill it exactly. An item is a header of 33 bytes,
 -- then a name, then data. In the header, all numbers big-endian: op (1 byte), type (1), user (1), group (1), permissions (1), flags (4), offset (8),
 -- time (8), length of the name (4), length of the data (4). Fields that an op does not use are not looked at.
-use Prim.Native.Nat.{ℕ, _+_, _-_, _*_, _≤_}
+use Prim.Native.Nat.{ℕ, _+_, _-_, _*_, _/_, _%_, _≤_}
 use mathlib.Core.Path.{_≡_}
 use mathlib.Core.List.{List, [], _∷_, _++_, map}
 use mathlib.Core.Bool.{Bool, _&&_, cond}
 use lib.ListN.{length, getD}
 use lib.Dec.{eqb, leb}
 use Rattle.layout.specs.Lists.{within, every, joined}
-use Rattle.layout.specs.Bytes.{be32, bytes4, zeros, part, splice}
+use Rattle.layout.specs.Bytes.{be32, be64, bytes4, zeros, part, splice}
 use Rattle.layout.specs.Check.{check}
+use Rattle.layout.specs.Looks.{VolumeAnswer, EntryAnswer}
 use Rattle.volume.specs.Change.{Change, create, write, delete, createDirectory, deleteDirectory, setAttributes, clearAttributes, clearFlags}
-use Rattle.journal.specs.Numbers.{be64}
 use Rattle.journal.specs.Journal.{recordsFrom, started, startRefusal}
-use Rattle.journal.specs.Run.{checkImage, findFile, readFile, lookAt, readAttributesOf, Call, change, undo, look, Answer, changed, undone, checked, found, filled, shown, State, state}
+use Rattle.journal.specs.Run.{Look, checkImage, findFile, readFile, lookAt, readAttributesOf, showVolume, showEntry, Call, change, undo, look, Answer, changed, undone, checked, found, filled, shown, described, entered, State, state}
 use Rattle.journal.specs.Replay.{replayed}
 use Rattle.write_list.specs.Runs.{ListCall, call, list, ListAnswer, answered, stopped, listRun, listAnswers, listStanding, listReplayAnswers}
 
@@ -42,9 +42,10 @@ Fits s at = at + itemSize s at ≤ length s
 
 -- Ops: 1 check, 2 look up, 3 read (the data is its buffer as it is before the call), 4 look in place (the offset is its index), 5 create, 6 write,
 -- 7 delete, 8 undo, 9 create directory (its number of blocks is in the last four bytes of the offset), 10 delete directory, 11 set attributes,
--- 12 clear attributes, 13 read attributes (the data is its buffer, as for read), 14 clear flags, 15 write list (the data is the list).
+-- 12 clear attributes, 13 read attributes (the data is its buffer, as for read), 14 clear flags, 15 write list (the data is the list), 16 the volume's
+-- numbers, 17 an entry of the directory of the name (the offset is the slot to begin with); in both the data is the buffer.
 abbrev pub lastOp : ℕ
-lastOp = 15
+lastOp = 17
 
 unfoldable pub changeAt : List ℕ → ℕ → Change
 changeAt s at =
@@ -74,8 +75,11 @@ callAt s at =
     (cond (eqb (opAt s at) 13) (look (readAttributesOf name (dataAt s at)))
     (cond (eqb (opAt s at) 8) undo (change (changeAt s at)))))))
 
+unfoldable pub showAt : List ℕ → ℕ → Look
+showAt s at = cond (eqb (opAt s at) 16) (showVolume (dataAt s at)) (showEntry (nameAt s at) (be64 s (at + 9)) (dataAt s at))
+
 unfoldable pub itemCall : List ℕ → ℕ → ListCall
-itemCall s at = cond (eqb (opAt s at) 15) (list (dataAt s at)) (call (callAt s at))
+itemCall s at = cond (eqb (opAt s at) 15) (list (dataAt s at)) (cond (leb 16 (opAt s at)) (call (look (showAt s at))) (call (callAt s at)))
 
 -- an item that is not cut off, with a known op
 unfoldable pub itemOk : List ℕ → ℕ → Bool
@@ -91,9 +95,19 @@ callsFrom s at = map (itemCall s) (itemsFrom s at)
 abbrev pub callsOf : List ℕ → List ListCall
 callsOf s = callsFrom s 0
 
--- An answer as bytes: four numbers of 32 bits; then, for read and read attributes, the buffer after the call, and for look in place 512 bytes, the part and zeros after it.
+-- An answer as bytes: four numbers of 32 bits, of the volume's numbers eight, of an entry sixteen, its times as two each, the high one first; then, for
+-- the calls with a buffer, the buffer after the call, and for look in place 512 bytes, the part and zeros after it.
 unfoldable pub numbers : ℕ → ℕ → ℕ → ℕ → List ℕ
 numbers a b c d = bytes4 a ++ (bytes4 b ++ (bytes4 c ++ bytes4 d))
+
+unfoldable pub volumeHead : VolumeAnswer → List ℕ
+volumeHead a = numbers (a .number) (a .blocks) (a .used) (a .free) ++ numbers (a .rootBlocks) 0 0 0
+
+unfoldable pub entryHead : EntryAnswer → List ℕ
+entryHead a =
+    numbers (a .number) (a .slot) (a .size) (a .blocks) ++ (numbers (a .first) (a .attributeBlock) (a .attributeSize) (a .flags)
+    ++ (numbers (a .created / 0x100000000) (a .created % 0x100000000) (a .modified / 0x100000000) (a .modified % 0x100000000)
+    ++ numbers (a .type) (a .user) (a .group) (a .permissions)))
 
 unfoldable pub encoded : Answer → List ℕ
 encoded (changed number slot size) = numbers number slot size 0
@@ -102,6 +116,8 @@ encoded (checked number) = numbers number 0 0 0
 encoded (found a) = numbers (a .number) (a .slot) (a .size) (a .blocks)
 encoded (filled a) = numbers (a .number) (a .count) 0 0 ++ (a .buffer)
 encoded (shown x bytes) = numbers (x .start) (x .size) 0 0 ++ (bytes ++ zeros (512 - length bytes))
+encoded (described a) = volumeHead a ++ (a .buffer)
+encoded (entered a) = entryHead a ++ (a .buffer)
 
 unfoldable pub encodedItem : ListAnswer → List ℕ
 encodedItem (answered a) = encoded a
@@ -116,6 +132,8 @@ answerSize (look (findFile name)) = 16
 answerSize (look (readFile name offset buffer)) = 16 + length buffer
 answerSize (look (lookAt name i)) = 16 + 512
 answerSize (look (readAttributesOf name buffer)) = 16 + length buffer
+answerSize (look (showVolume buffer)) = 32 + length buffer
+answerSize (look (showEntry name start buffer)) = 64 + length buffer
 
 unfoldable pub itemRoom : ListCall → ℕ
 itemRoom (call c) = answerSize c

@@ -2,15 +2,14 @@
 ghost use mathlib.Core.Path.{_≡_};
 ghost use Prim.Native.Nat.{_+_, _≤_, _<_};
 ghost use lib.ListN.{length};
-ghost use Rattle.layout.specs.Bytes.{splice};
+ghost use Rattle.layout.specs.Bytes.{be64, splice};
 ghost use Rattle.layout.specs.Answers.{lookupAnswer, readAnswer};
 ghost use mathlib.Core.List.{[]};
-ghost use Rattle.journal.specs.Numbers.{be64};
 ghost use Rattle.script.specs.Script.{Fits, numbers, nameAt, dataLength, encoded};
 ghost use Rattle.journal.specs.Run.{checkImage, findFile, lookAt, lookAnswer, found, filled, shown};
 ghost use Rattle.script.specs.Walks.Scripts.{filledAt};
-use journal::number::get64;
 use layout::number::get32;
+use layout::number::get64;
 
 // The four numbers of an answer.
 pub struct Numbers {

@@ -1,11 +1,11 @@
 // Scripts of calls: the fields of an item, the form of a script, and the length of its answers.
 ghost use mathlib.Core.Path.{_≡_};
-ghost use mathlib.Core.Bool.{true};
+ghost use mathlib.Core.Bool.{true, cond};
 ghost use Prim.Native.Nat.{_+_, _≤_, _<_};
 ghost use lib.ListN.{length};
-ghost use lib.Dec.{leb};
+ghost use lib.Dec.{eqb, leb};
 ghost use Rattle.layout.specs.Lists.{every};
-ghost use Rattle.script.specs.Script.{Fits, nameAt, dataAt, itemSize, itemCall, itemOk, itemsFrom, callsOf, itemRoom, answersSize};
+ghost use Rattle.script.specs.Script.{Fits, opAt, nameAt, dataAt, itemSize, itemCall, itemOk, itemsFrom, callsOf, itemRoom, answersSize};
 ghost use Rattle.script.specs.Walks.Scripts.{fills};
 use layout::number::get32;
 
@@ -54,7 +54,7 @@ fn item_ok(script: &[u8], at: usize) -> bool
     if script[at] < 1 {
         return false;
     }
-    script[at] <= 15
+    script[at] <= 17
 }
 
 // Whether an op fills a buffer: read, and read attributes.
@@ -67,9 +67,9 @@ pub fn fills(op: u8) -> bool
     op == 3
 }
 
-// The length of the answer to the item at `at`.
-pub fn answer_size(script: &[u8], at: usize) -> usize
-    requires { ⌜ Fits (now script) at ⌝ }
+// The length of the answer to the item at `at`, whose op is below 16.
+fn plain_size(script: &[u8], at: usize) -> usize
+    requires { ⌜ (Fits (now script) at) × (opAt (now script) at < 16) ⌝ }
     ensures { λ r. ⌜ r ≡ itemRoom (itemCall (now (script .entry)) at) ⌝ }
 {
     if fills(script[at]) {
@@ -79,6 +79,27 @@ pub fn answer_size(script: &[u8], at: usize) -> usize
         return 528;
     }
     16
+}
+
+// The length of the numbers in the answer of op 16 or 17.
+fn head_size(op: u8) -> usize
+    ensures { λ r. ⌜ r ≡ cond (eqb op 16) 32 64 ⌝ }
+{
+    if op == 16 {
+        return 32;
+    }
+    64
+}
+
+// The length of the answer to the item at `at`.
+pub fn answer_size(script: &[u8], at: usize) -> usize
+    requires { ⌜ Fits (now script) at ⌝ }
+    ensures { λ r. ⌜ r ≡ itemRoom (itemCall (now (script .entry)) at) ⌝ }
+{
+    if 16 <= script[at] {
+        return head_size(script[at]) + get32(script, at + 29) as usize;
+    }
+    plain_size(script, at)
 }
 
 // Whether items fill a script exactly.

@@ -1,4 +1,5 @@
 // Scripts: the calls of a run as bytes, run in order.
 mod answers;
 mod items;
+mod overview;
 pub mod runner;

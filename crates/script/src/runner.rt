@@ -17,7 +17,7 @@ ghost use Rattle.script.specs.Walks.Scripts.{looks, Item, Whole, CallDon
 use super::answers::Numbers;
 use super::items::data_of;
 use super::items::name_of;
-use journal::number::get64;
+use layout::number::get64;
 use volume::change::Change;
 
 // The numbers of a change's answer.
@@ -203,9 +203,9 @@ fn make_list(script: &[u8], at: usize, image: &mut [u8], journal: &mut [u8], par
     );
 }
 
-// Make the call or write the list of the item at `at`.
-fn make(script: &[u8], at: usize, image: &mut [u8], journal: &mut [u8], part: &mut [u8])
-    requires { ⌜ (Whole (now script) at (now part)) × (1 ≤ opAt (now script) at) × (opAt (now script) at ≤ lastOp) ⌝ }
+// Make the call or write the list of the item at `at`, whose op is below 16.
+fn make_plain(script: &[u8], at: usize, image: &mut [u8], journal: &mut [u8], part: &mut [u8])
+    requires { ⌜ (Whole (now script) at (now part)) × (1 ≤ opAt (now script) at) × (opAt (now script) at < 16) ⌝ }
     ensures { λ _. ⌜ ItemDone (state (now (image .entry)) (now (journal .entry))) (itemCall (now (script .entry)) at) (now (image .exit)) (now (journal .exit)) (now (part .exit)) ⌝ }
 {
     if script[at] == 15 {
@@ -213,6 +213,18 @@ fn make(script: &[u8], at: usize, image: &mut [u8], journal: &mut [u8], part: &m
         return;
     }
     make_call(script, at, image, journal, part);
+}
+
+// Make the call or write the list of the item at `at`.
+fn make(script: &[u8], at: usize, image: &mut [u8], journal: &mut [u8], part: &mut [u8])
+    requires { ⌜ (Whole (now script) at (now part)) × (1 ≤ opAt (now script) at) × (opAt (now script) at ≤ lastOp) ⌝ }
+    ensures { λ _. ⌜ ItemDone (state (now (image .entry)) (now (journal .entry))) (itemCall (now (script .entry)) at) (now (image .exit)) (now (journal .exit)) (now (part .exit)) ⌝ }
+{
+    if 16 <= script[at] {
+        super::overview::show(script, at, image, part);
+        return;
+    }
+    make_plain(script, at, image, journal, part);
 }
 
 // Makes the calls of a script of the right form, whose answers have room.

@@ -1,5 +1,5 @@
 -- One name that opens every definition to computation: `unfolding rules`.
-use Rattle.layout.specs.Bytes.{be32, bytes4, bytes8, zeros, splice}
+use Rattle.layout.specs.Bytes.{be32, be64, bytes4, bytes8, zeros, splice}
 use Rattle.layout.specs.Geometry.{inVolume}
 use Rattle.layout.specs.Table.{next, setNext, chain, endsAfter, chainOk, freeBlocks, occupied}
 use Rattle.layout.specs.Directory.{slotAt, goodName, nameOf, nameOk, files, slotOf, freeSlot, directory, isEmpty, children, below, dirs, fileBlocks, content, attributeBlocks, attributes}
@@ -16,13 +16,13 @@ use Rattle.volume.specs.Directories.{createDirectoryRefusal, newDirectoryBlocks
 use Rattle.volume.specs.Change.{refusal, after, named, slotGiven}
 use Rattle.journal.specs.Journal.{used, started, startRefusal, copies, recordOk, recordsFrom, records, wellFormed, ascending, recordBytes, added, lastRecord, restored, undoneImage, undoneJournal}
 use Rattle.journal.specs.Run.{recordOf, changeRefusal, afterChange, changeAnswer, undoRefusal, afterUndo, undoAnswer, lookAnswer, step, answer, run, answers}
-use Rattle.layout.specs.Looks.{lookupRefusal, lookup, readRefusal, read, extentOf, lookInPlace, readAttributes}
+use Rattle.layout.specs.Looks.{lookupRefusal, lookup, readRefusal, read, extentOf, lookInPlace, readAttributes, volumeInfo, isRootPath, listedRefusal, listedBlock, usedSlot, noEntry, entryFields, nextEntry}
 use Rattle.layout.specs.Listing.{decimal, printed, entryLine, fileLine, countLine, refusedLine, listing}
 
 unfoldable pub rules : Unit {0}
-unfolding be32 bytes4 bytes8 zeros splice inVolume next setNext chain endsAfter chainOk freeBlocks occupied slotAt goodName nameOf nameOk files slotOf freeSlot directory isEmpty children below dirs fileBlocks content attributeBlocks attributes
+unfolding be32 be64 bytes4 bytes8 zeros splice inVolume next setNext chain endsAfter chainOk freeBlocks occupied slotAt goodName nameOf nameOk files slotOf freeSlot directory isEmpty children below dirs fileBlocks content attributeBlocks attributes
     stage1 stage2 stage3 directoryOk childOk noAttributes attributesOk fileOk directoryEntryOk slotOk newName visitSlots visitEntries visitChild visitRoot fileChains chains allChains owned tableOk stage6 stage7 check
-    cut parts pathOk shallow childOf resolve home pathSlot entryOf fileRefusal directoryRefusal lookupRefusal lookup readRefusal read extentOf lookInPlace readAttributes decimal printed entryLine fileLine countLine refusedLine listing
+    cut parts pathOk shallow childOf resolve home pathSlot entryOf fileRefusal directoryRefusal lookupRefusal lookup readRefusal read extentOf lookInPlace readAttributes volumeInfo isRootPath listedRefusal listedBlock usedSlot noEntry entryFields nextEntry decimal printed entryLine fileLine countLine refusedLine listing
     entryBytes directoryMade setOccupied linked taken grown freed released entriesNamed blocksNamed formatRefusal firstEntries headerBytes formatImage formatted
     createRefusal createSlot place placeRefusal newRefusal createImage createNamed newSize needed newBlocks put written setFile writeAt changedEntries writeNamed writeAtRefusal writeRefusal
     allBlocks deleteAt deleteNamed emptied newAttributes setAttributeFields setAttributesAt clearAttributesAt setAttributesNamed clearAttributesNamed setAttributesRefusal clearFlagsAt clearFlagsNamed createDirectoryRefusal newDirectoryBlocks createDirectoryImage createDirectoryNamed deleteDirectoryRefusal refusal after named slotGiven used started startRefusal copies recordOk recordsFrom records wellFormed ascending recordBytes added

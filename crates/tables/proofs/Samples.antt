@@ -6,7 +6,7 @@ use lib.Dec.{T}
 use Rattle.layout.specs.Lists.{interval, every, same}
 use Rattle.volume.specs.Format.{formatted}
 use Rattle.volume.specs.Change.{Change, create, write}
-use Rattle.journal.specs.Run.{Answer, changed, undone, checked, found, filled, shown}
+use Rattle.journal.specs.Run.{Answer, changed, undone, checked, found, filled, shown, described, entered}
 
 -- in each row, what the definitions give is what is expected
 abbrev pub AsExpected : List (List ℕ × List ℕ) → Type 0
@@ -47,6 +47,9 @@ numbers (checked number) = number ∷ []
 numbers (found a) = a .number ∷ a .slot ∷ a .size ∷ a .blocks ∷ []
 numbers (filled a) = a .number ∷ a .count ∷ a .buffer
 numbers (shown x bytes) = x .start ∷ x .size ∷ bytes
+numbers (described a) = a .number ∷ a .blocks ∷ a .used ∷ a .free ∷ a .rootBlocks ∷ a .buffer
+numbers (entered a) =
+    a .number ∷ a .slot ∷ a .type ∷ a .user ∷ a .group ∷ a .permissions ∷ a .first ∷ a .size ∷ a .blocks ∷ a .created ∷ a .modified ∷ a .attributeBlock ∷ a .attributeSize ∷ a .flags ∷ a .buffer
 
 -- opens them all, as rules does the definitions
 unfoldable pub samples : Unit {0}

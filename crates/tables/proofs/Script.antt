@@ -6,7 +6,7 @@ use lib.ListN.{replicate, take}
 use Rattle.layout.specs.Lists.{every, same}
 use Rattle.journal.specs.Journal.{started}
 use Rattle.journal.specs.Run.{State}
-use Rattle.journal.specs.Numbers.{be64}
+use Rattle.layout.specs.Bytes.{be64}
 use Rattle.write_list.specs.Runs.{listStep, listAnswer, listRun, listAnswers}
 use Rattle.script.specs.Script.{nameAt, dataAt, changeAt, callAt, itemCall, itemOk, itemsFrom, callsFrom, encoded, encodedItem, answerSize, itemRoom, answersSize, Status, done, malformed, noRoom, given, outcome}
 use Rattle.tables.proofs.Rules.{rules}

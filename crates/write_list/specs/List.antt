@@ -7,13 +7,12 @@ use lib.ListN.{length, getD}
 use lib.Dec.{eqb, leb}
 use Rattle.layout.specs.Lists.{within, every}
 use Rattle.layout.specs.Refusals.{require, firstOf, accept}
-use Rattle.layout.specs.Bytes.{be32, part}
+use Rattle.layout.specs.Bytes.{be32, be64, part}
 use Rattle.layout.specs.Geometry.{blockCount}
 use Rattle.layout.specs.Check.{check}
 use Rattle.volume.specs.Change.{Change, write}
 use Rattle.journal.specs.Journal.{recordsFrom, wellFormed}
 use Rattle.journal.specs.Run.{State, changeRefusal, afterChange}
-use Rattle.journal.specs.Numbers.{be64}
 
 -- "a list of at most 65,536 bytes"
 abbrev pub maxList : ℕ

@@ -33,7 +33,7 @@ fn write_item(image: &mut [u8], journal: &mut [u8], list: &[u8], at: usize) -> u
 {
     let what = Change::Write {
         offset: layout::number::get32(list, at + 12) as usize,
-        time: journal::number::get64(list, at + 4),
+        time: layout::number::get64(list, at + 4),
     };
     let path = super::list::path_of(list, at);
     let bytes = super::list::data_of(list, at);

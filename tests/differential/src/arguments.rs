@@ -280,6 +280,28 @@ pub fn any_index(rng: &mut Rng, size: u64) -> u64 {
     }
 }
 
+/// A buffer around the lengths of a volume's labels and of a name's field.
+pub fn any_label_buffer(rng: &mut Rng) -> Vec<u8> {
+    let more = rng.between(0, 200);
+    let len = rng.pick(&[0, 1, 15, 16, 17, 79, 80, 81, 143, 144, 145, more]);
+    rng.bytes(len)
+}
+
+/// The path of a directory to be listed, often the root's.
+pub fn any_listed(rng: &mut Rng, image: &[u8]) -> Vec<u8> {
+    match rng.below(4) {
+        0 => b"/".to_vec(),
+        _ => any_path(rng, image, Want::Directory),
+    }
+}
+
+/// A slot to begin with, often one that there is.
+pub fn any_slot(rng: &mut Rng) -> u32 {
+    let low = rng.between(0, 12) as u32;
+    let high = rng.between(0, 260) as u32;
+    rng.pick(&[0, 1, low, low, high, 255, 256, u32::MAX])
+}
+
 pub fn any_time(rng: &mut Rng) -> u64 {
     rng.next() >> rng.below(64)
 }

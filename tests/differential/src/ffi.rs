@@ -31,6 +31,35 @@ pub struct Part {
 
 #[repr(C)]
 #[derive(Clone, Copy, Debug, PartialEq, Eq)]
+pub struct Volume {
+    pub number: u32,
+    pub blocks: u32,
+    pub used: u32,
+    pub free: u32,
+    pub root_blocks: u32,
+}
+
+#[repr(C)]
+#[derive(Clone, Copy, Debug, PartialEq, Eq)]
+pub struct Slot {
+    pub number: u32,
+    pub slot: u32,
+    pub kind: u8,
+    pub user: u8,
+    pub group: u8,
+    pub permissions: u8,
+    pub flags: u32,
+    pub created: u64,
+    pub modified: u64,
+    pub first: u32,
+    pub size: u32,
+    pub blocks: u32,
+    pub attribute_block: u32,
+    pub attribute_size: u32,
+}
+
+#[repr(C)]
+#[derive(Clone, Copy, Debug, PartialEq, Eq)]
 pub struct Created {
     pub number: u32,
     pub slot: u32,
@@ -76,6 +105,13 @@ extern "C" {
     pub fn bulgefs_look_in_place(image: *const u8, image_len: usize,
                                  path: *const u8, path_len: usize,
                                  index: u64) -> Part;
+
+    pub fn bulgefs_info(image: *const u8, image_len: usize,
+                        labels: *mut u8, labels_len: usize) -> Volume;
+
+    pub fn bulgefs_entry(image: *const u8, image_len: usize,
+                         path: *const u8, path_len: usize,
+                         slot: u32, name: *mut u8, name_len: usize) -> Slot;
 
     pub fn bulgefs_journal_start(journal: *mut u8, journal_len: usize) -> u32;
 

@@ -40,6 +40,24 @@ pub fn look_in_place(image: &Lent, path: &Lent, index: u64) -> Part {
     unsafe { ffi::bulgefs_look_in_place(image.ptr(), image.len(), path.ptr(), path.len(), index) }
 }
 
+/// The numbers in the order of the struct.
+pub fn info(image: &Lent, labels: &mut Lent) -> Vec<u64> {
+    let (at, len, into) = (image.ptr(), image.len(), labels.mut_ptr());
+    let v = unsafe { ffi::bulgefs_info(at, len, into, labels.len()) };
+    [v.number, v.blocks, v.used, v.free, v.root_blocks].map(u64::from).to_vec()
+}
+
+pub fn entry(image: &Lent, path: &Lent, slot: u32, name: &mut Lent) -> Vec<u64> {
+    let (at, len, into) = (image.ptr(), image.len(), name.mut_ptr());
+    let e = unsafe { ffi::bulgefs_entry(at, len, path.ptr(), path.len(), slot, into, name.len()) };
+    let mut numbers = vec![e.number.into(), e.slot.into()];
+    numbers.extend([e.kind, e.user, e.group, e.permissions].map(u64::from));
+    numbers.extend([e.flags.into(), e.created, e.modified]);
+    let rest = [e.first, e.size, e.blocks, e.attribute_block, e.attribute_size];
+    numbers.extend(rest.map(u64::from));
+    numbers
+}
+
 pub fn start(journal: &mut Lent) -> u32 {
     unsafe { ffi::bulgefs_journal_start(journal.mut_ptr(), journal.len()) }
 }

@@ -9,6 +9,8 @@ pub enum Entry {
     Read,
     ReadNext,
     LookInPlace,
+    Info,
+    Entry,
     Start,
     Create,
     Write,
@@ -29,7 +31,7 @@ pub enum Entry {
 
 /// Every entry point, and the numbers that it can answer. Look in place has
 /// no number; its row counts what look up would have answered.
-const ENTRIES: [(Entry, &str, &[u32]); 23] = [
+const ENTRIES: [(Entry, &str, &[u32]); 25] = [
     (Entry::Check, "check", &[0, 1, 2, 3, 4, 5, 6, 7]),
     (Entry::PlainCheck, "plain_check", &[0, 1, 2, 3, 4, 5, 6, 7]),
     (Entry::Format, "format", &[0, 1, 9, 14]),
@@ -37,6 +39,8 @@ const ENTRIES: [(Entry, &str, &[u32]); 23] = [
     (Entry::Read, "read", &[0, 1, 2, 3, 4, 5, 6, 7, 9, 10, 12, 17]),
     (Entry::ReadNext, "read_next", &[0, 1, 2, 3, 4, 5, 6, 7, 9, 10, 12, 17]),
     (Entry::LookInPlace, "look_in_place", &[0, 1, 2, 3, 4, 5, 6, 7, 9, 10, 17]),
+    (Entry::Info, "info", &[0, 1, 2, 3, 4, 5, 6, 7]),
+    (Entry::Entry, "entry", &[0, 1, 2, 3, 4, 5, 6, 7, 9, 10, 17]),
     (Entry::Start, "journal_start", &[0, 8]),
     (Entry::Create, "create", &[0, 1, 2, 3, 4, 5, 6, 7, 8, 9, 10, 11, 13, 15, 17, 26]),
     (Entry::Write, "write", &[0, 1, 2, 3, 4, 5, 6, 7, 8, 9, 10, 12, 14, 15, 17]),

@@ -4,7 +4,9 @@ use crate::ffi;
 use crate::lent::Lent;
 use crate::library::{self, Pair};
 use crate::report::{Entry, Report};
-use reference::{Append, Change, Listed, Salvaged, State};
+use reference::overview::{ENTRY_NUMBERS, VOLUME_NUMBERS};
+use reference::replay::told;
+use reference::{Answer, Append, Change, Listed, Salvaged, State};
 
 /// The longest image that the plain check is run on: its time grows with the
 /// square of the length.
@@ -151,6 +153,50 @@ impl Tester {
         self.report.call(Entry::LookInPlace, number, troubles);
     }
 
+    pub fn info(&mut self, image: &[u8], buffer: &[u8]) {
+        let (lent, mut lent_buffer) = (self.lend(image), self.lend(buffer));
+        let numbers = library::info(&lent, &mut lent_buffer);
+        let got = Answer::Told { numbers, buffer: lent_buffer.content().to_vec() };
+        let result = reference::info(image, buffer.len());
+        let number = number_of(&result);
+        let expected = told(buffer, VOLUME_NUMBERS, result);
+        let whole = lent_buffer.content().to_vec();
+        let troubles = [
+            unequal(got, expected),
+            lent.trouble("image", image),
+            lent_buffer.trouble("labels", &whole),
+        ];
+        self.report.call(Entry::Info, number, troubles);
+    }
+
+    /// Gives the reference's slot, 0 if there is none.
+    pub fn entry(&mut self, image: &[u8], path: &[u8], slot: u32, buffer: &[u8]) -> u32 {
+        let (lent, lent_path) = (self.lend(image), self.lend(path));
+        let mut lent_buffer = self.lend(buffer);
+        let numbers = library::entry(&lent, &lent_path, slot, &mut lent_buffer);
+        let whole = lent_buffer.content().to_vec();
+        let got = Answer::Told { numbers, buffer: whole.clone() };
+        let result = reference::next_entry(image, path, slot.into(), buffer.len());
+        let number = number_of(&result);
+        let found = result.as_ref().map_or(0, |e| e.numbers[1]);
+        let troubles = [
+            unequal(got, told(buffer, ENTRY_NUMBERS, result)),
+            lent.trouble("image", image),
+            lent_path.trouble("path", path),
+            lent_buffer.trouble("name", &whole),
+        ];
+        self.report.call(Entry::Entry, number, troubles);
+        found as u32
+    }
+
+    /// All entries of a directory, as a C program lists them.
+    pub fn list(&mut self, image: &[u8], path: &[u8], buffer: &[u8]) {
+        let mut slot = self.entry(image, path, 1, buffer);
+        while slot != 0 {
+            slot = self.entry(image, path, slot + 1, buffer);
+        }
+    }
+
     /// All calls that only look, for one path.
     pub fn look(&mut self, image: &[u8], path: &[u8], offset: u64, buffer: &[u8], index: u64) {
         self.check(image);
@@ -158,6 +204,8 @@ impl Tester {
         self.read(image, path, offset, buffer);
         self.read_attributes(image, path, buffer);
         self.look_in_place(image, path, index);
+        self.info(image, buffer);
+        self.entry(image, path, index as u32, buffer);
     }
 
     pub fn start(&mut self, journal: &[u8]) {

@@ -3,6 +3,7 @@
 //! the volume under test. (The rules call it a sheet, and its changes rows.)
 
 use crate::journal::{apply, State};
+use crate::overview::{info, next_entry, none, Told, ENTRY_NUMBERS, VOLUME_NUMBERS};
 use crate::pieces::{append, piece_write, Append};
 use crate::volume::{look_in_place, lookup, read, read_attributes, Change, Found};
 use crate::write_list::{write_list, writes};
@@ -22,6 +23,8 @@ pub enum Call {
     Read { path: Vec<u8>, offset: u64, buffer: Vec<u8> },
     LookInPlace { path: Vec<u8>, index: u64 },
     ReadAttributes { path: Vec<u8>, buffer: Vec<u8> },
+    Info { buffer: Vec<u8> },
+    Entry { path: Vec<u8>, slot: u32, buffer: Vec<u8> },
 }
 
 /// What a call must give.
@@ -49,6 +52,11 @@ pub enum Answer {
     Part {
         range: Range<usize>,
         bytes: Vec<u8>,
+    },
+    /// The numbers in the order of C's struct, and the whole buffer afterwards.
+    Told {
+        numbers: Vec<u64>,
+        buffer: Vec<u8>,
     },
 }
 
@@ -152,6 +160,10 @@ fn look_at(image: &[u8], call: &Call) -> Answer {
             let range = look_in_place(image, path, *index);
             Answer::Part { bytes: image[range.clone()].to_vec(), range }
         }
+        Call::Info { buffer } => told(buffer, VOLUME_NUMBERS, info(image, buffer.len())),
+        Call::Entry { path, slot, buffer } => {
+            told(buffer, ENTRY_NUMBERS, next_entry(image, path, u64::from(*slot), buffer.len()))
+        }
         Call::Change(_) | Call::WriteList(_) | Call::Append(_) | Call::Undo => {
             unreachable!("not a look")
         }
@@ -168,4 +180,12 @@ fn filled(buffer: &[u8], bytes: Result<Vec<u8>, Refusal>) -> Answer {
             Answer::Read { number: 0, count: bytes.len() as u32, buffer: after }
         }
     }
+}
+
+/// The same of one that also gives numbers; refused, its number and zeros.
+pub fn told(buffer: &[u8], count: usize, result: Result<Told, Refusal>) -> Answer {
+    let Told { numbers, bytes } = result.unwrap_or_else(|number| none(number, count));
+    let mut after = buffer.to_vec();
+    after[..bytes.len()].copy_from_slice(&bytes);
+    Answer::Told { numbers, buffer: after }
 }

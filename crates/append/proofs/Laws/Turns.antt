@@ -13,7 +13,7 @@ use Rattle.layout.specs.Walks.Looks.{Opens}
 use Rattle.layout.proofs.Laws.Tests.{accept-either}
 use Rattle.volume.specs.Change.{write, refusal, slotGiven}
 use Rattle.journal.specs.Journal.{wellFormed}
-use Rattle.journal.specs.Run.{State, Answer, state, changed, undone, checked, found, filled, shown, changeRefusal, changeAnswer, afterChange}
+use Rattle.journal.specs.Run.{State, Answer, state, changed, undone, checked, found, filled, shown, described, entered, changeRefusal, changeAnswer, afterChange}
 use Rattle.journal.specs.Walks.Changes.{Ready, readyRefusal}
 use Rattle.journal.proofs.Walks.Undoing.{unready}
 use Rattle.journal.proofs.Walks.Changes.{change-unready}
@@ -59,6 +59,8 @@ slotOf (checked number) = 0
 slotOf (found a) = 0
 slotOf (filled a) = 0
 slotOf (shown x bytes) = 0
+slotOf (described a) = 0
+slotOf (entered a) = 0
 
 answer-slotless : (p : State) (path piece : List ℕ) (time : ℕ) → slotOf (appendAnswer p path piece time) ≡ 0
 unfolding appendAnswer pieceWrite changeAnswer slotGiven

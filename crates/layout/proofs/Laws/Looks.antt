@@ -1,6 +1,6 @@
 -- What looking up, reading and looking in place give.
 use Prim.Native.Nat.{ℕ, zero, suc, _+_, _-_, _*_, _/_, _≤_, _<_, min}
-use mathlib.Core.Bool.{not, true}
+use mathlib.Core.Bool.{Bool, not, true, false, cond}
 use mathlib.Core.List.{List, []}
 use mathlib.Core.Logic.{_⊎_, inl, inr, _≢_}
 use mathlib.Core.Path.{_≡_, sym, ap, _∙_, refl}
@@ -9,12 +9,12 @@ use native.Mathlib.Omega.{arith}
 use lib.Dec.{eqb}
 use lib.ListN.{length, getD, take, drop}
 use borrow.Author.Tests.{le-ltb, lt-ltb, eqb-false, not-true}
-use Rattle.layout.specs.Bytes.{part}
-use Rattle.layout.specs.Directory.{sizeOf, blocksOf, attributeSize, isFile, fileBlocks, content, attributes}
+use Rattle.layout.specs.Bytes.{part, splice}
+use Rattle.layout.specs.Directory.{slotAt, sizeOf, blocksOf, attributeSize, isFile, directory, fileBlocks, content, attributes}
 use Rattle.layout.specs.Limits.{maxBlocks, maxLevels, maxAttributes}
 use Rattle.layout.specs.Paths.{parts, pathOk, leading, shallow, home, pathSlot, entryOf, fileRefusal}
 use Rattle.layout.specs.Check.{check}
-use Rattle.layout.specs.Looks.{lookupRefusal, readRefusal, read, extentOf, lookInPlace, ReadAnswer, readAttributes}
+use Rattle.layout.specs.Looks.{lookupRefusal, readRefusal, read, extentOf, lookInPlace, ReadAnswer, readAttributes, VolumeAnswer, EntryAnswer, volumeInfo, listedRefusal, listedBlock, usedSlot, noEntry, entryFields, nextEntry}
 use Rattle.layout.proofs.Laws.Bytes.{length-part, length-splice, length-take-most, be32-small}
 use Rattle.layout.proofs.Laws.Files.{File, attributes-few, file-in, length-fileBlocks, file-inside, content-part}
 use Rattle.layout.proofs.Laws.Paths.{path-named, path-home}
@@ -180,3 +180,25 @@ module _ (s path : List ℕ) (i : ℕ) where
       go (yes ok) (inl h) =
           let z : 0 ≡ min 512 (sizeOf s (entryOf isFile s path) - 512 * i) = ap length (sym e) ∙ length-look ∙ rw (extent-found ok h) in
           absurd (omega (arith, lookup-file s path ok .blocks))
+
+-- the volume's numbers and a directory's entry leave the length of the buffer
+module _ (s buffer : List ℕ) where
+  length-fitted : (at k : ℕ) → length (splice buffer 0 (part s at (min (length buffer) k))) ≡ length buffer
+  length-fitted at k =
+      let h = length-take-most (min (length buffer) k) (drop at s) in
+      length-splice buffer 0 (part s at (min (length buffer) k)) (omega arith)
+
+  pub volume-length : length (volumeInfo s buffer .buffer) ≡ length buffer
+  unfolding volumeInfo
+  volume-length = accept-either (λ (a : VolumeAnswer). length (a .buffer) ≡ length buffer) (check s) _ _ (length-fitted 112 144) refl
+
+  pub entry-length : (path : List ℕ) (start : ℕ) → length (nextEntry s path start buffer .buffer) ≡ length buffer
+  unfolding nextEntry noEntry entryFields
+  entry-length path start =
+      let ds : List ℕ = directory s (listedBlock s path) in
+      let e : ℕ = slotAt ds (usedSlot s ds start) in
+      accept-either (λ (a : EntryAnswer). length (a .buffer) ≡ length buffer) (listedRefusal s path) _ _ (either (eqb (usedSlot s ds start) 0) _ _ refl (length-fitted (e + 48) 80)) refl
+    where
+      either : (t : Bool) (a b : EntryAnswer) → length (a .buffer) ≡ length buffer → length (b .buffer) ≡ length buffer → length (cond t a b .buffer) ≡ length buffer
+      either true a b f g = f
+      either false a b f g = g

@@ -1,5 +1,5 @@
--- What opening a file gives.
-use Prim.Native.Nat.{ℕ, _<_}
+-- What opening a file or a directory gives.
+use Prim.Native.Nat.{ℕ, _*_, _<_}
 use mathlib.Core.Bool.{Bool, not}
 use mathlib.Core.List.{List}
 use mathlib.Core.Path.{_≡_}
@@ -8,6 +8,8 @@ use Rattle.layout.specs.Refusals.{require}
 use Rattle.layout.specs.Geometry.{blockCount}
 use Rattle.layout.specs.Directory.{firstBlock, sizeOf, blocksOf}
 use Rattle.layout.specs.Paths.{parts, pathOk, leading, shallow, pathSlot, entryOf}
+use Rattle.layout.specs.Looks.{listedRefusal, listedBlock}
+use Rattle.layout.specs.Walks.Shapes.{DirectoryAt}
 use Rattle.layout.specs.Walks.Slots.{entryAt}
 
 -- the refusals of a path by itself, 9 and 17: of a file's, and of a directory's, where the last part counts; 10, if no entry of the type is there
@@ -43,3 +45,9 @@ pub record Opens (type : ℕ → Bool) (s path : List ℕ) (refusal number slot 
   pub number-is : number ≡ refusal
   pub file : number ≡ 0 → Located type s path slot block first size blocks
   pub none : (number ≡ 0 → ⊥) → NoFile slot block first size blocks
+
+-- a directory to be listed: the number of its refusal, and if that is 0, its first block
+pub record Lists (s path : List ℕ) (number first : ℕ) : Type 0 where
+  pub number-is : number ≡ listedRefusal s path
+  pub start : number ≡ 0 → first ≡ listedBlock s path
+  pub there : number ≡ 0 → DirectoryAt s (blockCount s) first (blocksOf s (512 * first))

@@ -3,10 +3,10 @@ use Prim.Native.Nat.{ℕ, _+_, _*_, _/_, _%_, _<_}
 use mathlib.Core.Bool.{Bool, cond, _&&_}
 use mathlib.Core.List.{List}
 use mathlib.Core.Path.{_≡_}
-use lib.Dec.{eqb}
+use lib.Dec.{eqb, leb}
 use lib.ListN.{getD}
 use Rattle.layout.specs.Lists.{interval, every, same, lowest}
-use Rattle.layout.specs.Directory.{slotAt, typeOf, isFree, nameOf}
+use Rattle.layout.specs.Directory.{slotAt, typeOf, isFree, isUsed, nameOf}
 
 -- b is the block of slot k, and j slots from k on stand before the end slot
 pub record Place (ds : List ℕ) (d b k j : ℕ) : Type 0 where
@@ -31,6 +31,10 @@ slotFree s e = isFree (typeOf s e)
 -- the lowest of the slots k to k + j − 1 whose entry passes a test, or 0
 unfoldable pub slotFrom : (ℕ → Bool) → List ℕ → ℕ → ℕ → ℕ
 slotFrom test ds k j = lowest (λ x. test (slotAt ds x)) (interval k j)
+
+-- the lowest of the slots k to k + j − 1 that is `start` or more and not free, or 0
+unfoldable pub usedFrom : ℕ → List ℕ → List ℕ → ℕ → ℕ → ℕ
+usedFrom start s ds k j = lowest (λ x. leb start x && isUsed (typeOf s (slotAt ds x))) (interval k j)
 
 -- the slots k to k + j − 1 are free
 unfoldable pub allFree : List ℕ → List ℕ → ℕ → ℕ → Bool

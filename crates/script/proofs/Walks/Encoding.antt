@@ -1,25 +1,26 @@
 -- Answers as bytes: their lengths, and what the code writes piece by piece.
 use Prim.Native.Nat.{ℕ, _+_, _-_, _≤_, _<_}
 use mathlib.Core.Path.{_≡_, refl, sym, ap, _∙_}
-use mathlib.Core.List.{List, [], _++_}
+use mathlib.Core.List.{List, [], _++_, append-assoc}
 use mathlib.Core.Bool.{Bool, true, false, cond}
 use lib.Dec.{eqb}
 use native.Mathlib.Omega.{arith}
 use borrow.Rule.Slice.PartMut.{putMid}
 use lib.ListN.{length, replicate, length-append, length-replicate}
-use Rattle.layout.specs.Bytes.{bytes4, zeros, part, splice}
+use Rattle.layout.specs.Bytes.{be64, bytes4, zeros, part, splice}
 use Rattle.layout.specs.declared.reading.Filled.{Filled}
 use Rattle.layout.specs.declared.reading.Filled.the-variants.{Bytes, Refused}
-use Rattle.layout.specs.Looks.{ReadAnswer, Extent, read, extentOf, lookInPlace, readAttributes}
-use Rattle.journal.specs.Run.{Call, Answer, State, change, undo, look, checkImage, findFile, readFile, lookAt, readAttributesOf, filled, shown, lookAnswer, answer, changeAnswer, changeRefusal, undoAnswer, undoRefusal}
-use Rattle.journal.specs.Numbers.{be64}
-use Rattle.script.specs.Script.{opAt, nameAt, dataAt, numbers, encoded, encodedItem, answerSize, itemRoom}
+use Rattle.layout.specs.Looks.{ReadAnswer, Extent, VolumeAnswer, EntryAnswer, read, extentOf, lookInPlace, readAttributes, volumeInfo, nextEntry}
+use Rattle.journal.specs.Run.{Call, Answer, State, change, undo, look, checkImage, findFile, readFile, lookAt, readAttributesOf, showVolume, showEntry, filled, shown, described, entered, lookAnswer, answer, changeAnswer, changeRefusal, undoAnswer, undoRefusal}
+use Rattle.script.specs.Script.{opAt, nameAt, dataAt, numbers, volumeHead, entryHead, encoded, encodedItem, answerSize, itemRoom}
 use Rattle.write_list.specs.Runs.{ListCall, call, list, listAnswer}
 use Rattle.script.specs.Walks.Scripts.{filledAt}
-use Rattle.layout.specs.Answers.{readAnswer}
-use Rattle.layout.proofs.Laws.Bytes.{length-zeros, putMid-splice, splice-append, splice-whole, splice-three, splice-back}
+use Rattle.layout.specs.Answers.{readAnswer, volumeAnswer, entryAnswer}
+use Rattle.layout.specs.declared.overview.VolumeInfo.{VolumeInfo}
+use Rattle.layout.specs.declared.overview.EntryInfo.{EntryInfo}
+use Rattle.layout.proofs.Laws.Bytes.{length-zeros, lent, putMid-splice, splice-append, splice-whole, splice-two, splice-three, splice-back}
 use Rattle.layout.proofs.Laws.Tests.{accept-either}
-use Rattle.layout.proofs.Laws.Looks.{read-count, read-length, attributes-count, attributes-length, extent-small, length-look, look-short}
+use Rattle.layout.proofs.Laws.Looks.{read-count, read-length, attributes-count, attributes-length, extent-small, length-look, look-short, volume-length, entry-length}
 
 pub length-numbers : (a b c d : ℕ) → length (numbers a b c d) ≡ 16
 unfolding numbers bytes4
@@ -37,6 +38,15 @@ numbers-put s a b c d h =
 -- an answer of numbers alone
 pub numbers-alone : (s : List ℕ) (a b c d : ℕ) → length s ≡ 16 → splice s 0 (numbers a b c d) ≡ numbers a b c d
 numbers-alone s a b c d h = splice-whole s (numbers a b c d) (length-numbers a b c d ∙ sym h)
+
+-- the numbers of the volume and of an entry
+pub length-volumeHead : (a : VolumeAnswer) → length (volumeHead a) ≡ 32
+unfolding volumeHead numbers bytes4
+length-volumeHead a = refl
+
+pub length-entryHead : (a : EntryAnswer) → length (entryHead a) ≡ 64
+unfolding entryHead numbers bytes4
+length-entryHead a = refl
 
 -- an answer's length is that of its call, whatever the state
 pub answer-length : (p : State) (c : Call) → length (encoded (answer p c)) ≡ answerSize c
@@ -56,6 +66,12 @@ answer-length p (look (lookAt name i)) =
     let h : length b ≤ 512 = look-short (p .image) name i in
     let x : Extent = extentOf (p .image) name i in
     length-append (numbers (x .start) (x .size) 0 0) (b ++ zeros (512 - length b)) ∙ rw (length-numbers, length-append, length-zeros) (omega arith)
+answer-length p (look (showVolume buffer)) =
+    let a : VolumeAnswer = volumeInfo (p .image) buffer in
+    length-append (volumeHead a) (a .buffer) ∙ rw (length-volumeHead, volume-length (p .image) buffer)
+answer-length p (look (showEntry name start buffer)) =
+    let a : EntryAnswer = nextEntry (p .image) name start buffer in
+    length-append (entryHead a) (a .buffer) ∙ rw (length-entryHead, entry-length (p .image) buffer name start)
 
 pub item-length : (p : State) (c : ListCall) → length (encodedItem (listAnswer p c)) ≡ itemRoom c
 unfolding encodedItem listAnswer itemRoom
@@ -159,3 +175,34 @@ module _ (s name : List ℕ) (i start size : ℕ) (starts : start ≡ extentOf s
       ≡ lookAnswer s (lookAt name i)
   unfolding lookAnswer
   shown-answer = rw (shown-part, length-look s name i, starts)
+
+-- numbers in groups of four, one after the other
+pub two-groups : (s a b : List ℕ) → length s ≡ 32 → length a ≡ 16 → length b ≡ 16 → splice (splice s 0 a) 16 b ≡ a ++ b
+two-groups s a b h ea eb = splice-two s a b 16 (omega arith) (omega arith)
+
+pub four-groups : (s a b c d : List ℕ) → length s ≡ 64 → length a ≡ 16 → length b ≡ 16 → length c ≡ 16 → length d ≡ 16
+    → splice (splice (splice (splice s 0 a) 16 b) 32 c) 48 d ≡ a ++ (b ++ (c ++ d))
+four-groups s a b c d h ea eb ec ed =
+    let x : 0 + length a ≡ 16 = omega arith in
+    let y : 0 + length (a ++ b) ≡ 32 = rw (length-append, ea, eb) in
+    let z : length ((a ++ b) ++ c) ≡ 48 = rw (length-append, length-append, ea, eb, ec) in
+    ap (λ (t : List ℕ). splice (splice t 32 c) 48 d) (rw x at (splice-append s 0 a b (omega arith)))
+    ∙ ap (λ (t : List ℕ). splice t 48 d) (rw y at (splice-append s 0 (a ++ b) c (omega arith)))
+    ∙ splice-two s ((a ++ b) ++ c) d 48 (omega arith) (sym z) ∙ rw (append-assoc, append-assoc)
+
+-- the numbers before the buffer that a look has left
+headed : (s b ys h : List ℕ) (k m : ℕ) → length s ≡ m + length b → length b ≡ k → length h ≡ m → ys ≡ h → putMid 0 m (putMid m k s b) ys ≡ h ++ b
+headed s b ys h k m l lb lh e =
+    lent (putMid m k s b) 0 m ys h e lh ∙ ap (λ (x : List ℕ). splice x 0 h) (putMid-splice s m k b lb) ∙ splice-back s h b m l lh
+
+pub described-written : (s b ys : List ℕ) (k : ℕ) (v : VolumeInfo) (a : VolumeAnswer) → volumeAnswer v b ≡ a → length s ≡ 32 + length b → length b ≡ k
+    → ys ≡ volumeHead (volumeAnswer v []) → putMid 0 32 (putMid 32 k s b) ys ≡ encoded (described a)
+unfolding encoded volumeHead
+described-written s b ys k v a e l lb w =
+    headed s b ys (volumeHead (volumeAnswer v [])) k 32 l lb (length-volumeHead (volumeAnswer v [])) w ∙ ap (λ (x : VolumeAnswer). encoded (described x)) e
+
+pub entered-written : (s b ys : List ℕ) (k : ℕ) (v : EntryInfo) (a : EntryAnswer) → entryAnswer v b ≡ a → length s ≡ 64 + length b → length b ≡ k
+    → ys ≡ entryHead (entryAnswer v []) → putMid 0 64 (putMid 64 k s b) ys ≡ encoded (entered a)
+unfolding encoded entryHead
+entered-written s b ys k v a e l lb w =
+    headed s b ys (entryHead (entryAnswer v [])) k 64 l lb (length-entryHead (entryAnswer v [])) w ∙ ap (λ (x : EntryAnswer). encoded (entered x)) e

@@ -1,5 +1,5 @@
 -- One call of a script made: from what the call promises and what was written of its answer.
-use Prim.Native.Nat.{ℕ, zero, suc, _≤_}
+use Prim.Native.Nat.{ℕ, zero, suc, _≤_, _<_}
 use mathlib.Core.Path.{_≡_, refl, sym, ap, subst, _∙_}
 use mathlib.Core.List.{List}
 use mathlib.Core.Bool.{true, false}
@@ -11,11 +11,11 @@ use Rattle.volume.specs.Change.{Change}
 use Rattle.volume.specs.Asked.{asked}
 use Rattle.volume.specs.declared.change.Change.{Change as Kind}
 use Rattle.journal.specs.Run.{Call, Answer, State, Look, change, undo, look, step, answer, afterChange, changeAnswer, afterUndo, undoAnswer, lookAnswer, state}
-use Rattle.script.specs.Script.{opAt, nameAt, dataAt, changeAt, callAt, itemCall, answerSize, numbers, encoded, encodedItem}
+use Rattle.script.specs.Script.{opAt, nameAt, dataAt, changeAt, callAt, showAt, itemCall, answerSize, numbers, encoded, encodedItem}
 use Rattle.write_list.specs.List.{Listed, listed, writeList}
 use Rattle.write_list.specs.Runs.{ListCall, list, listStep, listAnswer}
 use Rattle.script.specs.Walks.Scripts.{looks, CallDone, ItemDone}
-use Rattle.script.proofs.Walks.Scripts.{is-change, is-check, is-lookup, is-read, is-look-in-place, is-read-attributes, is-call, is-list, looks-split}
+use Rattle.script.proofs.Walks.Scripts.{is-change, is-check, is-lookup, is-read, is-look-in-place, is-read-attributes, is-call, is-show, is-list, looks-split}
 use Rattle.script.proofs.Walks.Encoding.{numbers-alone}
 
 module _ (p : State) (image journal part part′ : List ℕ) (n₁ n₂ n₃ n₄ : ℕ) (a : Answer)
@@ -66,10 +66,15 @@ pub look-made : (image journal part s : List ℕ) (at : ℕ) → 1 ≤ opAt s at
 look-made image journal part s at l h answered = record { after = sym (look-keeps (state image journal) s at l h); answered = answered journal }
 
 -- an item that is a call, and one that is a list
-pub call-item : (p : State) (s : List ℕ) (at : ℕ) (image journal part : List ℕ) → (opAt s at ≡ 15 → ⊥) → CallDone p (callAt s at) image journal part
+pub call-item : (p : State) (s : List ℕ) (at : ℕ) (image journal part : List ℕ) → (opAt s at ≡ 15 → ⊥) → opAt s at < 16 → CallDone p (callAt s at) image journal part
     → ItemDone p (itemCall s at) image journal part
 unfolding listStep listAnswer encodedItem
-call-item p s at image journal part n d = rw (is-call s at n) (record { after = d .after; answered = d .answered })
+call-item p s at image journal part n h d = rw (is-call s at n h) (record { after = d .after; answered = d .answered })
+
+pub show-item : (image journal s : List ℕ) (at : ℕ) (part : List ℕ) → 16 ≤ opAt s at → part ≡ encoded (lookAnswer image (showAt s at))
+    → ItemDone (state image journal) (itemCall s at) image journal part
+unfolding listStep listAnswer encodedItem step answer
+show-item image journal s at part h e = rw (is-show s at h) (record { after = refl; answered = e })
 
 pub list-item : (p : State) (s : List ℕ) (at : ℕ) (image journal part part′ bytes : List ℕ) (number done : ℕ) → opAt s at ≡ 15 → length part ≡ 16
     → bytes ≡ dataAt s at → listed (state image journal) number done ≡ writeList p bytes → part′ ≡ splice part 0 (numbers number done 0 0)

@@ -10,15 +10,22 @@ use borrow.Author.Tests.{le-leb, lt-leb, leb-true, leb-false, ne-eqb, eqb-true, 
 use lib.Dec.{leb, eqb}
 use lib.ListN.{length}
 use Rattle.layout.specs.Lists.{every}
-use Rattle.layout.specs.Bytes.{be32}
-use Rattle.journal.specs.Run.{Call, State, change, undo, look, checkImage, findFile, readFile, lookAt, readAttributesOf, filled, lookAnswer, answer}
-use Rattle.journal.specs.Numbers.{be64}
-use Rattle.script.specs.Script.{lastOp, opAt, nameAt, dataAt, dataLength, itemSize, changeAt, callAt, itemCall, itemOk, itemsFrom, callsFrom, answerSize, itemRoom, answersSize}
+use Rattle.layout.specs.Bytes.{be32, be64}
+use Rattle.journal.specs.Run.{Call, State, change, undo, look, checkImage, findFile, readFile, lookAt, readAttributesOf, showVolume, showEntry, filled, lookAnswer, answer}
+use Rattle.script.specs.Script.{lastOp, opAt, nameAt, dataAt, dataLength, itemSize, changeAt, callAt, showAt, itemCall, itemOk, itemsFrom, callsFrom, answerSize, itemRoom, answersSize}
 use Rattle.write_list.specs.Runs.{call, list}
 use Rattle.script.specs.Walks.Scripts.{looks, fills, filledAt}
 use Rattle.layout.proofs.Laws.Tests.{and-split, or-split, true-not-false}
 use Rattle.layout.proofs.Laws.Bytes.{length-part}
 use Rattle.journal.proofs.Laws.RecordWalk.{records-none, records-more, records-enough}
+
+-- the length of the numbers of op 16 or 17
+pub head-small : (op r : ℕ) → r ≡ cond (eqb op 16) 32 64 → r ≤ 64
+head-small op r e = go (eqb op 16) e
+  where
+    go : (t : Bool) → r ≡ cond t 32 64 → r ≤ 64
+    go true q = omega arith
+    go false q = omega arith
 
 -- the ops that look, and those that fill a buffer
 module _ (x : ℕ) where
@@ -186,30 +193,60 @@ module _ (s : List ℕ) (at : ℕ) where
   unfolding itemCall
   is-list e = rw e
 
-  pub is-call : (opAt s at ≡ 15 → ⊥) → itemCall s at ≡ call (callAt s at)
+  pub is-call : (opAt s at ≡ 15 → ⊥) → opAt s at < 16 → itemCall s at ≡ call (callAt s at)
   unfolding itemCall
-  is-call n = rw (ne-eqb (opAt s at) 15 n)
+  is-call n h = rw (ne-eqb (opAt s at) 15 n, lt-leb 16 (opAt s at) h)
+
+  -- a look at the volume or at an entry
+  pub is-show : 16 ≤ opAt s at → itemCall s at ≡ call (look (showAt s at))
+  unfolding itemCall
+  is-show h = rw (ne-eqb (opAt s at) 15 (λ e. omega arith), le-leb 16 (opAt s at) h)
+
+  pub shows-volume : opAt s at ≡ 16 → showAt s at ≡ showVolume (dataAt s at)
+  unfolding showAt
+  shows-volume e = rw e
+
+  pub shows-entry : (opAt s at ≡ 16 → ⊥) → showAt s at ≡ showEntry (nameAt s at) (be64 s (at + 9)) (dataAt s at)
+  unfolding showAt
+  shows-entry n = rw (ne-eqb (opAt s at) 16 n)
+
+  pub size-show : at + itemSize s at ≤ length s → answerSize (look (showAt s at)) ≡ cond (eqb (opAt s at) 16) 32 64 + dataLength s at
+  unfolding answerSize showAt
+  size-show h = go (eqb (opAt s at) 16)
+    where
+      go : (t : Bool) → answerSize (look (cond t (showVolume (dataAt s at)) (showEntry (nameAt s at) (be64 s (at + 9)) (dataAt s at)))) ≡ cond t 32 64 + dataLength s at
+      go true = ap (λ (x : ℕ). 32 + x) (length-data h)
+      go false = ap (λ (x : ℕ). 64 + x) (length-data h)
+
+  pub room-is-show : 16 ≤ opAt s at → itemRoom (itemCall s at) ≡ answerSize (look (showAt s at))
+  unfolding itemRoom
+  room-is-show g = rw (is-show g)
+
+  pub room-show : at + itemSize s at ≤ length s → 16 ≤ opAt s at → itemRoom (itemCall s at) ≡ cond (eqb (opAt s at) 16) 32 64 + dataLength s at
+  room-show h g = room-is-show g ∙ size-show h
 
   pub room-list : opAt s at ≡ 15 → itemRoom (itemCall s at) ≡ 16
   unfolding itemRoom
   room-list e = rw (is-list e)
 
-  pub room-call : (opAt s at ≡ 15 → ⊥) → itemRoom (itemCall s at) ≡ answerSize (callAt s at)
+  pub room-call : (opAt s at ≡ 15 → ⊥) → opAt s at < 16 → itemRoom (itemCall s at) ≡ answerSize (callAt s at)
   unfolding itemRoom
-  room-call n = rw (is-call n)
+  room-call n h = rw (is-call n h)
 
   pub room-read : at + itemSize s at ≤ length s → fills (opAt s at) ≡ true → itemRoom (itemCall s at) ≡ 16 + dataLength s at
-  room-read h f = room-call (λ e. ⊎-elim (λ a. omega arith) (λ b. omega arith) (fills-split (opAt s at) f)) ∙ size-read h f
+  room-read h f =
+      room-call (λ e. ⊎-elim (λ a. omega arith) (λ b. omega arith) (fills-split (opAt s at) f)) (⊎-elim (λ a. omega arith) (λ b. omega arith) (fills-split (opAt s at) f))
+      ∙ size-read h f
 
   pub room-look-in-place : opAt s at ≡ 4 → itemRoom (itemCall s at) ≡ 528
-  room-look-in-place e = room-call (λ f. omega arith) ∙ size-look-in-place e
+  room-look-in-place e = room-call (λ f. omega arith) (omega arith) ∙ size-look-in-place e
 
-  pub room-plain : fills (opAt s at) ≡ false → eqb (opAt s at) 4 ≡ false → itemRoom (itemCall s at) ≡ 16
-  room-plain f g = go (ℕ-discrete (opAt s at) 15)
+  pub room-plain : opAt s at < 16 → fills (opAt s at) ≡ false → eqb (opAt s at) 4 ≡ false → itemRoom (itemCall s at) ≡ 16
+  room-plain h f g = go (ℕ-discrete (opAt s at) 15)
     where
       go : Dec (opAt s at ≡ 15) → itemRoom (itemCall s at) ≡ 16
       go (yes e) = room-list e
-      go (no n) = room-call n ∙ size-plain f g
+      go (no n) = room-call n h ∙ size-plain f g
 
   -- room for the answers from here on
   pub sizes-step : at < length s → answersSize (callsFrom s at) ≡ itemRoom (itemCall s at) + answersSize (callsFrom s (at + itemSize s at))

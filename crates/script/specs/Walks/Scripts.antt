@@ -5,10 +5,10 @@ use mathlib.Core.List.{List}
 use mathlib.Core.Bool.{Bool, _||_, cond}
 use lib.ListN.{length}
 use lib.Dec.{eqb, leb}
+use Rattle.layout.specs.Bytes.{be64}
 use Rattle.layout.specs.Looks.{ReadAnswer, read, readAttributes}
 use Rattle.journal.specs.Run.{Call, State, step, answer, state}
 use Rattle.write_list.specs.Runs.{ListCall, listStep, listAnswer}
-use Rattle.journal.specs.Numbers.{be64}
 use Rattle.script.specs.Script.{Fits, opAt, nameAt, dataAt, callAt, itemCall, answerSize, itemRoom, encoded, encodedItem}
 
 -- the ops of the calls that only look, and of those among them that fill a buffer

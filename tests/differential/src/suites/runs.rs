@@ -158,9 +158,14 @@ fn any_call(rng: &mut Rng, replay: &Replay, mix: &Mix) -> Call {
 fn any_look(rng: &mut Rng, image: &[u8]) -> Call {
     let path = any_path(rng, image, Want::File);
     let size = size_of(image, &path);
-    match rng.below(5) {
+    match rng.below(7) {
         0 => Call::Check,
         1 => Call::Lookup { path },
+        5 => Call::Info { buffer: any_label_buffer(rng) },
+        6 => {
+            let path = any_listed(rng, image);
+            Call::Entry { path, slot: any_slot(rng), buffer: any_label_buffer(rng) }
+        }
         3 => {
             let buffer = any_attributes_buffer(rng, attribute_blocks(image, &path));
             Call::ReadAttributes { path, buffer }
@@ -193,6 +198,8 @@ fn brief(call: &Call) -> String {
         Call::Read { offset, buffer, .. } => format!("read of {} bytes at {offset}", buffer.len()),
         Call::LookInPlace { index, .. } => format!("look in place at {index}"),
         Call::ReadAttributes { buffer, .. } => format!("read attributes into {}", buffer.len()),
+        Call::Info { buffer } => format!("info into {}", buffer.len()),
+        Call::Entry { slot, buffer, .. } => format!("entry from {slot} into {}", buffer.len()),
     }
 }
 
@@ -228,6 +235,7 @@ fn number_of(answer: &Answer) -> u32 {
         Answer::Checked(number) => *number,
         Answer::Found(result) => result.as_ref().err().copied().unwrap_or(0),
         Answer::Part { .. } => 0,
+        Answer::Told { numbers, .. } => numbers[0] as u32,
     }
 }
 
@@ -295,6 +303,20 @@ fn look_with_library(image: &Lent, call: &Call) -> (Entry, Answer, Vec<Option<St
             let range = got.start as usize..got.start as usize + got.length as usize;
             let bytes = image.content().get(range.clone()).map_or(vec![], |part| part.to_vec());
             (Entry::LookInPlace, Answer::Part { range, bytes }, vec![lent.trouble("path", path)])
+        }
+        Call::Info { buffer } => {
+            let mut lent = Lent::new(buffer, 4);
+            let numbers = library::info(image, &mut lent);
+            let after = lent.content().to_vec();
+            let troubles = vec![lent.trouble("labels", &after)];
+            (Entry::Info, Answer::Told { numbers, buffer: after }, troubles)
+        }
+        Call::Entry { path, slot, buffer } => {
+            let (lent, mut name) = (Lent::new(path, 5), Lent::new(buffer, 2));
+            let numbers = library::entry(image, &lent, *slot, &mut name);
+            let after = name.content().to_vec();
+            let troubles = vec![lent.trouble("path", path), name.trouble("name", &after)];
+            (Entry::Entry, Answer::Told { numbers, buffer: after }, troubles)
         }
         Call::Change(_) | Call::WriteList(_) | Call::Append(_) | Call::Undo => {
             unreachable!("not a look")

@@ -8,6 +8,7 @@ use crate::rng::Rng;
 use crate::suites::lister::output_of;
 use crate::tester::Tester;
 use reference::layout::put_number;
+use reference::overview::VOLUME_NUMBERS;
 use reference::path::Want;
 use reference::{Answer, Call, Change, Create, Replay, State};
 
@@ -215,6 +216,11 @@ fn item_of(rng: &mut Rng, call: &Call) -> Vec<u8> {
         Call::ReadAttributes { path, buffer } => (13, path, buffer),
         Call::Change(Change::ClearFlags(c)) => (14, &c.path, &[]),
         Call::WriteList(list) => (15, &[], list),
+        Call::Info { buffer } => (16, &[], buffer),
+        Call::Entry { path, slot, buffer } => {
+            header[9..17].copy_from_slice(&u64::from(*slot).to_be_bytes());
+            (17, path, buffer)
+        }
         Call::Append(_) => unreachable!("a script has no op for a piece"),
     };
     header[0] = op;
@@ -234,6 +240,8 @@ fn answer_size(call: &Call) -> usize {
     match call {
         Call::Read { buffer, .. } | Call::ReadAttributes { buffer, .. } => 16 + buffer.len(),
         Call::LookInPlace { .. } => 528,
+        Call::Info { buffer } => 32 + buffer.len(),
+        Call::Entry { buffer, .. } => 64 + buffer.len(),
         _ => 16,
     }
 }
@@ -251,8 +259,29 @@ fn encoded(answer: &Answer) -> Vec<u8> {
             part.resize(512, 0);
             ([range.start as u32, range.len() as u32, 0, 0], part)
         }
+        Answer::Told { numbers, buffer } => {
+            let words = if numbers.len() == VOLUME_NUMBERS { volume } else { entry };
+            return [words(numbers), buffer.clone()].concat();
+        }
     };
     let mut all: Vec<u8> = numbers.iter().flat_map(|n| n.to_be_bytes()).collect();
     all.extend(payload);
     all
+}
+
+fn words(numbers: &[u64]) -> Vec<u8> {
+    numbers.iter().flat_map(|&n| (n as u32).to_be_bytes()).collect()
+}
+
+/// The volume's numbers: eight words.
+fn volume(v: &[u64]) -> Vec<u8> {
+    words(&[v, &[0; 3]].concat())
+}
+
+/// An entry's numbers: sixteen words, its times as two each.
+fn entry(e: &[u64]) -> Vec<u8> {
+    let halves = |time: u64| [time >> 32, time & 0xFFFF_FFFF];
+    let (created, modified) = (halves(e[7]), halves(e[8]));
+    let places = [e[0], e[1], e[10], e[11], e[9], e[12], e[13], e[6]];
+    words(&[&places[..], &created, &modified, &e[2..6]].concat())
 }

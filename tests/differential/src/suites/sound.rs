@@ -70,10 +70,13 @@ fn look_once(rng: &mut Rng, t: &mut Tester, image: &[u8]) {
     t.look(image, &path, offset, &buffer, index);
     let blocks = attribute_blocks(image, &path);
     t.read_attributes(image, &path, &any_attributes_buffer(rng, blocks));
+    t.info(image, &any_label_buffer(rng));
+    t.entry(image, &any_listed(rng, image), any_slot(rng), &any_label_buffer(rng));
 }
 
-/// Every file from end to end.
+/// Every file from end to end, and a directory.
 fn look_at_all(rng: &mut Rng, t: &mut Tester, image: &[u8]) {
+    t.list(image, &any_listed(rng, image), &any_label_buffer(rng));
     let mut files = files(image);
     rng.shuffle(&mut files);
     for file in files.iter().take(12) {

@@ -1,16 +1,19 @@
-use mathlib.Core.Path.{sym, _∙_, ap}
-use Prim.Native.Nat.{ℕ, _+_}
-use borrow.Author.Tests.{ne-eqb}
-use Rattle.script.proofs.Walks.Scripts.{room-read, room-look-in-place, room-plain}
+use mathlib.Core.Path.{sym}
+use native.Mathlib.Omega.{arith}
+use Rattle.script.specs.Script.{opAt}
+use Rattle.script.proofs.Walks.Scripts.{room-show, head-small}
 use borrow.Author.Needs.{needs}
 use Rattle.script.proofs.items.answer_size.Statement.{statement}
 use Rattle.script.proofs.items.answer_size.Tie as tie
 
-shared-slice-read-fills : tie.Need-shared-slice-read-fills
-shared-slice-read-fills c = search needs
+shared-slice-read-if1 : tie.Need-shared-slice-read-if1
+shared-slice-read-if1 c = search needs
 
-fills-requires : tie.Need-fills-requires
-fills-requires c κs = search needs
+shared-slice-read-head-size : tie.Need-shared-slice-read-head-size
+shared-slice-read-head-size c = search needs
+
+head-size-requires : tie.Need-head-size-requires
+head-size-requires c κs = search needs
 
 add-get32 : tie.Need-add-get32
 add-get32 c = search needs
@@ -22,45 +25,33 @@ cast-result : tie.Need-cast-result
 cast-result c = search needs
 
 add-result : tie.Need-add-result
-add-result c = search needs
+add-result c =
+    let a = c .before .before .before .before .before .before .args in
+    let h = head-small (opAt (a .script .now) (a .at)) (c .before .head-size .result) (c .before .head-size .ensures) in
+    omega (arith, h)
 
 returns : tie.Need-returns
 returns c =
-    let get32 = c .get32 in
-    let a = c .before .before .before .before .before .args in
-    let p = c .before .before .before .before .before .pre in
-    let fills = c .before .before .fills in
-    let if1 = c .before .if1 in
-    ap (λ (x : ℕ). 16 + x) (get32 .ensures) ∙ sym (room-read (a .script .now) (a .at) (p) (sym (fills .ensures) ∙ if1 .taken))
+    let a = c .before .before .before .before .before .before .args in
+    rw (c .before .head-size .ensures, c .get32 .ensures) (sym (room-show (a .script .now) (a .at) (c .before .before .before .before .before .before .pre) (c .before .before .before .if1 .taken)))
 
-shared-slice-read-if2 : tie.Need-shared-slice-read-if2
-shared-slice-read-if2 c = search needs
+plain-size-requires : tie.Need-plain-size-requires
+plain-size-requires c κs = search needs
 
 returns-2 : tie.Need-returns-2
-returns-2 c =
-    let a = c .before .before .before .before .before .before .args in
-    let if2 = c .if2 in
-    sym (room-look-in-place (a .script .now) (a .at) (if2 .taken))
-
-returns-3 : tie.Need-returns-3
-returns-3 c =
-    let a = c .before .before .before .before .before .before .args in
-    let fills = c .before .before .before .fills in
-    let if1 = c .before .before .if1 in
-    let if2 = c .if2 in
-    sym (room-plain (a .script .now) (a .at) (sym (fills .ensures) ∙ if1 .left) (ne-eqb _ _ (if2 .left)))
+returns-2 c = search needs
 
 pub answer-size-spec : {M : Type 1} → statement M
 answer-size-spec =
     tie.close
     (tie.spec
-    shared-slice-read-fills
-    fills-requires
+    shared-slice-read-if1
+    shared-slice-read-head-size
+    head-size-requires
     add-get32
     get32-requires
     cast-result
     add-result
     returns
-    shared-slice-read-if2
-    returns-2
-    returns-3)
+    plain-size-requires
+    returns-2)

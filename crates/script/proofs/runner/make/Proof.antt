@@ -1,6 +1,6 @@
 use mathlib.Core.Path.{_∙_}
-use Rattle.script.proofs.Walks.Scripts.{room-list, room-call}
-use Rattle.script.proofs.Walks.Making.{call-item}
+use Rattle.script.proofs.Walks.Scripts.{room-is-show}
+use Rattle.script.proofs.Walks.Making.{show-item}
 use borrow.Author.Needs.{needs}
 use Rattle.script.proofs.runner.make.Statement.{statement}
 use Rattle.script.proofs.runner.make.Tie as tie
@@ -8,11 +8,8 @@ use Rattle.script.proofs.runner.make.Tie as tie
 shared-slice-read-if1 : tie.Need-shared-slice-read-if1
 shared-slice-read-if1 c = search needs
 
-make-list-requires : tie.Need-make-list-requires
-make-list-requires c κs =
-    let e = c .before .before .before .if1 .taken in
-    let p = c .before .before .before .before .before .before .before .before .before .pre in
-    (p .0 .fits, e, p .0 .room ∙ room-list _ _ e)
+show-requires : tie.Need-show-requires
+show-requires c κs = (c .before .before .before .before .before .before .before .before .pre .0 .fits, c .before .before .before .before .before .before .before .before .pre .0 .room ∙ room-is-show (c .before .before .before .before .before .before .before .before .args .script .now) (c .before .before .before .before .before .before .before .before .args .at) (c .before .before .if1 .taken))
 
 same-length : tie.Need-same-length
 same-length c = search needs
@@ -20,16 +17,14 @@ same-length c = search needs
 same-length-2 : tie.Need-same-length-2
 same-length-2 c = search needs
 
+returns : tie.Need-returns
+returns c = let a = c .before .before .before .before .before .before .before .before .before .before .before .args in show-item (a .image .now) (a .journal .now) (a .script .now) (a .at) _ (c .before .before .before .before .before .if1 .taken) (c .before .before .show .ensures)
+
+make-plain-requires : tie.Need-make-plain-requires
+make-plain-requires c κs = search needs
+
 same-length-3 : tie.Need-same-length-3
 same-length-3 c = search needs
-
-returns : tie.Need-returns
-returns c = search needs
-
-make-call-requires : tie.Need-make-call-requires
-make-call-requires c κs =
-    let p = c .before .before .before .before .before .before .before .before .before .pre in
-    (record { fits = p .0 .fits; room = p .0 .room ∙ room-call _ _ (c .before .before .before .if1 .left) }, p .1, p .2)
 
 same-length-4 : tie.Need-same-length-4
 same-length-4 c = search needs
@@ -37,24 +32,20 @@ same-length-4 c = search needs
 same-length-5 : tie.Need-same-length-5
 same-length-5 c = search needs
 
-same-length-6 : tie.Need-same-length-6
-same-length-6 c = search needs
-
 returns-2 : tie.Need-returns-2
-returns-2 c = call-item _ _ _ _ _ _ (c .before .before .before .before .before .before .before .before .before .before .if1 .left) (c .before .before .before .before .before .before .make-call .ensures)
+returns-2 c = search needs
 
 pub make-spec : {M : Type 1} → statement M
 make-spec =
     tie.close
     (tie.spec
     shared-slice-read-if1
-    make-list-requires
+    show-requires
     same-length
     same-length-2
-    same-length-3
     returns
-    make-call-requires
+    make-plain-requires
+    same-length-3
     same-length-4
     same-length-5
-    same-length-6
     returns-2)

@@ -1,7 +1,7 @@
-use Rattle.journal.specs.Numbers.{be64}
+use Rattle.layout.specs.Bytes.{be64}
 use borrow.Author.Needs.{needs}
-use Rattle.journal.proofs.number.get64.Statement.{statement}
-use Rattle.journal.proofs.number.get64.Tie as tie
+use Rattle.layout.proofs.number.get64.Statement.{statement}
+use Rattle.layout.proofs.number.get64.Tie as tie
 
 get32-requires : tie.Need-get32-requires
 get32-requires c κs = search needs

@@ -1,0 +1,63 @@
+use mathlib.Core.Path.{_∙_}
+use Rattle.script.proofs.Walks.Scripts.{room-list, room-call}
+use Rattle.script.proofs.Walks.Making.{call-item}
+use native.Mathlib.Omega.{arith}
+use borrow.Author.Needs.{needs}
+use Rattle.script.proofs.runner.make_plain.Statement.{statement}
+use Rattle.script.proofs.runner.make_plain.Tie as tie
+
+shared-slice-read-if1 : tie.Need-shared-slice-read-if1
+shared-slice-read-if1 c = search needs
+
+make-list-requires : tie.Need-make-list-requires
+make-list-requires c κs =
+    let e = c .before .before .before .if1 .taken in
+    let p = c .before .before .before .before .before .before .before .before .before .pre in
+    (p .0 .fits, e, p .0 .room ∙ room-list _ _ e)
+
+same-length : tie.Need-same-length
+same-length c = search needs
+
+same-length-2 : tie.Need-same-length-2
+same-length-2 c = search needs
+
+same-length-3 : tie.Need-same-length-3
+same-length-3 c = search needs
+
+returns : tie.Need-returns
+returns c = search needs
+
+make-call-requires : tie.Need-make-call-requires
+make-call-requires c κs =
+    let p = c .before .before .before .before .before .before .before .before .before .pre in
+    (record { fits = p .0 .fits; room = p .0 .room ∙ room-call _ _ (c .before .before .before .if1 .left) (p .2) }, p .1, omega (arith, p .2))
+
+same-length-4 : tie.Need-same-length-4
+same-length-4 c = search needs
+
+same-length-5 : tie.Need-same-length-5
+same-length-5 c = search needs
+
+same-length-6 : tie.Need-same-length-6
+same-length-6 c = search needs
+
+returns-2 : tie.Need-returns-2
+returns-2 c =
+    let p = c .before .before .before .before .before .before .before .before .before .before .before .before .before .before .before .before .pre in
+    call-item _ _ _ _ _ _ (c .before .before .before .before .before .before .before .before .before .before .if1 .left) (p .2) (c .before .before .before .before .before .before .make-call .ensures)
+
+pub make-plain-spec : {M : Type 1} → statement M
+make-plain-spec =
+    tie.close
+    (tie.spec
+    shared-slice-read-if1
+    make-list-requires
+    same-length
+    same-length-2
+    same-length-3
+    returns
+    make-call-requires
+    same-length-4
+    same-length-5
+    same-length-6
+    returns-2)
