@@ -1,9 +1,9 @@
 -- THE THEOREM of the plain check (02, L12): "it gives the same number as the first check on every image, damaged ones included".
 use Prim.Native.Nat.{ℕ, _≤_, _+_, _-_, _*_}
-use mathlib.Core.Bool.{Bool, true, false, not, _&&_, cond}
+use mathlib.Core.Bool.{Bool, true, false, not}
 use mathlib.Core.List.{List}
 use mathlib.Core.Path.{_≡_, refl, ap}
-use lib.Dec.{eqb, leb}
+use lib.Dec.{eqb}
 use lib.ListN.{length}
 use Rattle.layout.specs.Lists.{every, interval}
 use Rattle.layout.specs.Limits.{minBlocks, maxBlocks}
@@ -29,7 +29,7 @@ holders-tally s b = asked (λ first k. one (holds (next s) b first k)) s
 
 claims-total : (s : List ℕ) → claims s ≡ total (claim (next s) (blockCount s)) (allChains s)
 unfolding claims answer
-claims-total s = asked (λ first k. cond (leb k (blockCount s) && chainOk (next s) (blockCount s) first k) k (blockCount s + 1)) s
+claims-total s = asked (λ first k. k + (blockCount s + 1) * one (not (chainOk (next s) (blockCount s) first k))) s
 
 pub stage6-same : (s : List ℕ) → minBlocks ≤ blockCount s → plainStage6 s ≡ stage6 s
 unfolding plainStage6 stage6 counted

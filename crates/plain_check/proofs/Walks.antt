@@ -1,4 +1,5 @@
 -- What ties the code to the definitions: a clause for each way through the code.
+pub mod Tests
 pub mod Chains
 pub mod Slots
 pub mod Stage4

@@ -146,10 +146,10 @@ unfoldable pub askTree : (ℕ → ℕ → ℕ) → ℕ → List ℕ → ℕ → 
 askTree ask zero s d = askDirectory ask (λ e. 0) s d
 askTree ask (suc left) s d = askDirectory ask (λ e. askTree ask left s (firstBlock s e)) s d
 
--- what is asked of a chain: how many blocks it claims, n + 1 if it is wrong (not exactly k blocks, all above t and below n, the last with value 1), or
--- whether it holds block b
+-- what is asked of a chain: how many blocks it claims, n + 1 more if it is wrong (not exactly k blocks, all above t and below n, the last with value 1),
+-- or whether it holds block b
 unfoldable pub answer : Question → List ℕ → ℕ → ℕ → ℕ → ℕ
-answer question.Claims s n first k = cond (leb k n && chainOk (next s) n first k) k (n + 1)
+answer question.Claims s n first k = k + (n + 1) * one (not (chainOk (next s) n first k))
 answer (question.Holds b) s n first k = one (holds (next s) b first k)
 
 unfoldable pub claims : List ℕ → ℕ

@@ -1,15 +1,15 @@
 -- What the private contracts of the code speak of.
-use Prim.Native.Nat.{ℕ, zero, suc, _+_, _*_, _%_, _≤_, _<_}
+use Prim.Native.Nat.{ℕ, _+_, _-_, _*_, _/_, _%_, _≤_, _<_}
 use mathlib.Core.List.{List}
-use mathlib.Core.Bool.{Bool, true, not, _&&_, cond}
+use mathlib.Core.Bool.{Bool, not, _&&_, cond}
 use mathlib.Core.Logic.{_⊎_}
 use mathlib.Core.Path.{_≡_}
 use lib.ListN.{length, getD}
 use lib.Dec.{eqb}
-use Rattle.layout.specs.Lists.{interval, every, select}
+use Rattle.layout.specs.Lists.{interval, every}
 use Rattle.layout.specs.Limits.{minBlocks, maxBlocks, maxDirectory}
 use Rattle.layout.specs.Table.{next, chain}
-use Rattle.layout.specs.Directory.{typeOf, firstBlock, blocksOf, attributeBlock, attributeSize, isFile, directory, slash}
+use Rattle.layout.specs.Directory.{slotAt, typeOf, firstBlock, blocksOf, attributeBlock, attributeSize, isFree, isFile, directory}
 use Rattle.plain_check.specs.declared.check.Question.{Question}
 use Rattle.plain_check.specs.Plain.{heldBefore, answer}
 
@@ -20,21 +20,24 @@ word = 0x100000000
 abbrev pub far : ℕ
 far = 0x100000000000
 
--- the block of slot k, if b is that of slot k − 1
-unfoldable pub slotBlock : (ℕ → ℕ) → ℕ → ℕ → ℕ
-slotBlock v b k = cond (eqb (k % 4) 0) (v b) b
+-- the entry after that at e: in the same block, or the first of the next one
+unfoldable pub after : (ℕ → ℕ) → ℕ → ℕ
+after v e = cond (eqb (e % 512) 384) (512 * v (e / 512)) (e + 128)
 
--- the k bytes from an offset on are 0
-abbrev pub zerosFrom : List ℕ → ℕ → ℕ → Bool
-zerosFrom s at k = every (λ i. eqb (getD s i 0) 0) (interval at k)
+-- the 80 bytes of name of the entries at a and b are the same
+unfoldable pub sameField : List ℕ → ℕ → ℕ → Bool
+sameField s a b = every (λ i. eqb (getD s (a + i) 0) (getD s (b + i) 0)) (interval 48 80)
+
+-- the entries at o and e are both used and have the same field; none of the slots before slot k does with e
+abbrev pub clash : List ℕ → ℕ → ℕ → Bool
+clash s e o = (not (isFree (typeOf s o)) && not (isFree (typeOf s e))) && sameField s o e
+
+unfoldable pub newField : List ℕ → List ℕ → ℕ → ℕ → Bool
+newField s ds e k = every (λ j. not (clash s e (slotAt ds j))) (interval 1 (k - 1))
 
 -- of the k blocks from b on, none is in a directory met before
 unfoldable pub newFrom : List ℕ → ℕ → ℕ → ℕ → Bool
 newFrom s c b k = every (λ x. eqb (heldBefore s c x) 0) (chain (next s) b k)
-
--- how many of the k entries from b on are not 0
-unfoldable pub usedFrom : List ℕ → ℕ → ℕ → ℕ
-usedFrom s b k = length (select (λ x. not (eqb (next s x) 0)) (interval b k))
 
 -- an image of n blocks, n in range
 pub record Volume (s : List ℕ) (n : ℕ) : Type 0 where
@@ -51,13 +54,6 @@ pub record Stands (s : List ℕ) (n d : ℕ) : Type 0 where
 -- r is x, or both are above the most that is asked for
 abbrev pub Upto : ℕ → ℕ → ℕ → Type 0
 Upto cap r x = (r ≡ x) ⊎ ((cap < r) × (cap < x))
-
--- the rest of a name's field from an offset on: name bytes, and after the first 0 only zeros
-unfoldable pub nameFrom : List ℕ → ℕ → ℕ → Bool
-nameFrom s at zero = true
-nameFrom s at (suc k) =
-    let more = nameFrom s (suc at) k in
-    cond (eqb (getD s at 0) 0) (zerosFrom s at (suc k)) (not (eqb (getD s at 0) slash) && more)
 
 -- what the two chains of a file answer together; of any other entry 0
 unfoldable pub fileAnswer : Question → List ℕ → ℕ → ℕ → ℕ

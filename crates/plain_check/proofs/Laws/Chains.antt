@@ -39,7 +39,7 @@ both-ways true b f g = sym (f refl)
 both-ways false true f g = g refl
 both-ways false false f g = refl
 
-ok-volume : (v : ℕ → ℕ) (n b k : ℕ) → 1 ≤ k → chainOk v n b k ≡ true → inVolume n b ≡ true
+pub ok-volume : (v : ℕ → ℕ) (n b k : ℕ) → 1 ≤ k → chainOk v n b k ≡ true → inVolume n b ≡ true
 unfolding chainOk endsAfter
 ok-volume v n b zero h e = absurd (omega arith)
 ok-volume v n b (suc k) h e = and-split (inVolume n b) (endsAfter v n (v b) k) e .0

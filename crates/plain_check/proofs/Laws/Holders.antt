@@ -1,7 +1,7 @@
 -- Stage 6 over any list of chains: no block stands twice among right chains, and every entry that is not 0 is of a chain, exactly if each block is held
 -- by one chain, or by none where its entry is 0.
 use Prim.Native.Nat.{ℕ, _+_, _-_, _*_, _≤_, _<_}
-use mathlib.Core.Bool.{Bool, true, false, not, _&&_, _||_, cond}
+use mathlib.Core.Bool.{Bool, true, false, not, _&&_, _||_}
 use mathlib.Core.List.{List, [], _∷_}
 use mathlib.Core.Logic.{inl, inr, ⊎-elim, _≢_}
 use mathlib.Core.Path.{_≡_, refl, ap, _∙_}
@@ -29,12 +29,12 @@ Pair = ℕ × ℕ
 abbrev pub tally : (ℕ → ℕ) → ℕ → List Pair → ℕ
 tally v b cs = total (λ c. one (holds v b (c .0) (c .1))) cs
 
--- how many blocks they claim, and what is counted of it: n + 1 for a chain that is wrong
+-- how many blocks they claim, and what is counted of it: n + 1 more for a chain that is wrong
 abbrev claimed : List Pair → ℕ
 claimed cs = total (λ c. c .1) cs
 
 abbrev pub claim : (ℕ → ℕ) → ℕ → Pair → ℕ
-claim v n c = cond (leb (c .1) n && chainOk v n (c .0) (c .1)) (c .1) (n + 1)
+claim v n c = c .1 + (n + 1) * one (not (chainOk v n (c .0) (c .1)))
 
 abbrev rightAll : (ℕ → ℕ) → ℕ → List Pair → Bool
 rightAll v n cs = every (λ c. chainOk v n (c .0) (c .1)) cs
@@ -48,12 +48,11 @@ plainTable v n cs =
 
 -- a chain that claims at most n is right
 claim-right : (v : ℕ → ℕ) (n : ℕ) (c : Pair) → claim v n c ≤ n → (claim v n c ≡ c .1) × (chainOk v n (c .0) (c .1) ≡ true)
-claim-right v n c h = go (leb (c .1) n) (chainOk v n (c .0) (c .1)) h
+claim-right v n c h = go (chainOk v n (c .0) (c .1)) h
   where
-    go : (a b : Bool) → cond (a && b) (c .1) (n + 1) ≤ n → (cond (a && b) (c .1) (n + 1) ≡ c .1) × (b ≡ true)
-    go true true h = (refl, refl)
-    go true false h = absurd (omega arith)
-    go false b h = absurd (omega arith)
+    go : (t : Bool) → c .1 + (n + 1) * one (not t) ≤ n → (c .1 + (n + 1) * one (not t) ≡ c .1) × (t ≡ true)
+    go true h = (omega arith, refl)
+    go false h = absurd (omega arith)
 
 claims-right : (v : ℕ → ℕ) (n : ℕ) (cs : List Pair) → total (claim v n) cs ≤ n → rightAll v n cs ≡ true
 claims-right v n [] h = refl
@@ -63,7 +62,7 @@ right-claims : (v : ℕ → ℕ) (n : ℕ) (cs : List Pair) → rightAll v n cs 
 right-claims v n [] e h = refl
 right-claims v n (c ∷ cs) e h =
     let a = and-split (chainOk v n (c .0) (c .1)) (rightAll v n cs) e in
-    let z : claim v n c ≡ c .1 = rw (a .0, le-leb (c .1) n (omega arith)) in
+    let z : claim v n c ≡ c .1 = rw (a .0) (omega arith) in
     omega (arith, right-claims v n cs (a .1) (omega arith))
 
 -- a chain's blocks

@@ -1,140 +1,107 @@
 -- Stage 5: the tests of one entry, and the names of the slots before it.
-use Prim.Native.Nat.{ℕ, suc, _+_, _-_, _/_, _≤_, _<_}
-use mathlib.Core.Bool.{Bool, true, false, not, _||_, or-false}
+use Prim.Native.Nat.{ℕ, zero, suc, _+_, _-_, _/_, _≤_, _<_}
+use mathlib.Core.Bool.{Bool, true, false, not, _&&_, _||_, Bool·beq}
 use mathlib.Core.List.{List}
-use mathlib.Core.Path.{_≡_, sym, ap, _∙_}
+use mathlib.Core.Logic.{⊎-elim}
+use mathlib.Core.Path.{_≡_, refl, ap, _∙_}
 use native.Mathlib.Omega.{arith}
 use lib.Dec.{eqb, leb}
-use lib.ListN.{getD}
-use borrow.Author.Tests.{eq-eqb, le-leb, lt-leb, ne-eqb}
-use Rattle.layout.specs.Lists.{interval, every, same}
-use Rattle.layout.specs.Limits.{maxAttributes}
+use lib.ListN.{length}
+use Rattle.layout.specs.Lists.{iff, interval, every, same}
 use Rattle.layout.specs.Bytes.{be32}
-use Rattle.layout.specs.Table.{chain}
 use Rattle.layout.specs.Directory.{slotAt, typeOf, isFree, isFile, isDirectory, nameOf, nameOk}
 use Rattle.layout.specs.Check.{noAttributes, attributesOk, fileOk, directoryEntryOk, slotOk, newName}
-use Rattle.layout.proofs.Laws.Chains.{nth, nth-suc, getD-chain}
-use Rattle.layout.proofs.Laws.Lists.{interval-next}
-use Rattle.layout.proofs.Laws.Tests.{within-split, is-false}
+use Rattle.layout.proofs.Laws.Tests.{and-split, or-split}
+use Rattle.plain_check.specs.Walks.{sameField, clash, newField}
+use Rattle.plain_check.proofs.Walks.Names.{field-name}
+use Rattle.plain_check.proofs.Walks.Slots.{slots-none, slots-next}
+use Rattle.plain_check.proofs.Walks.Tests.{and-false}
 
--- a file's attribute fields
-module _ (s : List ℕ) (e size first : ℕ) (es : size ≡ be32 s (e + 36)) (ef : first ≡ be32 s (e + 32)) where
-  pub attributes-none : first ≡ 0 → eqb size 0 ≡ attributesOk s e
-  unfolding attributesOk noAttributes
-  attributes-none h = rw (← es, ← ef, eq-eqb first 0 h) (sym (or-false (eqb size 0)))
+beq-iff : (a b : Bool) → Bool·beq a b ≡ iff a b
+beq-iff true true = refl
+beq-iff true false = refl
+beq-iff false true = refl
+beq-iff false false = refl
 
-  module _ (h : first ≡ 0 → ⊥) where
-    pub attributes-empty : size < 1 → false ≡ attributesOk s e
-    unfolding attributesOk noAttributes
-    attributes-empty g = rw (← es, ← ef, ne-eqb first 0 h, lt-leb 1 size g)
+-- the tests of one entry, joined
+pub file-all : (s : List ℕ) (e size a k blocks first : ℕ) (name : Bool) → size ≡ be32 s (e + 8) → a ≡ be32 s (e + 32) → k ≡ be32 s (e + 36) → blocks ≡ be32 s (e + 12)
+    → first ≡ be32 s (e + 4) → name ≡ nameOk s e
+    → (name && ((((eqb a 0 && eqb k 0) || (not (eqb a 0) && (leb 1 k && leb k 8))) && (eqb blocks ((size + 511) / 512) && Bool·beq (eqb first 0) (eqb size 0))))) ≡ fileOk s e
+unfolding fileOk attributesOk noAttributes
+file-all s e size a k blocks first name es ea ek eb ef en = rw (beq-iff (eqb first 0) (eqb size 0), ← es, ← ea, ← ek, ← eb, ← ef, en)
 
-    pub attributes-size : 1 ≤ size → leb size maxAttributes ≡ attributesOk s e
-    unfolding attributesOk noAttributes
-    attributes-size g = rw (← es, ← ef, ne-eqb first 0 h, le-leb 1 size g)
+pub entry-all : (s : List ℕ) (e x y size : ℕ) (name : Bool) → x ≡ be32 s (e + 32) → y ≡ be32 s (e + 36) → size ≡ be32 s (e + 8) → name ≡ nameOk s e
+    → (name && ((eqb x 0 && eqb y 0) && eqb size 0)) ≡ directoryEntryOk s e
+unfolding directoryEntryOk noAttributes
+entry-all s e x y size name ex ey es en = rw (← ex, ← ey, ← es, en)
 
--- a file
-module _ (s : List ℕ) (e : ℕ) where
-  pub file-unnamed : false ≡ nameOk s e → false ≡ fileOk s e
-  unfolding fileOk
-  file-unnamed h = rw (← h)
+pub slot-all : (s : List ℕ) (e kind : ℕ) (f file d entry : Bool) → kind ≡ typeOf s e → f ≡ isFile kind → file ≡ fileOk s e → d ≡ isDirectory kind → entry ≡ directoryEntryOk s e
+    → (eqb kind 0 || ((f && file) || (d && entry))) ≡ slotOk s e
+unfolding slotOk
+slot-all s e kind f file d entry ek ef eo ed ee = rw (← ek, ef, eo, ed, ee)
 
-  module _ (h₁ : true ≡ nameOk s e) where
-    pub file-attributes : false ≡ attributesOk s e → false ≡ fileOk s e
-    unfolding fileOk
-    file-attributes h = rw (← h₁, ← h)
+-- a right slot that is used has a good name
+slot-named : (s : List ℕ) (e : ℕ) → slotOk s e ≡ true → isFree (typeOf s e) ≡ false → nameOk s e ≡ true
+unfolding slotOk fileOk directoryEntryOk
+slot-named s e ok used =
+    ⊎-elim
+    (λ f. and-split (nameOk s e) _ (and-split (isFile (typeOf s e)) _ f .1) .0)
+    (λ d. and-split (nameOk s e) _ (and-split (isDirectory (typeOf s e)) _ d .1) .0)
+    (or-split (isFile (typeOf s e) && fileOk s e) _ (rw used at ok))
 
-    module _ (h₂ : true ≡ attributesOk s e) (size blocks : ℕ) (es : size ≡ be32 s (e + 8)) (eb : blocks ≡ be32 s (e + 12)) where
-      pub file-blocks : (blocks ≡ (size + 511) / 512 → ⊥) → false ≡ fileOk s e
-      unfolding fileOk
-      file-blocks h = rw (← h₁, ← h₂, ← es, ← eb, ne-eqb blocks ((size + 511) / 512) h)
+every-same : (p q : ℕ → Bool) (k a : ℕ) → ((j : ℕ) → a ≤ j → j < a + k → p j ≡ q j) → every p (interval a k) ≡ every q (interval a k)
+every-same p q zero a f = refl
+every-same p q (suc k) a f = rw (f a (omega arith) (omega arith), every-same p q k (suc a) (λ j l h. f j (omega arith) (omega arith)))
 
-      module _ (h₃ : blocks ≡ (size + 511) / 512) (first : ℕ) (ef : first ≡ be32 s (e + 4)) where
-        pub file-empty : first ≡ 0 → eqb size 0 ≡ fileOk s e
-        unfolding fileOk
-        file-empty h = rw (← h₁, ← h₂, ← es, ← eb, eq-eqb blocks ((size + 511) / 512) h₃, ← ef, eq-eqb first 0 h)
+every-true : (k a : ℕ) → every (λ j. true) (interval a k) ≡ true
+every-true zero a = refl
+every-true (suc k) a = every-true k (suc a)
 
-        pub file-filled : (first ≡ 0 → ⊥) → not (eqb size 0) ≡ fileOk s e
-        unfolding fileOk
-        file-filled h = rw (← h₁, ← h₂, ← es, ← eb, eq-eqb blocks ((size + 511) / 512) h₃, ← ef, ne-eqb first 0 h)
+-- where all slots up to slot k are right, the fields tell of their names
+module _ (s ds : List ℕ) (k e : ℕ) (at : e ≡ slotAt ds k) (inside : (j : ℕ) → j ≤ k → slotAt ds j + 128 ≤ length s)
+    (right : (j : ℕ) → 1 ≤ j → j < k → slotOk s (slotAt ds j) ≡ true) where
+  term : slotOk s e ≡ true → isFree (typeOf s e) ≡ false → (j : ℕ) → 1 ≤ j → j < k
+      → not (clash s e (slotAt ds j)) ≡ (isFree (typeOf s (slotAt ds j)) || not (same (nameOf s (slotAt ds j)) (nameOf s e)))
+  term ok used j l h = go (isFree (typeOf s (slotAt ds j))) refl
+    where
+      go : (t : Bool) → isFree (typeOf s (slotAt ds j)) ≡ t → not ((not t && not (isFree (typeOf s e))) && sameField s (slotAt ds j) e) ≡ (t || not (same (nameOf s (slotAt ds j)) (nameOf s e)))
+      go true q = refl
+      go false q = rw used (ap not (field-name s (slotAt ds j) e (inside j (omega (arith, h))) (rw at (inside k (omega arith))) (slot-named s (slotAt ds j) (right j l h) q) (slot-named s e ok used)))
 
-  -- the entry of a child directory
-  pub entry-unnamed : false ≡ nameOk s e → false ≡ directoryEntryOk s e
-  unfolding directoryEntryOk
-  entry-unnamed h = rw (← h)
+  fields : slotOk s e ≡ true → newField s ds e k ≡ newName s ds k
+  unfolding newField newName
+  fields ok = rw (← at) (go (isFree (typeOf s e)) refl)
+    where
+      go : (t : Bool) → isFree (typeOf s e) ≡ t
+          → every (λ j. not (clash s e (slotAt ds j))) (interval 1 (k - 1))
+          ≡ (t || every (λ j. isFree (typeOf s (slotAt ds j)) || not (same (nameOf s (slotAt ds j)) (nameOf s e))) (interval 1 (k - 1)))
+      go true q =
+          every-same _ (λ j. true) (k - 1) 1 (λ j l h. rw (q, and-false (not (isFree (typeOf s (slotAt ds j))))))
+          ∙ every-true (k - 1) 1
+      go false q = every-same _ _ (k - 1) 1 (λ j l h. term ok q j l (omega arith))
 
-  module _ (hn : true ≡ nameOk s e) (x : ℕ) (ex : x ≡ be32 s (e + 32)) where
-    pub entry-attribute : (x ≡ 0 → ⊥) → false ≡ directoryEntryOk s e
-    unfolding directoryEntryOk noAttributes
-    entry-attribute h = rw (← hn, ← ex, ne-eqb x 0 h)
+  pub fields-names : (slotOk s e && newField s ds e k) ≡ (slotOk s e && newName s ds k)
+  fields-names = go (slotOk s e) refl
+    where
+      go : (t : Bool) → slotOk s e ≡ t → (t && newField s ds e k) ≡ (t && newName s ds k)
+      go true q = fields q
+      go false q = refl
 
-    module _ (hx : x ≡ 0) (y : ℕ) (ey : y ≡ be32 s (e + 36)) where
-      pub entry-attribute-size : (y ≡ 0 → ⊥) → false ≡ directoryEntryOk s e
-      unfolding directoryEntryOk noAttributes
-      entry-attribute-size h = rw (← hn, ← ex, eq-eqb x 0 hx, ← ey, ne-eqb y 0 h)
+-- the slots before slot k, one by one
+module _ (s ds : List ℕ) (e k j : ℕ) where
+  abbrev pub others : Bool
+  others = every (λ j. not (clash s e (slotAt ds j))) (interval (j - 1) (k - j))
 
-      pub entry-size : y ≡ 0 → (size : ℕ) → size ≡ be32 s (e + 8) → eqb size 0 ≡ directoryEntryOk s e
-      unfolding directoryEntryOk noAttributes
-      entry-size hy size es = rw (← hn, ← ex, eq-eqb x 0 hx, ← ey, eq-eqb y 0 hy, ← es)
+  pub other-end : k ≤ j → true ≡ others
+  other-end h = rw (slots-none j k h)
 
-  -- a slot
-  module _ (kind : ℕ) (ek : kind ≡ typeOf s e) where
-    pub slot-free : kind ≡ 0 → true ≡ slotOk s e
-    unfolding slotOk
-    slot-free h = rw (← ek, eq-eqb kind 0 h)
+  module _ (l : 2 ≤ j) (h : j < k) (o x y : ℕ) (f : Bool) (at : o ≡ slotAt ds (j - 1)) (ex : x ≡ typeOf s o) (ey : y ≡ typeOf s e) (ef : f ≡ sameField s o e) where
+    pub other-clash : ((not (eqb x 0) && not (eqb y 0)) && f) ≡ true → others ≡ false
+    other-clash t = rw (slots-next j k l h, ← at, ← ex, ← ey, ← ef, t)
 
-    module _ (hf : kind ≡ 0 → ⊥) where
-      pub slot-file : true ≡ isFile kind → fileOk s e ≡ slotOk s e
-      unfolding slotOk
-      slot-file h =
-          let w = within-split 0x60 0x9F kind (sym h) in
-          let d : isDirectory kind ≡ false = is-false _ (λ z. let v = within-split 0x20 0x5F kind z in omega arith) in
-          rw (← ek, ne-eqb kind 0 hf, ← h, d) (sym (or-false (fileOk s e)))
+    pub other-next : ((not (eqb x 0) && not (eqb y 0)) && f) ≡ false → others ≡ every (λ j. not (clash s e (slotAt ds j))) (interval (j + 1 - 1) (k - (j + 1)))
+    other-next t = rw (slots-next j k l h, ← at, ← ex, ← ey, ← ef, t)
 
-      module _ (hi : false ≡ isFile kind) where
-        pub slot-directory : true ≡ isDirectory kind → directoryEntryOk s e ≡ slotOk s e
-        unfolding slotOk
-        slot-directory h = rw (← ek, ne-eqb kind 0 hf, ← hi, ← h)
-
-        pub slot-other : false ≡ isDirectory kind → false ≡ slotOk s e
-        unfolding slotOk
-        slot-other h = rw (← ek, ne-eqb kind 0 hf, ← hi, ← h)
-
--- the slots before slot k: none has the name of the entry at e
-abbrev pub before : List ℕ → List ℕ → ℕ → ℕ → ℕ → Bool
-before s ds e j left = every (λ j. isFree (typeOf s (slotAt ds j)) || not (same (nameOf s (slotAt ds j)) (nameOf s e))) (interval j left)
-
-module _ (s ds : List ℕ) (k e kind : ℕ) (at : e ≡ slotAt ds k) (ek : kind ≡ typeOf s e) where
-  pub new-free : kind ≡ 0 → true ≡ newName s ds k
-  unfolding newName
-  new-free h = rw (← at, ← ek, eq-eqb kind 0 h)
-
-  pub new-before : (kind ≡ 0 → ⊥) → newName s ds k ≡ before s ds e 1 (k - 1)
-  unfolding newName
-  new-before h = rw (← at, ← ek, ne-eqb kind 0 h)
-
-module _ (s ds : List ℕ) (e j left : ℕ) where
-  pub before-end : left ≡ 0 → true ≡ before s ds e j left
-  before-end z = rw z
-
-  module _ (h : 0 < left) (o kind : ℕ) (at : o ≡ slotAt ds j) (ek : kind ≡ typeOf s o) where
-    pub before-free : kind ≡ 0 → before s ds e j left ≡ before s ds e (j + 1) (left - 1)
-    before-free z = rw (interval-next j left h, ← at, ← ek, eq-eqb kind 0 z)
-
-    module _ (hf : kind ≡ 0 → ⊥) where
-      pub before-same : true ≡ same (nameOf s o) (nameOf s e) → before s ds e j left ≡ false
-      before-same z = rw (interval-next j left h, ← at, ← ek, ne-eqb kind 0 hf, ← z)
-
-      pub before-other : false ≡ same (nameOf s o) (nameOf s e) → before s ds e j left ≡ before s ds e (j + 1) (left - 1)
-      before-other z = rw (interval-next j left h, ← at, ← ek, ne-eqb kind 0 hf, ← z)
-
--- the last block of a chain, step by step
-module _ (v : ℕ → ℕ) (first d at left : ℕ) where
-  pub last-end : 1 ≤ d → at ≡ nth v (d - 1 - left) first → left ≡ 0 → at ≡ getD (chain v first d) (d - 1) 0
-  last-end h e z =
-      let q : d - 1 - left ≡ d - 1 = omega arith in
-      e ∙ ap (λ (x : ℕ). nth v x first) q ∙ sym (getD-chain v first d (d - 1) (omega arith))
-
-  pub last-next : left ≤ d - 1 → at ≡ nth v (d - 1 - left) first → 0 < left → (at₂ : ℕ) → at₂ ≡ v at → at₂ ≡ nth v (d - 1 - (left - 1)) first
-  last-next l e h at₂ q =
-      let z : d - 1 - (left - 1) ≡ suc (d - 1 - left) = omega arith in
-      q ∙ ap v e ∙ sym (nth-suc v (d - 1 - left) first) ∙ ap (λ (x : ℕ). nth v x first) (sym z)
+pub other-start : (s ds : List ℕ) (e k : ℕ) → newField s ds e (k - 1) ≡ every (λ j. not (clash s e (slotAt ds j))) (interval (2 - 1) (k - 2))
+unfolding newField
+other-start s ds e k = let z : k - 1 - 1 ≡ k - 2 = omega arith in rw z

@@ -1,14 +1,14 @@
--- The other stages, test by test.
+-- The other stages, their tests joined.
 use Prim.Native.Nat.{ℕ, _+_, _-_, _*_, _/_, _≤_, _<_}
-use mathlib.Core.Bool.{Bool, true, false}
+use mathlib.Core.Bool.{Bool, true, false, not, _&&_}
 use mathlib.Core.List.{List}
 use mathlib.Core.Logic.{inl, inr}
-use mathlib.Core.Path.{_≡_, sym, _∙_}
+use mathlib.Core.Path.{_≡_, refl, sym, ap, _∙_}
 use native.Mathlib.Omega.{arith}
 use lib.Dec.{eqb, leb}
 use lib.ListN.{length}
-use borrow.Author.Tests.{eq-eqb, eqb-true, ne-eqb, le-leb, leb-true, lt-leb}
-use Rattle.layout.specs.Lists.{interval, every, within}
+use borrow.Author.Tests.{eq-eqb, eqb-true, ne-eqb, leb-true, lt-leb}
+use Rattle.layout.specs.Lists.{interval, every, within, select, keep}
 use Rattle.layout.specs.Limits.{minBlocks, maxBlocks, maxLevels}
 use Rattle.layout.specs.Bytes.{be32}
 use Rattle.layout.specs.Geometry.{blockCount, tableBlocks, rootBlock}
@@ -18,26 +18,15 @@ use Rattle.layout.specs.Check.{stage1, stage2, stage3, stage7}
 use Rattle.layout.proofs.Laws.Lists.{interval-next}
 use Rattle.layout.proofs.Laws.Tests.{and-split, firstOf-refused}
 use Rattle.plain_check.specs.declared.check.Question.the-variants as question
-use Rattle.plain_check.specs.Plain.{plainDirectoryOk, toured, tourEntries, tourChild, tourRoot, stopOf, askTree, answer, claims, holders, counted, plainStage6, plainCheck}
-use Rattle.plain_check.specs.Walks.{usedFrom, Volume, Upto}
+use Rattle.plain_check.specs.Plain.{one, plainDirectoryOk, toured, tourEntries, tourChild, tourRoot, stopOf, askTree, answer, claims, holders, counted, plainStage6, plainCheck}
+use Rattle.plain_check.specs.Walks.{Volume, Upto}
+use Rattle.plain_check.proofs.Walks.Tests.{and-false, one-few}
 
 pub volume-count : (s : List ℕ) (n : ℕ) → Volume s n → blockCount s ≡ n
 volume-count s n v = omega arith
 
 -- 1
 module _ (s : List ℕ) where
-  pub sized-length : (length s ≡ 512 * (length s / 512) → ⊥) → false ≡ stage1 s
-  unfolding stage1
-  sized-length h = rw (ne-eqb (length s) (512 * (length s / 512)) h)
-
-  pub sized-low : length s ≡ 512 * (length s / 512) → length s / 512 < minBlocks → false ≡ stage1 s
-  unfolding stage1
-  sized-low e h = rw (eq-eqb (length s) (512 * (length s / 512)) e, lt-leb minBlocks (length s / 512) h)
-
-  pub sized-high : length s ≡ 512 * (length s / 512) → minBlocks ≤ length s / 512 → leb (length s / 512) maxBlocks ≡ stage1 s
-  unfolding stage1
-  sized-high e h = rw (eq-eqb (length s) (512 * (length s / 512)) e, le-leb minBlocks (length s / 512) h)
-
   pub sized-volume : true ≡ stage1 s → Volume s (length s / 512)
   unfolding stage1
   sized-volume e =
@@ -46,19 +35,10 @@ module _ (s : List ℕ) where
       record { whole = eqb-true _ _ (a .0); low = leb-true _ _ (b .0); high = leb-true _ _ (b .1) }
 
 -- 3
-module _ (s : List ℕ) (n : ℕ) (v : Volume s n) (x : ℕ) (ex : x ≡ be32 s 12) where
-  pub numbered-total : (x ≡ n → ⊥) → false ≡ stage3 s
-  unfolding stage3
-  numbered-total h = rw (volume-count s n v, ← ex, ne-eqb x n h)
-
-  module _ (hx : x ≡ n) (y : ℕ) (ey : y ≡ be32 s 16) where
-    pub numbered-table : (y ≡ tableBlocks n → ⊥) → false ≡ stage3 s
-    unfolding stage3
-    numbered-table h = rw (volume-count s n v, ← ex, eq-eqb x n hx, ← ey, ne-eqb y (tableBlocks n) h)
-
-    pub numbered-root : y ≡ tableBlocks n → (w : ℕ) → w ≡ be32 s 28 → eqb w (tableBlocks n + 1) ≡ stage3 s
-    unfolding stage3
-    numbered-root h w ew = rw (volume-count s n v, ← ex, eq-eqb x n hx, ← ey, eq-eqb y (tableBlocks n) h, ← ew)
+pub numbered-all : (s : List ℕ) (n : ℕ) → Volume s n → (t : ℕ) → t ≡ tableBlocks n → (x y w : ℕ) → x ≡ be32 s 12 → y ≡ be32 s 16 → w ≡ be32 s 28
+    → (eqb x n && (eqb y t && eqb w (t + 1))) ≡ stage3 s
+unfolding stage3
+numbered-all s n v t et x y w ex ey ew = rw (volume-count s n v, et, ← ex, ← ey, ← ew)
 
 -- 4 and 5, of the whole tree
 module _ (s : List ℕ) (n root : ℕ) (v : Volume s n) (er : root ≡ rootBlock n) where
@@ -71,90 +51,83 @@ module _ (s : List ℕ) (n root : ℕ) (v : Volume s n) (er : root ≡ rootBlock
   unfolding tourRoot
   root-toured h fault met e = rw (volume-count s n v, ← er, ← h, ← e)
 
--- a test of each number of an interval
-module _ (p : ℕ → Bool) (b k : ℕ) where
-  pub each-end : k ≡ 0 → true ≡ every p (interval b k)
-  each-end e = rw e
+-- 6: the entries of one value
+module _ (s : List ℕ) (b x value : ℕ) (ex : x ≡ next s b) where
+  pub value-not : (x ≡ value → ⊥) → false ≡ eqb (next s b) value
+  value-not h = rw (← ex, ne-eqb x value h)
 
-  pub each-stop : 0 < k → false ≡ p b → every p (interval b k) ≡ false
-  each-stop h t = rw (interval-next b k h, ← t)
+  pub value-is : x ≡ value → true ≡ eqb (next s b) value
+  value-is h = rw (← ex, eq-eqb x value h)
 
-  pub each-next : 0 < k → true ≡ p b → every p (interval b k) ≡ every p (interval (b + 1) (k - 1))
-  each-next h t = rw (interval-next b k h, ← t)
+-- a count that stops above n
+upto-same : (n r x y : ℕ) → 1 ≤ n → y ≤ 1 → Upto n r (0 + x) → eqb r y ≡ eqb x y
+upto-same n r x y l h (inl e) = let z : r ≡ x = omega arith in rw z
+upto-same n r x y l h (inr w) = rw (ne-eqb r y (λ z. omega arith), ne-eqb x y (λ z. omega arith))
 
--- 6: a count that stops above the most that is asked for
-upto-same : (r x y : ℕ) → y ≤ 1 → Upto 1 r (0 + x) → eqb r y ≡ eqb x y
-upto-same r x y h (inl e) = let z : r ≡ x = omega arith in rw z
-upto-same r x y h (inr w) = rw (ne-eqb r y (λ z. omega arith), ne-eqb x y (λ z. omega arith))
+upto-few : (n r x : ℕ) → Upto n r (0 + x) → leb r n ≡ leb x n
+upto-few n r x (inl e) = let z : r ≡ x = omega arith in rw z
+upto-few n r x (inr w) = rw (lt-leb r n (omega arith), lt-leb x n (omega arith))
 
 module _ (s : List ℕ) (n root : ℕ) (v : Volume s n) (er : root ≡ rootBlock n) where
-  module _ (b held value : ℕ) (eh : Upto 1 held (0 + askTree (answer (question.Holds b) s n) maxLevels s root)) (ev : value ≡ next s b) where
-    pub counted-free : value ≡ 0 → eqb held 0 ≡ counted s b
-    unfolding counted holders
-    counted-free z = rw (volume-count s n v, ← er, ← ev, eq-eqb value 0 z) (upto-same held _ 0 (omega arith) eh)
+  counted-is : (b held value : ℕ) → Upto n held (0 + askTree (answer (question.Holds b) s n) maxLevels s root) → value ≡ next s b
+      → eqb held (one (not (eqb value 0))) ≡ counted s b
+  unfolding counted holders
+  counted-is b held value eh ev =
+      rw (volume-count s n v, ← er, ← ev) (upto-same n held _ (one (not (eqb value 0))) (omega (arith, v .low)) (one-few (not (eqb value 0))) eh)
 
-    pub counted-used : (value ≡ 0 → ⊥) → eqb held 1 ≡ counted s b
-    unfolding counted holders
-    counted-used z = rw (volume-count s n v, ← er, ← ev, ne-eqb value 0 z) (upto-same held _ 1 (omega arith) eh)
+  module _ (b held value : ℕ) (eh : Upto n held (0 + askTree (answer (question.Holds b) s n) maxLevels s root)) (ev : value ≡ next s b) where
+    pub counted-not : (held ≡ one (not (eqb value 0)) → ⊥) → false ≡ counted s b
+    counted-not h = sym (ne-eqb held (one (not (eqb value 0))) h) ∙ counted-is b held value eh ev
 
-  pub claims-many : (r : ℕ) → Upto n r (0 + askTree (answer question.Claims s n) maxLevels s root) → n < r → leb (claims s) n ≡ false
+    pub counted-so : held ≡ one (not (eqb value 0)) → true ≡ counted s b
+    counted-so h = sym (eq-eqb held (one (not (eqb value 0))) h) ∙ counted-is b held value eh ev
+
+  claims-are : (r : ℕ) → Upto n r (0 + askTree (answer question.Claims s n) maxLevels s root) → leb r n ≡ leb (claims s) n
   unfolding claims
-  claims-many r u h = rw (volume-count s n v, ← er) (lt-leb (askTree (answer question.Claims s n) maxLevels s root) n (many u))
+  claims-are r u = rw (volume-count s n v, ← er) (upto-few n r _ u)
+
+six-order : (l o p c : Bool) → ((l && (o && p)) && c) ≡ (l && (o && (c && p)))
+six-order true true true true = refl
+six-order true true true false = refl
+six-order true true false c = sym (and-false c)
+six-order true false p c = refl
+six-order false o p c = refl
+
+pub six-all : (s : List ℕ) (n t : ℕ) → Volume s n → t ≡ tableBlocks n → (r : ℕ) → Upto n r (0 + askTree (answer question.Claims s n) maxLevels s (t + 1))
+    → (ones padded all : Bool) → ones ≡ every (λ b. eqb (next s b) 1) (interval 0 (t + 1 - 0)) → padded ≡ every (λ b. eqb (next s b) 0) (interval n (128 * t - n))
+    → all ≡ every (counted s) (interval (rootBlock n) (n - rootBlock n)) → ((leb r n && (ones && padded)) && all) ≡ plainStage6 s
+unfolding plainStage6
+six-all s n t v et r u ones padded all eo ep ea =
+    let z : t + 1 - 0 ≡ t + 1 = omega arith in
+    let o : ones ≡ every (λ b. eqb (next s b) 1) (interval 0 (tableBlocks n + 1)) = rw (← et) (rw z at eo) in
+    let p : padded ≡ every (λ b. eqb (next s b) 0) (interval n (128 * tableBlocks n - n)) = rw (← et) ep in
+    rw (volume-count s n v, claims-are s n (t + 1) v (ap (λ (x : ℕ). x + 1) et) r u, ← o, ← p, ← ea) (six-order (leb (claims s) n) ones padded all)
+
+-- 7: the entries from b on that are not 0
+abbrev pub usedFrom : List ℕ → ℕ → ℕ → ℕ
+usedFrom s b n = length (select (λ x. not (eqb (next s x) 0)) (interval b (n - b)))
+
+pub used-start : (s : List ℕ) (n : ℕ) → occupied (next s) n ≡ 0 + usedFrom s 0 n
+unfolding occupied
+used-start s n = let z : n - 0 ≡ n = omega arith in rw z (omega arith)
+
+module _ (s : List ℕ) (b n : ℕ) where
+  pub used-end : n ≤ b → usedFrom s b n ≡ 0
+  used-end h = let z : n - b ≡ 0 = omega arith in rw z
+
+  pub used-next : b < n → (value : ℕ) → value ≡ next s b → usedFrom s b n ≡ one (not (eqb value 0)) + usedFrom s (b + 1) n
+  used-next h value ev =
+      let z : n - b - 1 ≡ n - (b + 1) = omega arith in
+      rw (interval-next b (n - b) (omega arith), z, ← ev) (kept (not (eqb value 0)))
     where
-      many : Upto n r (0 + askTree (answer question.Claims s n) maxLevels s root) → n < askTree (answer question.Claims s n) maxLevels s root
-      many (inl e) = omega arith
-      many (inr w) = omega arith
+      kept : (t : Bool) → length (keep t b (select (λ x. not (eqb (next s x) 0)) (interval (b + 1) (n - (b + 1))))) ≡ one t + usedFrom s (b + 1) n
+      kept true = omega arith
+      kept false = omega arith
 
-  pub claims-few : (r : ℕ) → Upto n r (0 + askTree (answer question.Claims s n) maxLevels s root) → r ≤ n → leb (claims s) n ≡ true
-  unfolding claims
-  claims-few r u h = rw (volume-count s n v, ← er) (le-leb (askTree (answer question.Claims s n) maxLevels s root) n (few u))
-    where
-      few : Upto n r (0 + askTree (answer question.Claims s n) maxLevels s root) → askTree (answer question.Claims s n) maxLevels s root ≤ n
-      few (inl e) = omega arith
-      few (inr w) = absurd (omega arith)
-
-module _ (s : List ℕ) (n t : ℕ) (v : Volume s n) (et : t ≡ tableBlocks n) where
-  pub six-claims : leb (claims s) n ≡ false → false ≡ plainStage6 s
-  unfolding plainStage6
-  six-claims h = rw (volume-count s n v, h)
-
-  module _ (h₁ : leb (claims s) n ≡ true) where
-    pub six-ones : false ≡ every (λ b. eqb (next s b) 1) (interval 0 (t + 1)) → false ≡ plainStage6 s
-    unfolding plainStage6
-    six-ones h = rw (volume-count s n v, h₁, ← et, ← h)
-
-    module _ (h₂ : true ≡ every (λ b. eqb (next s b) 1) (interval 0 (t + 1))) where
-      pub six-counted : false ≡ every (counted s) (interval (t + 1) (n - (t + 1))) → false ≡ plainStage6 s
-      unfolding plainStage6
-      six-counted h = rw (volume-count s n v, h₁, ← et, ← h₂, ← h)
-
-      pub six-padded : true ≡ every (counted s) (interval (t + 1) (n - (t + 1))) → every (λ b. eqb (next s b) 0) (interval n (128 * t - n)) ≡ plainStage6 s
-      unfolding plainStage6
-      six-padded h = rw (volume-count s n v, h₁, ← et, ← h₂, ← h)
-
--- 7
-module _ (s : List ℕ) (b k : ℕ) where
-  pub used-end : k ≡ 0 → usedFrom s b k ≡ 0
-  unfolding usedFrom
-  used-end e = rw e
-
-  module _ (h : 0 < k) (value : ℕ) (ev : value ≡ next s b) where
-    pub used-free : value ≡ 0 → usedFrom s b k ≡ usedFrom s (b + 1) (k - 1)
-    unfolding usedFrom
-    used-free z = rw (interval-next b k h, ← ev, eq-eqb value 0 z)
-
-    pub used-one : (value ≡ 0 → ⊥) → usedFrom s b k ≡ 1 + usedFrom s (b + 1) (k - 1)
-    unfolding usedFrom
-    used-one z = rw (interval-next b k h, ← ev, ne-eqb value 0 z) (omega arith)
-
-module _ (s : List ℕ) (n used x : ℕ) (v : Volume s n) (eu : used ≡ usedFrom s 0 n) (ex : x ≡ be32 s 20) where
-  pub seven-used : (x ≡ used → ⊥) → false ≡ stage7 s
-  unfolding stage7 occupied usedFrom
-  seven-used h = rw (volume-count s n v, ← eu, ← ex, ne-eqb x used h)
-
-  pub seven-free : x ≡ used → (y : ℕ) → y ≡ be32 s 24 → eqb y (n - used) ≡ stage7 s
-  unfolding stage7 occupied usedFrom
-  seven-free h y ey = rw (volume-count s n v, ← eu, ← ex, eq-eqb x used h, ← ey)
+pub seven-all : (s : List ℕ) (n used x y : ℕ) → Volume s n → occupied (next s) n ≡ used → x ≡ be32 s 20 → y ≡ be32 s 24
+    → (eqb x used && eqb y (n - used)) ≡ stage7 s
+unfolding stage7
+seven-all s n used x y v eu ex ey = rw (volume-count s n v, eu, ← ex, ← ey)
 
 -- the number
 module _ (s : List ℕ) where

@@ -1,17 +1,21 @@
 -- The second question, slot by slot.
 use Prim.Native.Nat.{ℕ, zero, suc, _+_, _-_, _*_, _≤_, _<_}
-use mathlib.Core.Bool.{Bool, true, false, cond}
+use mathlib.Core.Bool.{Bool, true, false, not, _||_, cond}
 use mathlib.Core.List.{List}
 use mathlib.Core.Logic.{_⊎_, inl, inr}
-use mathlib.Core.Path.{_≡_, refl}
+use mathlib.Core.Path.{_≡_, refl, ap, _∙_}
 use native.Mathlib.Omega.{arith}
+use lib.Dec.{eqb}
+use borrow.Author.Tests.{ne-eqb, eqb-false, not-false}
 use Rattle.layout.specs.Lists.{interval}
 use Rattle.layout.specs.Directory.{slotAt, typeOf, firstBlock, blocksOf, isDirectory, directory}
-use Rattle.layout.proofs.Laws.Lists.{interval-next}
+use Rattle.layout.proofs.Laws.Tests.{true-not-false}
 use Rattle.layout.proofs.Laws.Trees.{length-directory}
 use Rattle.plain_check.specs.declared.check.Question.{Question}
 use Rattle.plain_check.specs.Plain.{total, askSlot, askDirectory, askTree, answer}
 use Rattle.plain_check.specs.Walks.{fileAnswer, Upto}
+use Rattle.plain_check.proofs.Walks.Slots.{slots-none, slots-next, slots-first}
+use Rattle.plain_check.proofs.Walks.Tests.{or-split-false}
 
 -- what was asked for, T, is the sum so far and what is left, or both are above the most
 abbrev pub Sofar : ℕ → ℕ → ℕ → ℕ → Type 0
@@ -42,7 +46,7 @@ deeper ask (suc levels) s e = askTree ask levels s (firstBlock s e)
 
 module _ (question : Question) (s : List ℕ) (n d levels : ℕ) where
   abbrev pub rest : ℕ → ℕ → ℕ
-  rest k j = total (λ k. askSlot (answer question s n) (deeper (answer question s n) levels s) s (slotAt (directory s d) k)) (interval k j)
+  rest k end = total (λ k. askSlot (answer question s n) (deeper (answer question s n) levels s) s (slotAt (directory s d) k)) (interval (k - 1) (end - k))
 
   tree-is : (levels : ℕ) → askTree (answer question s n) levels s d
       ≡ answer question s n d (blocksOf s (512 * d)) + total (λ k. askSlot (answer question s n) (deeper (answer question s n) levels s) s (slotAt (directory s d) k)) (interval 1 (4 * blocksOf s (512 * d) - 2))
@@ -50,40 +54,41 @@ module _ (question : Question) (s : List ℕ) (n d levels : ℕ) where
   tree-is zero = rw (length-directory s d)
   tree-is (suc levels) = rw (length-directory s d)
 
-  pub tally-start : (size x left before : ℕ) → size ≡ blocksOf s (512 * d) → x ≡ answer question s n d size → left ≡ 4 * size - 2
-      → before + askTree (answer question s n) levels s d ≡ before + x + rest 1 left
-  tally-start size x left before es ex el = rw (el, ex, es) (omega (arith, tree-is levels))
+  pub tally-start : (size x end before : ℕ) → size ≡ blocksOf s (512 * d) → x ≡ answer question s n d size → end ≡ 4 * size
+      → before + askTree (answer question s n) levels s d ≡ before + x + rest 2 end
+  tally-start size x end before es ex ee = rw (← slots-first size end ee, ex, es) (omega (arith, tree-is levels))
 
-  pub rest-end : (k j : ℕ) → j ≡ 0 → rest k j ≡ 0
-  rest-end k j e = rw e
+  pub rest-end : (k end : ℕ) → end ≤ k → rest k end ≡ 0
+  rest-end k end h = ap (λ (ks : List ℕ). total (λ k. askSlot (answer question s n) (deeper (answer question s n) levels s) s (slotAt (directory s d) k)) ks) (slots-none k end h)
 
-  module _ (k j : ℕ) (h : 0 < j) (e a : ℕ) (at : e ≡ slotAt (directory s d) k) (ea : a ≡ fileAnswer question s n e) where
-    turn : rest k j ≡ a + cond (isDirectory (typeOf s e)) (deeper (answer question s n) levels s e) 0 + rest (k + 1) (j - 1)
+  module _ (k end : ℕ) (l : 2 ≤ k) (h : k < end) (e a kind : ℕ) (at : e ≡ slotAt (directory s d) (k - 1)) (ea : a ≡ fileAnswer question s n e) (ek : kind ≡ typeOf s e) where
+    turn : rest k end ≡ a + cond (isDirectory kind) (deeper (answer question s n) levels s e) 0 + rest (k + 1) end
     unfolding askSlot fileAnswer
-    turn = rw (interval-next k j h, ea, ← at)
+    turn = ap (λ (ks : List ℕ). total (λ k. askSlot (answer question s n) (deeper (answer question s n) levels s) s (slotAt (directory s d) k)) ks) (slots-next k end l h) ∙ rw (ea, ← at, ← ek)
 
-    pub rest-deep : levels ≡ 0 → rest k j ≡ a + rest (k + 1) (j - 1)
-    rest-deep z =
-        let q : cond (isDirectory (typeOf s e)) (deeper (answer question s n) levels s e) 0 ≡ 0 = rw z (both (isDirectory (typeOf s e))) in
+    pub rest-skip : (t : Bool) → t ≡ isDirectory kind → (eqb levels 0 || not t) ≡ true → rest k end ≡ a + rest (k + 1) end
+    rest-skip t et q =
+        let z : cond (isDirectory kind) (deeper (answer question s n) levels s e) 0 ≡ 0 = rw (← et) (go t levels q) in
         omega (arith, turn)
       where
-        both : (t : Bool) → _≡_ {A = ℕ} (cond t 0 0) 0
-        both true = refl
-        both false = refl
+        go : (t : Bool) (levels : ℕ) → (eqb levels 0 || not t) ≡ true → cond t (deeper (answer question s n) levels s e) 0 ≡ 0
+        go false levels q = refl
+        go true zero q = refl
+        go true (suc levels) q = absurd (true-not-false q (rw (ne-eqb (suc levels) 0 (λ w. omega arith))))
 
-    module _ (kind : ℕ) (ek : kind ≡ typeOf s e) where
-      pub rest-other : false ≡ isDirectory kind → rest k j ≡ a + rest (k + 1) (j - 1)
-      rest-other t =
-          let q : cond (isDirectory (typeOf s e)) (deeper (answer question s n) levels s e) 0 ≡ 0 = rw (← ek, ← t) in
-          omega (arith, turn)
+    pub rest-child : (t : Bool) → t ≡ isDirectory kind → t ≡ true → (levels ≡ 0 → ⊥) → (b : ℕ) → b ≡ firstBlock s e
+        → rest k end ≡ a + askTree (answer question s n) (levels - 1) s b + rest (k + 1) end
+    rest-child t et e₁ l b eb =
+        let q : cond (isDirectory kind) (deeper (answer question s n) levels s e) 0 ≡ askTree (answer question s n) (levels - 1) s b =
+        rw (← et, e₁, eb) (down levels l) in
+        omega (arith, turn)
+      where
+        down : (levels : ℕ) → (levels ≡ 0 → ⊥) → deeper (answer question s n) levels s e ≡ askTree (answer question s n) (levels - 1) s (firstBlock s e)
+        down zero l = absurd (l refl)
+        down (suc levels) l = let q : suc levels - 1 ≡ levels = omega arith in rw q
 
-      pub rest-child : true ≡ isDirectory kind → (levels ≡ 0 → ⊥) → (b : ℕ) → b ≡ firstBlock s e
-          → rest k j ≡ a + askTree (answer question s n) (levels - 1) s b + rest (k + 1) (j - 1)
-      rest-child t l b eb =
-          let q : cond (isDirectory (typeOf s e)) (deeper (answer question s n) levels s e) 0 ≡ askTree (answer question s n) (levels - 1) s b =
-          rw (← ek, ← t, eb) (down levels l) in
-          omega (arith, turn)
-        where
-          down : (levels : ℕ) → (levels ≡ 0 → ⊥) → deeper (answer question s n) levels s e ≡ askTree (answer question s n) (levels - 1) s (firstBlock s e)
-          down zero l = absurd (l refl)
-          down (suc levels) l = let q : suc levels - 1 ≡ levels = omega arith in rw q
+-- what the test before a child tells where it is left
+pub goes-down : (levels : ℕ) (t : Bool) → (eqb levels 0 || not t) ≡ false → (levels ≡ 0 → ⊥) × (t ≡ true)
+goes-down levels t e =
+    let a = or-split-false (eqb levels 0) (not t) e in
+    (eqb-false _ _ (a .0), not-false _ (a .1))

@@ -1,74 +1,86 @@
-use Prim.Native.Nat.{_+_}
-use mathlib.Core.Path.{_≡_, sym, _∙_}
+use Prim.Native.Nat.{_+_, _-_, _≤_}
+use mathlib.Core.Bool.{_&&_}
+use mathlib.Core.Path.{_≡_, refl, sym, _∙_}
 use native.Mathlib.Omega.{arith}
-use borrow.Author.Needs.{needs}
+use Rattle.layout.specs.Lists.{interval, every}
 use Rattle.layout.specs.Directory.{nameOk}
-use Rattle.plain_check.specs.Walks.{nameFrom}
-use Rattle.plain_check.proofs.Walks.Names.{nameOk-empty, nameOk-from, nameFrom-end, nameFrom-zero, nameFrom-slash, nameFrom-next}
+use Rattle.plain_check.proofs.Walks.Tests.{each-more, each-none}
+use Rattle.plain_check.proofs.Walks.Names.{follows, follows-is, name-all}
 use Rattle.plain_check.proofs.check.name_ok.Statement.{statement}
 use Rattle.plain_check.proofs.check.name_ok.Tie as tie
 use Rattle.plain_check.proofs.check.name_ok.Reads as reads
 use Rattle.plain_check.proofs.check.name_ok.Lts as lts
 use Rattle.plain_check.proofs.check.byte.Reads as byte-reads
-use Rattle.plain_check.proofs.check.zeros.Reads as zeros-reads
 
 abbrev Inv-loop : tie.InvT-loop
-Inv-loop image e at₀ left₀ at left = (at + left ≡ e + 128) × (nameOk image e ≡ nameFrom image at left)
+Inv-loop image e good₀ i₀ i-end good i = (e + 48 ≤ i) × (i ≤ i-end) × (i-end ≡ e + 127) × (nameOk image e ≡ (good && every (follows image) (interval i (i-end - i))))
 
 abbrev μ-loop : tie.MeasureT-loop
-μ-loop image e at₀ left₀ at left = left
+μ-loop image e good₀ i₀ i-end good i = i-end - i
 
--- src/check.rt:296:18
-add-at : tie.Need-add-at Inv-loop μ-loop
-add-at c = omega arith
+-- src/check.rt:210:33
+add-byte : tie.Need-add-byte Inv-loop μ-loop
+add-byte c = omega arith
 
--- src/check.rt:298:8
+-- src/check.rt:210:21
 byte-requires : tie.Need-byte-requires Inv-loop μ-loop
-byte-requires c κs = search needs
+byte-requires c κs = omega arith
 
--- src/check.rt:299:9
-returns : tie.Need-returns Inv-loop μ-loop
-returns c = sym (nameOk-empty _ _ (sym (c .before .byte .ensures .0) ∙ c .if1 .taken))
+-- src/check.rt:210:62
+add-byte-2 : tie.Need-add-byte-2 Inv-loop μ-loop
+add-byte-2 c = omega arith
 
--- src/check.rt:301:5
-loop-holds : tie.Need-loop-holds Inv-loop μ-loop
-loop-holds c = (omega arith, nameOk-from _ _ (c .before .before .before .pre .0) (λ z. c .if1 .left (c .before .byte .ensures .0 ∙ z)))
-
--- src/check.rt:302:13
+-- src/check.rt:210:50
 byte-requires-2 : tie.Need-byte-requires-2 Inv-loop μ-loop
-byte-requires-2 c κs = search needs
+byte-requires-2 c κs = omega arith
 
--- src/check.rt:304:13
-zeros-requires : tie.Need-zeros-requires Inv-loop μ-loop
-zeros-requires c κs = omega arith
+-- src/check.rt:211:14
+add-i : tie.Need-add-i Inv-loop μ-loop
+add-i c = omega arith
 
--- src/check.rt:304:13
-returns-2 : tie.Need-returns-2 Inv-loop μ-loop
-returns-2 c = c .zeros .ensures ∙ sym (c .before .before .before .before .loop .inv .1 ∙ nameFrom-zero _ _ (c .before .before .before .before .loop .left) (omega arith) _ (c .before .before .byte2 .ensures .0) (c .before .if2 .taken))
+-- src/check.rt:211:22
+add-i-end : tie.Need-add-i-end Inv-loop μ-loop
+add-i-end c = omega arith
 
--- src/check.rt:307:13
-returns-3 : tie.Need-returns-3 Inv-loop μ-loop
-returns-3 c = sym (c .before .before .before .before .loop .inv .1 ∙ nameFrom-slash _ _ (c .before .before .before .before .loop .left) (omega arith) _ (c .before .before .byte2 .ensures .0) (c .before .if2 .left) (c .if3 .taken))
+-- src/check.rt:211:5
+loop-holds : tie.Need-loop-holds Inv-loop μ-loop
+loop-holds c = (omega arith, omega arith, refl, name-all _ _ (c .before .before .before .pre .0) _ _ (c .before .byte .ensures .0) (c .byte2 .ensures .0) _ refl)
 
--- src/check.rt:309:14
-add-at-2 : tie.Need-add-at-2 Inv-loop μ-loop
-add-at-2 c = omega arith
+-- src/check.rt:212:23
+byte-requires-3 : tie.Need-byte-requires-3 Inv-loop μ-loop
+byte-requires-3 c κs = omega arith
 
--- src/check.rt:310:16
-sub-left : tie.Need-sub-left Inv-loop μ-loop
-sub-left c = omega arith
+-- src/check.rt:212:59
+add-byte-3 : tie.Need-add-byte-3 Inv-loop μ-loop
+add-byte-3 c = omega arith
 
--- src/check.rt:301:5
+-- src/check.rt:212:47
+byte-requires-4 : tie.Need-byte-requires-4 Inv-loop μ-loop
+byte-requires-4 c κs = omega arith
+
+-- src/check.rt:213:45
+add-byte-4 : tie.Need-add-byte-4 Inv-loop μ-loop
+add-byte-4 c = omega arith
+
+-- src/check.rt:213:33
+byte-requires-5 : tie.Need-byte-requires-5 Inv-loop μ-loop
+byte-requires-5 c κs = omega arith
+
+-- src/check.rt:211:9
+add-i-2 : tie.Need-add-i-2 Inv-loop μ-loop
+add-i-2 c = omega arith
+
+-- src/check.rt:211:5
 loop-less : tie.Need-loop-less Inv-loop μ-loop
 loop-less c = omega arith
 
--- src/check.rt:301:5
+-- src/check.rt:211:5
 loop-again : tie.Need-loop-again Inv-loop μ-loop
-loop-again c = (omega (arith, c .before .before .before .before .loop .inv .0), c .before .before .before .before .loop .inv .1 ∙ nameFrom-next _ _ (c .before .before .before .before .loop .left) (omega arith) _ (c .before .before .byte2 .ensures .0) (c .before .if2 .left) (c .if3 .left))
+loop-again c = (omega arith, omega arith, c .before .before .before .before .loop .inv .2, c .before .before .before .before .loop .inv .3 ∙ each-more _ (c .before .before .before .before .loop .i) _ (omega arith) (c .before .before .before .before .loop .good) _ _ (follows-is (c .before .before .before .before .before .before .before .before .args .image .now) (c .before .before .before .before .loop .i) _ _ _ (c .before .before .byte3 .ensures .0) (c .before .byte4 .ensures .0) (c .byte5 .ensures .0)))
 
--- src/check.rt:292:1
-returns-4 : tie.Need-returns-4 Inv-loop μ-loop
-returns-4 c = sym (c .before .loop .inv .1 ∙ nameFrom-end _ _ (c .before .loop .left) (omega arith))
+-- src/check.rt:206:1
+returns : tie.Need-returns Inv-loop μ-loop
+returns c = each-none _ (c .before .loop .i) _ (c .before .loop .good) (omega arith) ∙ sym (c .before .loop .inv .3)
 
 pub name-ok-spec : {M : Type 1} → statement M
 name-ok-spec =
@@ -76,16 +88,19 @@ name-ok-spec =
     (tie.spec
     Inv-loop
     μ-loop
-    add-at
+    add-byte
     byte-requires
-    returns
-    loop-holds
+    add-byte-2
     byte-requires-2
-    zeros-requires
-    returns-2
-    returns-3
-    add-at-2
-    sub-left
+    add-i
+    add-i-end
+    loop-holds
+    byte-requires-3
+    add-byte-3
+    byte-requires-4
+    add-byte-4
+    byte-requires-5
+    add-i-2
     loop-less
     loop-again
-    returns-4)
+    returns)

@@ -7,59 +7,75 @@ use Rattle.plain_check.proofs.check.number.Reads as reads
 use Rattle.plain_check.proofs.check.number.Lts as lts
 use Rattle.plain_check.proofs.check.byte.Reads as byte-reads
 
--- src/check.rt:45:9
+-- src/check.rt:34:16
 byte-requires : tie.Need-byte-requires
 byte-requires c κs = search needs
 
--- src/check.rt:46:25
+-- src/check.rt:34:16
+cast-high : tie.Need-cast-high
+cast-high c = search needs
+
+-- src/check.rt:34:16
+mul-high : tie.Need-mul-high
+mul-high c = search needs
+
+-- src/check.rt:34:61
 add-byte : tie.Need-add-byte
 add-byte c = search needs
 
--- src/check.rt:46:9
+-- src/check.rt:34:49
 byte-requires-2 : tie.Need-byte-requires-2
 byte-requires-2 c κs = search needs
 
--- src/check.rt:47:25
+-- src/check.rt:34:49
+cast-high-2 : tie.Need-cast-high-2
+cast-high-2 c = search needs
+
+-- src/check.rt:34:16
+add-high : tie.Need-add-high
+add-high c = search needs
+
+-- src/check.rt:35:27
 add-byte-2 : tie.Need-add-byte-2
 add-byte-2 c = search needs
 
--- src/check.rt:47:9
+-- src/check.rt:35:15
 byte-requires-3 : tie.Need-byte-requires-3
 byte-requires-3 c κs = search needs
 
--- src/check.rt:48:25
+-- src/check.rt:35:15
+cast-low : tie.Need-cast-low
+cast-low c = search needs
+
+-- src/check.rt:35:15
+mul-low : tie.Need-mul-low
+mul-low c = search needs
+
+-- src/check.rt:35:64
 add-byte-3 : tie.Need-add-byte-3
 add-byte-3 c = search needs
 
--- src/check.rt:48:9
+-- src/check.rt:35:52
 byte-requires-4 : tie.Need-byte-requires-4
 byte-requires-4 c κs = search needs
 
--- src/check.rt:49:5
+-- src/check.rt:35:52
+cast-low-2 : tie.Need-cast-low-2
+cast-low-2 c = search needs
+
+-- src/check.rt:35:15
+add-low : tie.Need-add-low
+add-low c = search needs
+
+-- src/check.rt:36:5
 mul-result : tie.Need-mul-result
 mul-result c = search needs
 
--- src/check.rt:49:20
-mul-result-2 : tie.Need-mul-result-2
-mul-result-2 c = search needs
-
--- src/check.rt:49:5
+-- src/check.rt:36:5
 add-result : tie.Need-add-result
 add-result c = search needs
 
--- src/check.rt:49:32
-mul-result-3 : tie.Need-mul-result-3
-mul-result-3 c = search needs
-
--- src/check.rt:49:5
-add-result-2 : tie.Need-add-result-2
-add-result-2 c = search needs
-
--- src/check.rt:49:5
-add-result-3 : tie.Need-add-result-3
-add-result-3 c = search needs
-
--- src/check.rt:41:1
+-- src/check.rt:30:1
 returns : tie.Need-returns
 unfolding be32
 returns c = (omega arith, omega arith)
@@ -69,16 +85,20 @@ number-spec =
     tie.close
     (tie.spec
     byte-requires
+    cast-high
+    mul-high
     add-byte
     byte-requires-2
+    cast-high-2
+    add-high
     add-byte-2
     byte-requires-3
+    cast-low
+    mul-low
     add-byte-3
     byte-requires-4
+    cast-low-2
+    add-low
     mul-result
-    mul-result-2
     add-result
-    mul-result-3
-    add-result-2
-    add-result-3
     returns)
