@@ -532,6 +532,7 @@ int main(int argc, char **argv)
     print_table();
     print_means();
     bench_lists(samples);
+    bench_settings(samples < MAX_SAMPLES);
     if (figures != NULL)
         write_figures(figures);
     return 0;

@@ -24,6 +24,9 @@ typedef struct {
 /* Times 900 settings written by lists, by single calls and by one transaction; prints a table. */
 void bench_lists(int samples);
 
+/* Times puts and gets of settings beside writes and reads of the same files; prints a table. */
+void bench_settings(int quick);
+
 /*
  * The same work in SQLite, in memory, with statements prepared beforehand: a
  * table of paths and contents.  check is its integrity check, lookup and read
@@ -43,5 +46,12 @@ void sqlite_calls(const uint8_t *path, size_t path_len, const uint8_t *data, siz
 /* Makes every content empty; puts the data as the content of every path, in one transaction. */
 void sqlite_empty(void);
 void sqlite_transaction(const named *paths, size_t count, const uint8_t *data, size_t len);
+
+/*
+ * Puts settings in a savepoint: a row with the next revision, and rows of more than
+ * 16 revisions dropped.  Gives the seconds; then it is rolled back unless it stays.
+ */
+double sqlite_put(const uint8_t *serial, size_t serial_len, const uint8_t *data, size_t len,
+                  int stays);
 
 #endif

@@ -9,7 +9,7 @@
 #include <string.h>
 
 enum { INTEGRITY, SIZE, CONTENT, PUT, DROP, ADD, BEGIN, BACK, RELEASE, OPEN, COMMIT, EMPTY,
-       STATEMENTS };
+       REVISE, FORGET, STATEMENTS };
 
 static const char *const texts[STATEMENTS] = {
     [INTEGRITY] = "PRAGMA integrity_check",
@@ -23,6 +23,10 @@ static const char *const texts[STATEMENTS] = {
     [RELEASE] = "RELEASE change",
     [OPEN] = "BEGIN",
     [COMMIT] = "COMMIT",
+    [REVISE] = "INSERT INTO settings SELECT ?1, ifnull(max(revision), 0) + 1, ?2, 3"
+               " FROM settings WHERE serial = ?1",
+    [FORGET] = "DELETE FROM settings WHERE serial = ?1 AND revision <="
+               " (SELECT max(revision) - 16 FROM settings WHERE serial = ?1)",
     [EMPTY] = "UPDATE files SET content = x'', time = 1",
 };
 
@@ -53,6 +57,11 @@ void sqlite_start(void)
     must(sqlite3_exec(db,
                          "CREATE TABLE files (path TEXT PRIMARY KEY, content BLOB, time INTEGER)"
                          " WITHOUT ROWID",
+                         NULL, NULL, NULL) == SQLITE_OK,
+            "create table");
+    must(sqlite3_exec(db,
+                         "CREATE TABLE settings (serial TEXT, revision INTEGER, data BLOB,"
+                         " time INTEGER, PRIMARY KEY (serial, revision)) WITHOUT ROWID",
                          NULL, NULL, NULL) == SQLITE_OK,
             "create table");
     for (int i = 0; i < STATEMENTS; i++)
@@ -132,6 +141,20 @@ void sqlite_transaction(const named *paths, size_t count, const uint8_t *data, s
     sqlite3_reset(run(COMMIT, NULL, 0, NULL, 0, SQLITE_DONE));
 }
 
+double sqlite_put(const uint8_t *serial, size_t serial_len, const uint8_t *data, size_t len,
+                  int stays)
+{
+    double begin = now();
+    change(REVISE, serial, serial_len, data, len);
+    sqlite3_reset(run(FORGET, serial, serial_len, NULL, 0, SQLITE_DONE));
+    double took = now() - begin;
+    if (stays)
+        sqlite3_reset(run(RELEASE, NULL, 0, NULL, 0, SQLITE_DONE));
+    else
+        back();
+    return took;
+}
+
 #else
 
 const char *sqlite_version(void)
@@ -156,6 +179,13 @@ void sqlite_calls(const uint8_t *path, size_t path_len, const uint8_t *data, siz
 
 void sqlite_empty(void)
 {
+}
+
+double sqlite_put(const uint8_t *serial, size_t serial_len, const uint8_t *data, size_t len,
+                  int stays)
+{
+    (void)serial, (void)serial_len, (void)data, (void)len, (void)stays;
+    return 0;
 }
 
 void sqlite_transaction(const named *paths, size_t count, const uint8_t *data, size_t len)

@@ -2,7 +2,8 @@
  * A small installer: keeps one settings file per serial number on a volume, in
  * a folder for each venue, with the box's purchase beside it as attributes,
  * changes some of them, and takes the changes back one by one.  Then it salvages
- * what is whole of another volume, which was half written.
+ * what is whole of another volume, which was half written, and keeps the past of
+ * a box's settings by its serial number.
  *
  * Usage: installer [FOLDER]
  * With a folder, image and journal are left there: changed.img and
@@ -448,6 +449,51 @@ static void salvage(void)
     }
 }
 
+/* Shows a revision of the settings of a box, or why there is none. */
+static void show_revision(const char *what, bulgefs_got got, const uint8_t *data)
+{
+    if (got.number != BULGEFS_OK)
+        printf("  get %-11s %s (%u)\n", what, bulgefs_text(got.number), (unsigned)got.number);
+    else
+        printf("  get %-11s revision %u, %.*s\n", what, (unsigned)got.revision, (int)got.length,
+               (const char *)data);
+}
+
+/*
+ * Settings by serial number keep their lengths, so that a shorter one leaves
+ * nothing of the one before, and their past: the last 16 can be had again.
+ */
+static void past(void)
+{
+    static const uint8_t volume_name[BULGEFS_VOLUME_NAME_SIZE] = "box";
+    static uint8_t box[BULGEFS_IMAGE_SIZE(16)], box_journal[8192], data[BULGEFS_MAX_SETTINGS];
+    static const char *const revisions[] = {"baud=9600", "baud=300", "baud=19200"};
+    const uint8_t *serial = bytes("SN1001");
+    bulgefs_uuid uuid = {{0}};
+    printf("\nSettings with a past\n");
+    require(bulgefs_format(box, sizeof box, 1, 0, uuid, volume_name, sizeof volume_name), "format",
+            "the box");
+    require(bulgefs_journal_start(box_journal, sizeof box_journal), "start", "the box");
+    for (int i = 0; i < 3; i++) {
+        bulgefs_put p = bulgefs_put_settings(box, sizeof box, box_journal, sizeof box_journal,
+                                             serial, 6, bytes(revisions[i]), strlen(revisions[i]),
+                                             3000 + (uint64_t)i);
+        require(p.number, "put", "SN1001");
+        printf("  put %-11s revision %u, record of %u bytes\n", revisions[i], (unsigned)p.revision,
+               (unsigned)p.record);
+    }
+    show_revision("revision 1",
+                  bulgefs_get_settings(box, sizeof box, serial, 6, 1, data, sizeof data), data);
+    show_revision("latest",
+                  bulgefs_get_latest_settings(box, sizeof box, serial, 6, data, sizeof data), data);
+    require(bulgefs_undo(box, sizeof box, box_journal, sizeof box_journal).number, "undo", "put");
+    printf("  undo\n");
+    show_revision("latest",
+                  bulgefs_get_latest_settings(box, sizeof box, serial, 6, data, sizeof data), data);
+    show_revision("revision 3",
+                  bulgefs_get_settings(box, sizeof box, serial, 6, 3, data, sizeof data), data);
+}
+
 /*
  * Leaves a file to look at.  This is not how to save settings: against a loss
  * of power, image and journal go into one new file that is renamed over the
@@ -488,6 +534,7 @@ int main(int argc, char **argv)
     bool equal = same("image", images[UNDONE], images[INSTALLED], sizeof image);
     equal = same("journal", journals[UNDONE], journals[INSTALLED], sizeof journal) && equal;
     salvage();
+    past();
 
     if (argc > 1) {
         leave(argv[1], "changed.img", images[CHANGED], sizeof image);

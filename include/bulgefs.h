@@ -24,8 +24,9 @@
  *   Every call but bulgefs_look_in_place answers a number: 0 (BULGEFS_OK) if
  *   the call was accepted, otherwise one of the refusals below; bulgefs_text
  *   has words for it.  If several refusals apply, the first in this order is
- *   given: 1 to 8, 19, 9, 20, 17, 26, 21, 10 to 12, 18, 13 to 16.  A refused call
- *   changes no byte of any buffer, and all other fields of its answer are 0.
+ *   given: 1 to 8, 19, 9 and 22, 20, 17, 26, 21, 10 to 12, 18, 24, 23, 25, 13 to
+ *   16.  A refused call changes no byte of any buffer, and all other fields of
+ *   its answer are 0.
  *   Only bulgefs_write_list differs: the writes before the one that was refused
  *   stand, and its answer counts them.
  *
@@ -42,6 +43,7 @@
  *   - A write never shortens a file.  "300" written over "9600" leaves "3000".
  *     Give a setting a fixed length, or store the length in front of it, or
  *     delete the file, create it and write it again; undo takes back each step.
+ *     Or use bulgefs_put_settings, which keeps the lengths itself.
  *   - Nothing ties a journal to its image.  Undo with another image's journal
  *     puts that image's blocks into this one.  Keep them together, and start
  *     the journal whenever you replace the image.
@@ -62,9 +64,10 @@
  *   figures.  No call needs more stack than BULGEFS_STACK.
  *
  * Linking
- *   x86-64, System V calling convention.  The archive needs memset and nothing
- *   else.  Every function has a section of its own: with -Wl,--gc-sections a
- *   boot loader that only checks, finds and reads gets just the reader.
+ *   x86-64, System V calling convention.  The archive needs memset, the calls for
+ *   settings memcpy too, and nothing else.  Every function has a section of its
+ *   own: with -Wl,--gc-sections a boot loader that only checks, finds and reads
+ *   gets just the reader, which needs memset alone.
  */
 #ifndef BULGEFS_H
 #define BULGEFS_H
@@ -80,8 +83,8 @@ extern "C" {
  * The version of this header, 10000 * major + 100 * minor + patch.  The minor
  * number rises with every call, number or limit that comes or changes.
  */
-#define BULGEFS_VERSION            1100u
-#define BULGEFS_VERSION_TEXT       "0.11.0"
+#define BULGEFS_VERSION            1200u
+#define BULGEFS_VERSION_TEXT       "0.12.0"
 
 /*
  * The compiler says if an answer is not used.  Define BULGEFS_CHECKED as
@@ -109,6 +112,9 @@ extern "C" {
 #define BULGEFS_MAX_DATA           4096u     /* bytes that one write or append accepts */
 #define BULGEFS_MAX_LIST           65536u    /* bytes in the longest list of writes    */
 #define BULGEFS_MAX_ATTRIBUTE_BLOCKS 8u      /* blocks of a file's attributes          */
+#define BULGEFS_MAX_SERIAL         16u       /* bytes in the longest serial number     */
+#define BULGEFS_MAX_SETTINGS       200u      /* bytes of settings that one put accepts */
+#define BULGEFS_MAX_REVISIONS      16u       /* revisions of settings that are kept    */
 #define BULGEFS_MIN_JOURNAL        5u        /* bytes in the smallest journal          */
 #define BULGEFS_MAX_JOURNAL        67108864u /* bytes in the largest journal           */
 #define BULGEFS_MAX_REPORT         256u      /* bytes of a report for any salvage      */
@@ -151,6 +157,9 @@ extern "C" {
  *   BULGEFS_NEW_DIRECTORY_BLOCKS  a directory of d blocks made
  *   BULGEFS_ATTRIBUTES_BLOCKS     attributes of new blocks set over old ones;
  *                                 34 for the longest, and a clear has new 0
+ *   BULGEFS_PUT_BLOCKS            settings put into a file that has so many
+ *                                 blocks then: all of them are saved; 11 for the
+ *                                 most that puts alone make of a file
  *
  * So for a thousand settings that are created and written once, 200 bytes each,
  * with undo for all of them:
@@ -165,6 +174,7 @@ extern "C" {
     + ((blocks) < BULGEFS_TABLE_BLOCKS(n) ? (blocks) : BULGEFS_TABLE_BLOCKS(n)))
 #define BULGEFS_NEW_DIRECTORY_BLOCKS(d) (2u + 2u * (d))
 #define BULGEFS_ATTRIBUTES_BLOCKS(old_blocks, new_blocks) (2u + 2u * ((old_blocks) + (new_blocks)))
+#define BULGEFS_PUT_BLOCKS(blocks)     (4u + (blocks))
 #define BULGEFS_JOURNAL_SIZE(changes, k) (BULGEFS_MIN_JOURNAL + (changes) * BULGEFS_RECORD_SIZE(k))
 
 /*
@@ -173,6 +183,12 @@ extern "C" {
  */
 #define BULGEFS_LIST_HEAD              5u
 #define BULGEFS_ITEM_SIZE(path_len, data_len) (18u + (path_len) + (data_len))
+
+/*
+ * Size of a file of settings: so many revisions of so many bytes each.  Puts
+ * alone never make it longer than 3,285 bytes, which are 7 blocks.
+ */
+#define BULGEFS_SETTINGS_SIZE(revisions, data_len) (5u + (revisions) * (5u + (data_len)))
 
 /* The number that a call answers. */
 enum bulgefs_number {
@@ -193,7 +209,7 @@ enum bulgefs_number {
     BULGEFS_NOT_FOUND       = 10, /* no such file, or no such directory                */
     BULGEFS_NAME_TAKEN      = 11, /* creates: a file or directory of that path exists  */
     BULGEFS_BAD_OFFSET      = 12, /* offset above the file's size                      */
-    BULGEFS_DIRECTORY_FULL  = 13, /* creates: no free slot in the directory            */
+    BULGEFS_DIRECTORY_FULL  = 13, /* creates, puts: no free slot in the directory      */
     BULGEFS_VOLUME_FULL     = 14, /* fewer free blocks than needed                     */
     BULGEFS_JOURNAL_FULL    = 15, /* the record does not fit into the journal          */
     BULGEFS_NOTHING_TO_UNDO = 16, /* undo: the journal holds no record                 */
@@ -202,6 +218,10 @@ enum bulgefs_number {
     BULGEFS_BAD_LIST        = 19, /* the list of writes is not of the form; after 8    */
     BULGEFS_TOO_MANY_BLOCKS = 20, /* more than 8 blocks of attributes; just after 9    */
     BULGEFS_BAD_TABLE_SIZE  = 21, /* entry_count is not the number of blocks; after 9  */
+    BULGEFS_BAD_SETTINGS    = 22, /* bad serial number, amount or buffer; just after 8 */
+    BULGEFS_NO_REVISION     = 23, /* gets: no such revision stands; after 24           */
+    BULGEFS_NOT_SETTINGS    = 24, /* the file is not one of settings; after 12         */
+    BULGEFS_REVISIONS_USED  = 25, /* puts: revision numbers are used up; after 23      */
     BULGEFS_BAD_FLAGS       = 26  /* creates: flags other than 0; just after 17        */
 };
 
@@ -249,6 +269,10 @@ BULGEFS_INLINE const char *bulgefs_text(uint32_t number)
     case BULGEFS_BAD_LIST:        return "list of writes is not of the form";
     case BULGEFS_TOO_MANY_BLOCKS: return "too many blocks of attributes";
     case BULGEFS_BAD_TABLE_SIZE:  return "not one number for each block";
+    case BULGEFS_BAD_SETTINGS:    return "bad serial number, amount or buffer for settings";
+    case BULGEFS_NO_REVISION:     return "no such revision";
+    case BULGEFS_NOT_SETTINGS:    return "file is not one of settings";
+    case BULGEFS_REVISIONS_USED:  return "revision numbers are used up";
     case BULGEFS_BAD_FLAGS:       return "system flags are not zero";
     default:                      return "no such number";
     }
@@ -296,6 +320,12 @@ typedef struct { uint32_t number, record; } bulgefs_changed;
  * BULGEFS_OK all of them were done.
  */
 typedef struct { uint32_t number, done; } bulgefs_listed;
+
+/* The revision that was put, and the length of the record added to the journal. */
+typedef struct { uint32_t number, revision, record; } bulgefs_put;
+
+/* The revision that a buffer was filled with, and the length of its data. */
+typedef struct { uint32_t number, revision, length; } bulgefs_got;
 
 /*
  * Paths
@@ -608,6 +638,61 @@ BULGEFS_CHECKED
 bulgefs_changed bulgefs_clear_flags(uint8_t *image, size_t image_len,
                                     uint8_t *journal, size_t journal_len,
                                     const uint8_t *path, size_t path_len);
+
+/*
+ * Settings with a past
+ *   Beside named files there may be settings by serial number, 1 to 16 ASCII
+ *   letters and digits, handed over without a terminating zero.  The settings of
+ *   a box are 0 to 200 bytes.  Each put makes a new revision of them: the first
+ *   has number 1, each next one more than the latest.  The last 16 revisions
+ *   stand and can be had by their numbers.
+ *
+ *   They are kept in the file of that name in the root, which the first put
+ *   makes; docs/FORMAT.md has its form.  bulgefs_delete takes all revisions away,
+ *   and the next put begins with 1.  What other calls write into the file is not
+ *   hindered; a file that is not of the form is refused with
+ *   BULGEFS_NOT_SETTINGS, an empty one too.
+ */
+
+/*
+ * Puts new settings: adds a revision, which drops the oldest where 16 stand, and
+ * answers its number.  It is one change with one record, and bulgefs_undo takes
+ * it back.  The first put creates the file of type 0x60 with both times time and
+ * user, group, permissions and flags 0; a later one sets the modified time.  The
+ * file is rewritten as a whole, keeps its size where the revisions get shorter
+ * (zeros after them), and all its blocks are saved.
+ * Refusals: 1 to 7, BULGEFS_BAD_JOURNAL, BULGEFS_BAD_SETTINGS (no serial number,
+ * or data_len above 200), BULGEFS_NAME_TAKEN (the root holds a directory of that
+ * name), BULGEFS_NOT_SETTINGS, BULGEFS_REVISIONS_USED (the latest revision is
+ * 4,294,967,295), BULGEFS_DIRECTORY_FULL, BULGEFS_VOLUME_FULL,
+ * BULGEFS_JOURNAL_FULL.
+ */
+BULGEFS_CHECKED
+bulgefs_put bulgefs_put_settings(uint8_t *image, size_t image_len,
+                                 uint8_t *journal, size_t journal_len,
+                                 const uint8_t *serial, size_t serial_len,
+                                 const uint8_t *data, size_t data_len,
+                                 uint64_t time);
+
+/*
+ * Copies the settings of a revision, or of the latest one, to the front of the
+ * buffer, and answers its number and the length of its data.  The rest of the
+ * buffer stays as it is.  The buffer has 200 bytes or more, however few the
+ * settings are.
+ * Refusals: 1 to 7, BULGEFS_BAD_SETTINGS (no serial number, or buffer_len below
+ * 200), BULGEFS_NOT_FOUND (the root holds no file of that name),
+ * BULGEFS_NOT_SETTINGS; bulgefs_get_settings also BULGEFS_NO_REVISION (the
+ * revision is 0, or does not stand any more, or not yet).
+ */
+BULGEFS_CHECKED
+bulgefs_got bulgefs_get_settings(const uint8_t *image, size_t image_len,
+                                 const uint8_t *serial, size_t serial_len,
+                                 uint32_t revision, uint8_t *buffer, size_t buffer_len);
+
+BULGEFS_CHECKED
+bulgefs_got bulgefs_get_latest_settings(const uint8_t *image, size_t image_len,
+                                        const uint8_t *serial, size_t serial_len,
+                                        uint8_t *buffer, size_t buffer_len);
 
 /*
  * Takes the last change back: puts the blocks of the journal's last record

@@ -442,6 +442,67 @@ static void call_directory_changes(const material *m, const buffer *path)
     settle(&image, &journal, d.number, d.record, common | BIT(18), "delete_directory");
 }
 
+/* A get into a buffer of so many bytes of the data; gives the number. */
+static uint32_t call_get(const material *m, const buffer *serial, uint32_t revision, size_t len)
+{
+    const uint32_t all = STAGES | BIT(10) | BIT(22) | BIT(23) | BIT(24);
+    buffer image = lend_const(m->image, m->image_len);
+    buffer into = lend(m->data, len);
+    bulgefs_got g = revision == UINT32_MAX
+        ? bulgefs_get_latest_settings(image.at, image.len, serial->at, serial->len, into.at, len)
+        : bulgefs_get_settings(image.at, image.len, serial->at, serial->len, revision, into.at, len);
+    expect(MAY(all, g.number), "get_settings: number");
+    expect(g.number == 0 || ((g.revision | g.length) == 0 && unchanged(&into)),
+           "get_settings: refused without a change");
+    expect(g.number != 0 || (len >= 200 && g.length <= 200
+               && memcmp(into.at + g.length, into.before + g.length, len - g.length) == 0),
+           "get_settings: the rest stays");
+    expect(unchanged(&image) && unchanged(serial), "get_settings: nothing else changed");
+    give_back(&image);
+    give_back(&into);
+    return g.number;
+}
+
+/* A put of the first bytes of the data, and gets, for one serial number. */
+static void call_serial(const material *m, const uint8_t *name, size_t name_len, size_t len)
+{
+    const uint32_t all = STAGES | BIT(8) | BIT(11) | BIT(13) | BIT(14) | BIT(15) | BIT(22) | BIT(24);
+    buffer serial = lend_const(name, name_len);
+    buffer data = lend_const(m->data, len);
+    buffer image = lend(m->image, m->image_len);
+    buffer journal = lend(m->journal, m->journal_len);
+    bulgefs_put p = bulgefs_put_settings(image.at, image.len, journal.at, journal.len, serial.at,
+                                         serial.len, data.at, data.len, 5);
+    expect(p.number != 0 || bulgefs_check(image.at, image.len) == 0, "put_settings: sound");
+    if (p.number == 0) {
+        uint8_t got[200];
+        bulgefs_got g = bulgefs_get_latest_settings(image.at, image.len, serial.at, serial.len,
+                                                    got, sizeof got);
+        expect(g.number == 0 && g.revision == p.revision && g.length == len
+                   && (len == 0 || memcmp(got, m->data, len) == 0),
+               "put_settings: what the next get gives");
+        bulgefs_changed u = bulgefs_undo(image.at, image.len, journal.at, journal.len);
+        expect(u.number == 0 && u.record == p.record && unchanged(&image), "put_settings: undo");
+    }
+    settle(&image, &journal, p.number, p.revision | p.record, all, "put_settings");
+    expect(unchanged(&data), "put_settings: data stays");
+    give_back(&data);
+    call_get(m, &serial, UINT32_MAX, m->data_len);
+    call_get(m, &serial, random_below(4), m->data_len);
+    give_back(&serial);
+}
+
+/* The path as a serial number, its last bytes, and the serial number of fill_volume. */
+static void call_settings(const material *m)
+{
+    size_t most = m->data_len < 202 ? m->data_len : 202;
+    size_t some = random_below((uint32_t)most + 1), name = m->path_len < 17 ? m->path_len : 17;
+    call_serial(m, m->path, m->path_len, m->data_len);
+    call_serial(m, name == 0 ? m->path : m->path + 1, name == 0 ? 0 : name - 1, some);
+    call_serial(m, (const uint8_t *)"S1", 2, some);
+    call_serial(m, (const uint8_t *)"S2", 2, some);
+}
+
 static void call_changes(const material *m)
 {
     buffer path = lend_const(m->path, m->path_len);
@@ -449,6 +510,7 @@ static void call_changes(const material *m)
     call_attribute_changes(m, &path);
     call_directory_changes(m, &path);
     call_lists(m);
+    call_settings(m);
 
     buffer image = lend(m->image, m->image_len);
     buffer journal = lend(m->journal, m->journal_len);
@@ -627,6 +689,9 @@ static void fill_volume(uint8_t *image, size_t n, uint8_t *journal, size_t journ
         bulgefs_set_attributes(image, n * 512, journal, journal_len, path, len, data,
                                512 * (1 + i));
     }
+    for (uint32_t i = 0; i < 3; i++)
+        bulgefs_put_settings(image, n * 512, journal, journal_len, (const uint8_t *)"S1", 2, data,
+                             i * 100, i);
     uint8_t deepest[32];
     size_t len = file_path(folders, (5 + folders) % 6, deepest);
     expect(n < 100 || bulgefs_lookup(image, n * 512, deepest, len).number == 0, "fill: folders");
@@ -1088,6 +1153,62 @@ static void pieces(void)
     expect(memcmp(image, before, sizeof image) == 0, "piece: as it was");
 }
 
+/*
+ * Twenty revisions of the settings of one box: the last sixteen stand.  Their
+ * file then has just that form, in a byte more or less it is refused, and undo
+ * brings back one revision after the other.
+ */
+static void settings(void)
+{
+    static uint8_t image[16 * 512], before[16 * 512], journal[131072], data[201], got[300];
+    static const uint8_t serial[] = "SN4471", path[] = "/SN4471";
+    bulgefs_uuid uuid = {{0}};
+    fill_random(data, sizeof data);
+    expect(bulgefs_format(image, sizeof image, 2, 1, uuid, volume_name, 128) == 0, "put: format");
+    expect(bulgefs_journal_start(journal, sizeof journal) == 0, "put: start");
+    memcpy(before, image, sizeof image);
+    for (uint32_t i = 1; i <= 20; i++) {
+        bulgefs_put p = bulgefs_put_settings(image, sizeof image, journal, sizeof journal, serial,
+                                             6, data, 10 * i, i);
+        expect(p.number == 0 && p.revision == i, "put: revision");
+        expect(i > 1 || p.record == BULGEFS_RECORD_SIZE(4), "put: first record");
+        expect(p.record <= BULGEFS_RECORD_SIZE(BULGEFS_PUT_BLOCKS(7)), "put: record");
+    }
+    for (uint32_t i = 0; i <= 22; i++) {
+        buffer into = lend(got, 200 + i);
+        bulgefs_got g = bulgefs_get_settings(image, sizeof image, serial, 6, i, into.at, into.len);
+        if (i < 5 || i > 20)
+            expect(g.number == BULGEFS_NO_REVISION && unchanged(&into), "put: not standing");
+        else
+            expect(g.number == 0 && g.revision == i && g.length == 10 * i
+                       && memcmp(into.at, data, g.length) == 0, "put: standing");
+        give_back(&into);
+    }
+    bulgefs_got g = bulgefs_get_latest_settings(image, sizeof image, serial, 6, got, 200);
+    expect(g.number == 0 && g.revision == 20 && g.length == 200, "put: latest");
+    expect(bulgefs_get_latest_settings(image, sizeof image, serial, 6, got, 199).number
+               == BULGEFS_BAD_SETTINGS, "put: a short buffer");
+    expect(bulgefs_get_latest_settings(image, sizeof image, path, 7, got, 200).number
+               == BULGEFS_BAD_SETTINGS, "put: a path");
+    expect(bulgefs_get_latest_settings(image, sizeof image, serial, 5, got, 200).number
+               == BULGEFS_NOT_FOUND, "put: another serial number");
+    expect(bulgefs_put_settings(image, sizeof image, journal, sizeof journal, serial, 6, data, 201,
+                                1).number == BULGEFS_BAD_SETTINGS, "put: 201 bytes");
+    uint32_t size = bulgefs_lookup(image, sizeof image, path, 7).size;
+    expect(size == 5 + 16 * 5 + 10 * (5 + 20) * 16 / 2, "put: size");
+    expect(bulgefs_append(image, sizeof image, journal, sizeof journal, path, 7,
+                          (const uint8_t *)"", 1, 1).number == 0, "put: a zero more");
+    expect(bulgefs_get_latest_settings(image, sizeof image, serial, 6, got, 200).number == 0,
+           "put: zeros may follow");
+    expect(bulgefs_append(image, sizeof image, journal, sizeof journal, path, 7,
+                          (const uint8_t *)"x", 1, 1).number == 0, "put: a byte more");
+    expect(bulgefs_get_latest_settings(image, sizeof image, serial, 6, got, 200).number
+               == BULGEFS_NOT_SETTINGS, "put: no other bytes");
+    for (int i = 0; i < 22; i++)
+        expect(bulgefs_undo(image, sizeof image, journal, sizeof journal).number == 0, "put: undo");
+    expect(memcmp(image, before, sizeof image) == 0, "put: as it was");
+}
+
 /* The largest image and the longest journal. */
 static void largest(void)
 {
@@ -1121,6 +1242,7 @@ int main(void)
     lists();
     reader();
     pieces();
+    settings();
     largest();
     printf("%lu passed, %lu failed\n", passed, failed);
     return failed == 0 ? 0 : 1;

@@ -149,6 +149,28 @@ static void salvage_broken(void)
     number = number == 0 ? bulgefs_check(image, image_len) : number;
 }
 
+static const uint8_t serial[] = "SN4471";
+
+static void put_settings(void)
+{
+    number = bulgefs_put_settings(image, image_len, journal, journal_len, serial, 6, data, 200, 4)
+                 .number;
+}
+
+static void get_settings(void)
+{
+    static uint8_t buffer[BULGEFS_MAX_SETTINGS];
+    bulgefs_got g = bulgefs_get_settings(image, image_len, serial, 6, 1, buffer, sizeof buffer);
+    number = g.length == 200 ? g.number : 99;
+}
+
+static void get_latest_settings(void)
+{
+    static uint8_t buffer[BULGEFS_MAX_SETTINGS];
+    bulgefs_got g = bulgefs_get_latest_settings(image, image_len, serial, 6, buffer, sizeof buffer);
+    number = g.revision == 2 ? g.number : 99;
+}
+
 static void delete(void)
 {
     number = bulgefs_delete(image, image_len, journal, journal_len, path, 2).number;
@@ -166,6 +188,8 @@ static const struct {
     {"set_attributes", set_attributes}, {"set_attributes again", set_attributes},
     {"read_attributes", read_attributes}, {"clear_attributes", clear_attributes}, {"undo", undo},
     {"clear_flags", clear_flags}, {"undo", undo},
+    {"put_settings", put_settings}, {"put_settings again", put_settings},
+    {"get_settings", get_settings}, {"get_latest_settings", get_latest_settings},
     {"salvage", salvage}, {"salvage, broken", salvage_broken},
     {"delete", delete}, {"undo", undo},
 };

@@ -56,6 +56,10 @@ static void journals(void)
     expect(BULGEFS_ATTRIBUTES_BLOCKS(BULGEFS_MAX_ATTRIBUTE_BLOCKS, 8u) == 34u
                && BULGEFS_ATTRIBUTES_BLOCKS(0u, 1u) == 4u,
            "BULGEFS_ATTRIBUTES_BLOCKS");
+    expect(BULGEFS_SETTINGS_SIZE(BULGEFS_MAX_REVISIONS, BULGEFS_MAX_SETTINGS) == 3285u,
+           "BULGEFS_SETTINGS_SIZE");
+    expect(BULGEFS_PUT_BLOCKS(BULGEFS_FILE_BLOCKS(3285u)) == 11u, "BULGEFS_PUT_BLOCKS");
+    expect(BULGEFS_MAX_SERIAL == 16u, "BULGEFS_MAX_SERIAL");
     expect(BULGEFS_JOURNAL_SIZE(2u, 1u) == 1045u, "BULGEFS_JOURNAL_SIZE");
 }
 
@@ -63,7 +67,7 @@ static void texts(void)
 {
     uint32_t number;
     for (number = 0; number <= 30u; number++) {
-        int named = number <= 21u || number == 26u;
+        int named = number <= 26u;
         int known = strcmp(bulgefs_text(number), bulgefs_text(4294967295u)) != 0;
         expect(named == known, "bulgefs_text does not know just the numbers that are given");
     }
@@ -76,10 +80,11 @@ static void answers(void)
     expect(sizeof(bulgefs_filled) == 8 && sizeof(bulgefs_part) == 8, "filled, part");
     expect(sizeof(bulgefs_created) == 12 && sizeof(bulgefs_changed) == 8, "created, changed");
     expect(sizeof(bulgefs_listed) == 8, "listed");
+    expect(sizeof(bulgefs_put) == 12 && sizeof(bulgefs_got) == 12, "put, got");
     expect(sizeof(bulgefs_volume) == 20 && sizeof(bulgefs_slot) == 56, "volume, slot");
     expect(BULGEFS_LABELS_SIZE == sizeof(bulgefs_uuid) + BULGEFS_VOLUME_NAME_SIZE,
            "BULGEFS_LABELS_SIZE");
-    expect(BULGEFS_VERSION >= 1000u && strlen(BULGEFS_VERSION_TEXT) >= 5, "version");
+    expect(BULGEFS_VERSION >= 1200u && strlen(BULGEFS_VERSION_TEXT) >= 5, "version");
     expect(BULGEFS_MAX_REPORT == BULGEFS_SLOTS_PER_BLOCK * BULGEFS_MAX_DIRECTORY_BLOCKS,
            "BULGEFS_MAX_REPORT");
     expect(BULGEFS_KEPT == 0 && BULGEFS_ENTRY_LOST == 1 && BULGEFS_FILE_LOST == 2

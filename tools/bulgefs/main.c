@@ -35,6 +35,14 @@ static const command commands[] = {
       "Says how many blocks of attributes a file has; gets them as FILE (- is standard\n"
       "output), sets them from FILE (- is standard input; zeros fill the last block),\n"
       "or takes them away." },
+    { "settings", command_settings, "VOLUME SERIAL [put FILE|get FILE [REVISION]]",
+      "Settings of a box by its serial number, 1 to 16 letters and digits.  Says the number\n"
+      "of the latest revision; puts the bytes of FILE (- is standard input), at most 200, as a\n"
+      "new one; gets the latest or another as FILE (- is standard output).  The last 16\n"
+      "revisions stand, in the file of that name in the root." },
+    { "history", command_history, "VOLUME SERIAL",
+      "Lists the revisions of a box's settings that stand, oldest first: their numbers, their\n"
+      "lengths, and their bytes as text, or as hexadecimal digits where they are none." },
     { "start", command_start, "VOLUME [--journal BYTES]",
       "Begins the journal anew: what was done before can not be taken back any more.\n"
       "--journal gives it another length." },
@@ -68,7 +76,7 @@ static void help(void)
     puts("Usage: bulgefs [-j JOURNAL] [--json] COMMAND VOLUME [ARGUMENTS]\n"
          "\n"
          "The journal is VOLUME.journal unless -j names another.  --json is for ls, info,\n"
-         "check, log, salvage, map and diff.  `bulgefs COMMAND --help` says more.\n");
+         "check, history, log, salvage, map and diff.  `bulgefs COMMAND --help` says more.\n");
     for (int i = 0; i < COMMANDS; i++) printf("  %s %s\n", commands[i].name, commands[i].arguments);
     puts("\n"
          "A path is / and names with / between.  Exit status: 0 done, 1 refused or not\n"

@@ -227,10 +227,12 @@ int command_rm(int argc, char **argv, const options *);
 int command_mkdir(int argc, char **argv, const options *);
 int command_rmdir(int argc, char **argv, const options *);
 int command_attr(int argc, char **argv, const options *);
+int command_settings(int argc, char **argv, const options *);
 int command_log(int argc, char **argv, const options *);
 int command_back(int argc, char **argv, const options *);
 int command_salvage(int argc, char **argv, const options *);
 
+int command_history(int argc, char **argv, const options *);
 int command_ls(int argc, char **argv, const options *);
 int command_info(int argc, char **argv, const options *);
 int command_check(int argc, char **argv, const options *);

@@ -7,7 +7,7 @@ use Rattle.layout.specs.Geometry.{blockCount}
 use Rattle.layout.specs.Check.{check}
 use Rattle.layout.specs.Directory.{sizeOf, isFile}
 use Rattle.layout.specs.Paths.{fileRefusal, entryOf}
-use Rattle.volume.specs.Change.{Change, write, refusal}
+use Rattle.store.specs.Change.{Change, write, refusal}
 use Rattle.journal.specs.Journal.{wellFormed}
 use Rattle.journal.specs.Run.{State, Answer, changed, changeRefusal, afterChange, changeAnswer}
 

@@ -5,7 +5,7 @@ use mathlib.Core.List.{List, [], _∷_, _++_}
 use mathlib.Core.Path.{_≡_}
 use Rattle.layout.specs.Limits.{minJournal, maxJournal}
 use Rattle.layout.specs.Check.{check}
-use Rattle.volume.specs.Change.{Change}
+use Rattle.store.specs.Change.{Change}
 use Rattle.journal.specs.Journal.{started}
 use Rattle.journal.specs.Run.{Call, change, Answer, State, step, answer, run}
 use Rattle.journal.specs.Replay.{replayed, standing, replayAnswer}

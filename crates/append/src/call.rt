@@ -2,12 +2,13 @@
 ghost use mathlib.Core.Path.{_≡_};
 ghost use mathlib.Core.List.{[]};
 ghost use Rattle.layout.specs.Check.{check};
-ghost use Rattle.volume.specs.Change.{write, refusal};
+ghost use Rattle.store.specs.Change.{write, refusal};
 ghost use Rattle.journal.specs.Run.{changed, state};
 ghost use Rattle.journal.specs.Answers.{changedAnswer, ChangeNumbered};
 ghost use Rattle.append.specs.Append.{fileEnd, appendAnswer, afterAppend};
 use journal::calls::Changed;
-use volume::change::Change;
+use store::change::Change;
+use volume::change::Change as VolumeChange;
 
 // Where the file of a path ends; 0 if there is none.
 fn file_end(image: &[u8], path: &[u8]) -> usize
@@ -23,11 +24,11 @@ fn append_nothing(image: &[u8], path: &[u8], offset: usize, time: u64) -> Change
     ensures answer { λ r. ⌜ changedAnswer r ≡ changed (refusal (now (image .entry)) (write (now (path .entry)) offset [] time)) 0 0 ⌝ }
     ensures numbered { λ r. ⌜ ChangeNumbered r ⌝ }
 {
-    let what = Change::Write {
+    let what = VolumeChange::Write {
         offset: offset,
         time: time,
     };
-    let number = volume::change::refusal(image, what, path, b"").number;
+    let number = store::change::refusal(image, Change::Volume(what), path, b"").number;
     if number != 0 {
         return Changed::Refused(number);
     }
@@ -48,9 +49,9 @@ pub fn append(image: &mut [u8], journal: &mut [u8], path: &[u8], piece: &[u8], t
     if piece.len() == 0 {
         return append_nothing(image, path, end, time);
     }
-    let what = Change::Write {
+    let what = VolumeChange::Write {
         offset: end,
         time: time,
     };
-    journal::calls::change_ready(image, journal, what, path, piece)
+    journal::calls::change_ready(image, journal, Change::Volume(what), path, piece)
 }

@@ -3,7 +3,7 @@ use Prim.Native.Nat.{ℕ, zero, suc}
 use mathlib.Core.Path.{_≡_, refl, sym, ap, _∙_}
 use native.Mathlib.Omega.{arith}
 use lib.ListN.{length}
-use Rattle.volume.specs.Change.{Change, slotGiven}
+use Rattle.store.specs.Change.{Change, slotGiven}
 use Rattle.journal.specs.Run.{State, Answer, changed, changeRefusal, changeAnswer, recordOf}
 use Rattle.journal.specs.Answers.{changedAnswer, undoneAnswer}
 use Rattle.journal.specs.declared.calls.Changed.{Changed}

@@ -8,7 +8,7 @@ use lib.ListN.{length, getD}
 use Rattle.layout.specs.Limits.{minJournal, maxJournal}
 use Rattle.layout.specs.Geometry.{blockCount}
 use Rattle.layout.specs.Check.{check}
-use Rattle.volume.specs.Change.{Change}
+use Rattle.store.specs.Change.{Change}
 use Rattle.journal.specs.Journal.{started}
 use Rattle.journal.specs.Run.{Call, Answer, State, state, step, answer}
 use Rattle.journal.specs.Replay.{replayed, standingAfter, replayAnswer}

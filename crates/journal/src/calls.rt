@@ -1,11 +1,12 @@
 // The calls that are lent a journal. Each checks the image and scans the journal once.
 ghost use mathlib.Core.Path.{_≡_};
-ghost use Rattle.volume.specs.Change.{create, write, delete, createDirectory, deleteDirectory, setAttributes, clearAttributes, clearFlags};
-ghost use Rattle.volume.specs.Asked.{asked};
+ghost use Rattle.store.specs.Change.{create, write, delete, createDirectory, deleteDirectory, setAttributes, clearAttributes, clearFlags, put};
+ghost use Rattle.store.specs.Asked.{asked};
 ghost use Rattle.journal.specs.Run.{afterUndo, undoAnswer, afterChange, changeAnswer, state};
 ghost use Rattle.journal.specs.Walks.Changes.{Inspects, Ready, readyRefusal};
 ghost use Rattle.journal.specs.Answers.{changedAnswer, undoneAnswer, ChangeNumbered, UndoNumbered};
-use volume::change::Change;
+use store::change::Change;
+use volume::change::Change as VolumeChange;
 
 // What undo gives: the length of the record taken back, or the number of the refusal.
 pub enum Undone {
@@ -13,7 +14,7 @@ pub enum Undone {
     Refused(u32),
 }
 
-// What a change gives: the slot of a create, of a directory too (0 for the others), and the length of the record added, or the number of the refusal.
+// What a change gives: the slot of a create, of a directory too, or the revision of a put (0 for the others), and the length of the record added, or the number of the refusal.
 pub enum Changed {
     Done { slot: u32, size: u32 },
     Refused(u32),
@@ -88,7 +89,7 @@ pub fn change_ready(
     ensures state { λ _. ⌜ state (now (image .exit)) (now (journal .exit)) ≡ afterChange (state (now (image .entry)) (now (journal .entry))) (asked what (now (path .entry)) (now (bytes .entry))) ⌝ }
     ensures numbered { λ r. ⌜ ChangeNumbered r ⌝ }
 {
-    let found = volume::change::refusal(image, what, path, bytes);
+    let found = store::change::refusal(image, what, path, bytes);
     let refusal = found.number;
     if refusal != 0 {
         return Changed::Refused(refusal);
@@ -97,7 +98,7 @@ pub fn change_ready(
     if size == 0 {
         return Changed::Refused(15);
     }
-    let slot = volume::change::make(image, what, path, bytes, found);
+    let slot = store::change::make(image, what, path, bytes, found);
     Changed::Done {
         slot: slot,
         size: size,
@@ -139,7 +140,7 @@ pub fn create(
     ensures state { λ _. ⌜ state (now (image .exit)) (now (journal .exit)) ≡ afterChange (state (now (image .entry)) (now (journal .entry))) (create (now (path .entry)) kind user group permissions flags time) ⌝ }
     ensures numbered { λ r. ⌜ ChangeNumbered r ⌝ }
 {
-    let what = Change::Create {
+    let what = VolumeChange::Create {
         kind: kind,
         user: user,
         group: group,
@@ -147,7 +148,7 @@ pub fn create(
         flags: flags,
         time: time,
     };
-    change(image, journal, what, path, b"")
+    change(image, journal, Change::Volume(what), path, b"")
 }
 
 // Write: puts data at an offset of a file.
@@ -163,11 +164,11 @@ pub fn write(
     ensures state { λ _. ⌜ state (now (image .exit)) (now (journal .exit)) ≡ afterChange (state (now (image .entry)) (now (journal .entry))) (write (now (path .entry)) offset (now (bytes .entry)) time) ⌝ }
     ensures numbered { λ r. ⌜ ChangeNumbered r ⌝ }
 {
-    let what = Change::Write {
+    let what = VolumeChange::Write {
         offset: offset,
         time: time,
     };
-    change(image, journal, what, path, bytes)
+    change(image, journal, Change::Volume(what), path, bytes)
 }
 
 // Delete: frees a file's blocks and its slot.
@@ -176,7 +177,13 @@ pub fn delete(image: &mut [u8], journal: &mut [u8], path: &[u8]) -> Changed
     ensures state { λ _. ⌜ state (now (image .exit)) (now (journal .exit)) ≡ afterChange (state (now (image .entry)) (now (journal .entry))) (delete (now (path .entry))) ⌝ }
     ensures numbered { λ r. ⌜ ChangeNumbered r ⌝ }
 {
-    change(image, journal, Change::Delete, path, b"")
+    change(
+        image,
+        journal,
+        Change::Volume(VolumeChange::Delete),
+        path,
+        b"",
+    )
 }
 
 // Create directory: a new empty directory of so many blocks, its entry in the lowest free slot.
@@ -196,7 +203,7 @@ pub fn create_directory(
     ensures state { λ _. ⌜ state (now (image .exit)) (now (journal .exit)) ≡ afterChange (state (now (image .entry)) (now (journal .entry))) (createDirectory (now (path .entry)) kind user group permissions flags time blocks) ⌝ }
     ensures numbered { λ r. ⌜ ChangeNumbered r ⌝ }
 {
-    let what = Change::CreateDirectory {
+    let what = VolumeChange::CreateDirectory {
         kind: kind,
         user: user,
         group: group,
@@ -205,7 +212,7 @@ pub fn create_directory(
         blocks: blocks,
         time: time,
     };
-    change(image, journal, what, path, b"")
+    change(image, journal, Change::Volume(what), path, b"")
 }
 
 // Delete directory: frees an empty directory's blocks and its slot.
@@ -214,7 +221,13 @@ pub fn delete_directory(image: &mut [u8], journal: &mut [u8], path: &[u8]) -> Ch
     ensures state { λ _. ⌜ state (now (image .exit)) (now (journal .exit)) ≡ afterChange (state (now (image .entry)) (now (journal .entry))) (deleteDirectory (now (path .entry))) ⌝ }
     ensures numbered { λ r. ⌜ ChangeNumbered r ⌝ }
 {
-    change(image, journal, Change::DeleteDirectory, path, b"")
+    change(
+        image,
+        journal,
+        Change::Volume(VolumeChange::DeleteDirectory),
+        path,
+        b"",
+    )
 }
 
 // Set attributes: puts whole blocks of data beside a file, in place of those that it has.
@@ -223,7 +236,13 @@ pub fn set_attributes(image: &mut [u8], journal: &mut [u8], path: &[u8], bytes: 
     ensures state { λ _. ⌜ state (now (image .exit)) (now (journal .exit)) ≡ afterChange (state (now (image .entry)) (now (journal .entry))) (setAttributes (now (path .entry)) (now (bytes .entry))) ⌝ }
     ensures numbered { λ r. ⌜ ChangeNumbered r ⌝ }
 {
-    change(image, journal, Change::SetAttributes, path, bytes)
+    change(
+        image,
+        journal,
+        Change::Volume(VolumeChange::SetAttributes),
+        path,
+        bytes,
+    )
 }
 
 // Clear attributes: frees the blocks of a file's attributes.
@@ -232,7 +251,13 @@ pub fn clear_attributes(image: &mut [u8], journal: &mut [u8], path: &[u8]) -> Ch
     ensures state { λ _. ⌜ state (now (image .exit)) (now (journal .exit)) ≡ afterChange (state (now (image .entry)) (now (journal .entry))) (clearAttributes (now (path .entry))) ⌝ }
     ensures numbered { λ r. ⌜ ChangeNumbered r ⌝ }
 {
-    change(image, journal, Change::ClearAttributes, path, b"")
+    change(
+        image,
+        journal,
+        Change::Volume(VolumeChange::ClearAttributes),
+        path,
+        b"",
+    )
 }
 
 // Clear flags: sets a file's system flags to 0.
@@ -241,5 +266,26 @@ pub fn clear_flags(image: &mut [u8], journal: &mut [u8], path: &[u8]) -> Changed
     ensures state { λ _. ⌜ state (now (image .exit)) (now (journal .exit)) ≡ afterChange (state (now (image .entry)) (now (journal .entry))) (clearFlags (now (path .entry))) ⌝ }
     ensures numbered { λ r. ⌜ ChangeNumbered r ⌝ }
 {
-    change(image, journal, Change::ClearFlags, path, b"")
+    change(
+        image,
+        journal,
+        Change::Volume(VolumeChange::ClearFlags),
+        path,
+        b"",
+    )
+}
+
+// Put settings: adds a revision to the settings of a serial number; the slot of its answer is the revision's number.
+pub fn put_settings(
+    image: &mut [u8],
+    journal: &mut [u8],
+    serial: &[u8],
+    bytes: &[u8],
+    time: u64,
+) -> Changed
+    ensures answer { λ r. ⌜ changedAnswer r ≡ changeAnswer (state (now (image .entry)) (now (journal .entry))) (put (now (serial .entry)) time (now (bytes .entry))) ⌝ }
+    ensures state { λ _. ⌜ state (now (image .exit)) (now (journal .exit)) ≡ afterChange (state (now (image .entry)) (now (journal .entry))) (put (now (serial .entry)) time (now (bytes .entry))) ⌝ }
+    ensures numbered { λ r. ⌜ ChangeNumbered r ⌝ }
+{
+    change(image, journal, Change::Put { time: time }, serial, bytes)
 }

@@ -5,15 +5,15 @@ ghost use lib.ListN.{length};
 ghost use Rattle.layout.specs.Limits.{smallBlocks};
 ghost use Rattle.layout.specs.Bytes.{zeros};
 ghost use Rattle.layout.specs.Geometry.{blockCount};
-ghost use Rattle.volume.specs.Change.{refusal};
-ghost use Rattle.volume.specs.Asked.{asked};
-ghost use Rattle.volume.specs.Walks.Targets.{Target};
+ghost use Rattle.store.specs.Change.{refusal};
+ghost use Rattle.store.specs.Asked.{asked};
+ghost use Rattle.store.specs.Walks.Targets.{Target};
 ghost use Rattle.journal.specs.Run.{recordOf, state};
 ghost use Rattle.journal.specs.Walks.Changes.{Ready, Recorded};
 use super::recording::record_marked;
 use layout::file::File;
 use layout::limits::SMALL_BLOCKS;
-use volume::change::Change;
+use store::change::Change;
 
 // Records an accepted change, with marks for all blocks, none marked; gives the length of its record, or 0 if the journal has no room for it.
 fn record_with(
@@ -28,7 +28,7 @@ fn record_with(
     requires { ⌜ (Ready (now image) (now journal)) × (refusal (now image) (asked what (now name) (now bytes)) ≡ 0) × (Target (now image) (asked what (now name) (now bytes)) (found .slot) (found .block) (found .first) (found .size) (found .blocks)) × (blockCount (now image) ≤ length (now marks)) × (now marks ≡ zeros (length (now marks))) ⌝ }
     ensures { λ r. ⌜ Recorded (now (journal .entry)) (recordOf (state (now (image .entry)) (now (journal .entry))) (asked what (now (name .entry)) (now (bytes .entry)))) r (now (journal .exit)) ⌝ }
 {
-    volume::change::mark_named(image, what, name, bytes, found, marks);
+    store::change::mark_named(image, what, name, bytes, found, marks);
     record_marked(image, journal, marks)
 }
 

@@ -4,16 +4,17 @@
 use Prim.Native.Nat.{ℕ, _+_, _-_, _*_, _/_, _%_, _≤_}
 use mathlib.Core.Path.{_≡_}
 use mathlib.Core.List.{List, [], _∷_, _++_, map}
-use mathlib.Core.Bool.{Bool, _&&_, cond}
+use mathlib.Core.Bool.{Bool, not, _&&_, cond}
 use lib.ListN.{length, getD}
 use lib.Dec.{eqb, leb}
 use Rattle.layout.specs.Lists.{within, every, joined}
 use Rattle.layout.specs.Bytes.{be32, be64, bytes4, zeros, part, splice}
 use Rattle.layout.specs.Check.{check}
 use Rattle.layout.specs.Looks.{VolumeAnswer, EntryAnswer}
-use Rattle.volume.specs.Change.{Change, create, write, delete, createDirectory, deleteDirectory, setAttributes, clearAttributes, clearFlags}
+use Rattle.store.specs.Change.{Change, create, write, delete, createDirectory, deleteDirectory, setAttributes, clearAttributes, clearFlags, put}
+use Rattle.store.specs.Get.{Which, theLatest, theNumber}
 use Rattle.journal.specs.Journal.{recordsFrom, started, startRefusal}
-use Rattle.journal.specs.Run.{Look, checkImage, findFile, readFile, lookAt, readAttributesOf, showVolume, showEntry, Call, change, undo, look, Answer, changed, undone, checked, found, filled, shown, described, entered, State, state}
+use Rattle.journal.specs.Run.{Look, checkImage, findFile, readFile, lookAt, readAttributesOf, getSettings, showVolume, showEntry, Call, change, undo, look, Answer, changed, undone, checked, found, filled, shown, got, described, entered, State, state}
 use Rattle.journal.specs.Replay.{replayed}
 use Rattle.write_list.specs.Runs.{ListCall, call, list, ListAnswer, answered, stopped, listRun, listAnswers, listStanding, listReplayAnswers}
 
@@ -43,9 +44,10 @@ Fits s at = at + itemSize s at ≤ length s
 -- Ops: 1 check, 2 look up, 3 read (the data is its buffer as it is before the call), 4 look in place (the offset is its index), 5 create, 6 write,
 -- 7 delete, 8 undo, 9 create directory (its number of blocks is in the last four bytes of the offset), 10 delete directory, 11 set attributes,
 -- 12 clear attributes, 13 read attributes (the data is its buffer, as for read), 14 clear flags, 15 write list (the data is the list), 16 the volume's
--- numbers, 17 an entry of the directory of the name (the offset is the slot to begin with); in both the data is the buffer.
+-- numbers, 17 an entry of the directory of the name (the offset is the slot to begin with), 18 put settings (the name is the serial number, the data the
+-- settings), 19 get settings (the revision is in the last four bytes of the offset), 20 get latest settings; in 16, 17, 19 and 20 the data is the buffer.
 abbrev pub lastOp : ℕ
-lastOp = 17
+lastOp = 20
 
 unfoldable pub changeAt : List ℕ → ℕ → Change
 changeAt s at =
@@ -62,7 +64,8 @@ changeAt s at =
     (cond (eqb (opAt s at) 10) (deleteDirectory name)
     (cond (eqb (opAt s at) 11) (setAttributes name (dataAt s at))
     (cond (eqb (opAt s at) 12) (clearAttributes name)
-    (cond (eqb (opAt s at) 14) (clearFlags name) (delete name)))))))
+    (cond (eqb (opAt s at) 14) (clearFlags name)
+    (cond (eqb (opAt s at) 18) (put name time (dataAt s at)) (delete name))))))))
 
 unfoldable pub callAt : List ℕ → ℕ → Call
 callAt s at =
@@ -75,11 +78,20 @@ callAt s at =
     (cond (eqb (opAt s at) 13) (look (readAttributesOf name (dataAt s at)))
     (cond (eqb (opAt s at) 8) undo (change (changeAt s at)))))))
 
+-- the looks from op 16 on
+abbrev pub shows : ℕ → Bool
+shows op = not (eqb op 18) && leb 16 op
+
+unfoldable pub whichAt : List ℕ → ℕ → Which
+whichAt s at = cond (eqb (opAt s at) 19) (theNumber (be32 s (at + 13))) theLatest
+
 unfoldable pub showAt : List ℕ → ℕ → Look
-showAt s at = cond (eqb (opAt s at) 16) (showVolume (dataAt s at)) (showEntry (nameAt s at) (be64 s (at + 9)) (dataAt s at))
+showAt s at =
+    cond (eqb (opAt s at) 16) (showVolume (dataAt s at))
+    (cond (eqb (opAt s at) 17) (showEntry (nameAt s at) (be64 s (at + 9)) (dataAt s at)) (getSettings (nameAt s at) (whichAt s at) (dataAt s at)))
 
 unfoldable pub itemCall : List ℕ → ℕ → ListCall
-itemCall s at = cond (eqb (opAt s at) 15) (list (dataAt s at)) (cond (leb 16 (opAt s at)) (call (look (showAt s at))) (call (callAt s at)))
+itemCall s at = cond (eqb (opAt s at) 15) (list (dataAt s at)) (cond (shows (opAt s at)) (call (look (showAt s at))) (call (callAt s at)))
 
 -- an item that is not cut off, with a known op
 unfoldable pub itemOk : List ℕ → ℕ → Bool
@@ -116,6 +128,7 @@ encoded (checked number) = numbers number 0 0 0
 encoded (found a) = numbers (a .number) (a .slot) (a .size) (a .blocks)
 encoded (filled a) = numbers (a .number) (a .count) 0 0 ++ (a .buffer)
 encoded (shown x bytes) = numbers (x .start) (x .size) 0 0 ++ (bytes ++ zeros (512 - length bytes))
+encoded (got a) = numbers (a .number) (a .revision) (a .size) 0 ++ (a .buffer)
 encoded (described a) = volumeHead a ++ (a .buffer)
 encoded (entered a) = entryHead a ++ (a .buffer)
 
@@ -132,6 +145,7 @@ answerSize (look (findFile name)) = 16
 answerSize (look (readFile name offset buffer)) = 16 + length buffer
 answerSize (look (lookAt name i)) = 16 + 512
 answerSize (look (readAttributesOf name buffer)) = 16 + length buffer
+answerSize (look (getSettings serial which buffer)) = 16 + length buffer
 answerSize (look (showVolume buffer)) = 32 + length buffer
 answerSize (look (showEntry name start buffer)) = 64 + length buffer
 

@@ -1,12 +1,12 @@
 // Scripts of calls: the fields of an item, the form of a script, and the length of its answers.
 ghost use mathlib.Core.Path.{_≡_};
-ghost use mathlib.Core.Bool.{true, cond};
+ghost use mathlib.Core.Bool.{true, false};
 ghost use Prim.Native.Nat.{_+_, _≤_, _<_};
 ghost use lib.ListN.{length};
-ghost use lib.Dec.{eqb, leb};
+ghost use lib.Dec.{leb};
 ghost use Rattle.layout.specs.Lists.{every};
-ghost use Rattle.script.specs.Script.{Fits, opAt, nameAt, dataAt, itemSize, itemCall, itemOk, itemsFrom, callsOf, itemRoom, answersSize};
-ghost use Rattle.script.specs.Walks.Scripts.{fills};
+ghost use Rattle.script.specs.Script.{Fits, opAt, shows, nameAt, dataAt, itemSize, itemCall, itemOk, itemsFrom, callsOf, itemRoom, answersSize};
+ghost use Rattle.script.specs.Walks.Scripts.{fills, headSize};
 use layout::number::get32;
 
 // The length of the item at `at`, whose header is there.
@@ -54,7 +54,7 @@ fn item_ok(script: &[u8], at: usize) -> bool
     if script[at] < 1 {
         return false;
     }
-    script[at] <= 17
+    script[at] <= 20
 }
 
 // Whether an op fills a buffer: read, and read attributes.
@@ -67,9 +67,19 @@ pub fn fills(op: u8) -> bool
     op == 3
 }
 
-// The length of the answer to the item at `at`, whose op is below 16.
+// Whether an op is a look from 16 on: all but put settings.
+pub fn shows(op: u8) -> bool
+    ensures { λ r. ⌜ r ≡ shows op ⌝ }
+{
+    if op == 18 {
+        return false;
+    }
+    16 <= op
+}
+
+// The length of the answer to the item at `at`, which is no look from op 16 on.
 fn plain_size(script: &[u8], at: usize) -> usize
-    requires { ⌜ (Fits (now script) at) × (opAt (now script) at < 16) ⌝ }
+    requires { ⌜ (Fits (now script) at) × (shows (opAt (now script) at) ≡ false) ⌝ }
     ensures { λ r. ⌜ r ≡ itemRoom (itemCall (now (script .entry)) at) ⌝ }
 {
     if fills(script[at]) {
@@ -81,14 +91,17 @@ fn plain_size(script: &[u8], at: usize) -> usize
     16
 }
 
-// The length of the numbers in the answer of op 16 or 17.
+// The length of the numbers in the answer of a look from op 16 on.
 fn head_size(op: u8) -> usize
-    ensures { λ r. ⌜ r ≡ cond (eqb op 16) 32 64 ⌝ }
+    ensures { λ r. ⌜ r ≡ headSize op ⌝ }
 {
     if op == 16 {
         return 32;
     }
-    64
+    if op == 17 {
+        return 64;
+    }
+    16
 }
 
 // The length of the answer to the item at `at`.
@@ -96,7 +109,7 @@ pub fn answer_size(script: &[u8], at: usize) -> usize
     requires { ⌜ Fits (now script) at ⌝ }
     ensures { λ r. ⌜ r ≡ itemRoom (itemCall (now (script .entry)) at) ⌝ }
 {
-    if 16 <= script[at] {
+    if shows(script[at]) {
         return head_size(script[at]) + get32(script, at + 29) as usize;
     }
     plain_size(script, at)

@@ -3,3 +3,4 @@ mod answers;
 mod items;
 mod overview;
 pub mod runner;
+mod settings;

@@ -165,7 +165,7 @@ fn entry(script: &[u8], at: usize, image: &[u8], part: &mut [u8])
     put_entry(&mut part[z..a], v);
 }
 
-// Make the look of the item at `at`, whose op is 16 or 17.
+// Make the look of the item at `at`, whose op is 16 or more.
 pub fn show(script: &[u8], at: usize, image: &[u8], part: &mut [u8])
     requires { ⌜ (Fits (now script) at) × (length (now part) ≡ answerSize (look (showAt (now script) at))) ⌝ }
     ensures { λ _. ⌜ now (part .exit) ≡ encoded (lookAnswer (now (image .entry)) (showAt (now (script .entry)) at)) ⌝ }
@@ -174,5 +174,9 @@ pub fn show(script: &[u8], at: usize, image: &[u8], part: &mut [u8])
         info(script, at, image, part);
         return;
     }
-    entry(script, at, image, part);
+    if script[at] == 17 {
+        entry(script, at, image, part);
+        return;
+    }
+    super::settings::get(script, at, image, part);
 }

@@ -10,15 +10,16 @@ ghost use Rattle.journal.specs.Run.{undo, answer, state};
 ghost use Rattle.write_list.specs.Runs.{listRun, listAnswers};
 ghost use Rattle.journal.specs.Answers.{changedAnswer, undoneAnswer};
 ghost use Rattle.script.specs.Answers.{ranStatus};
-ghost use Rattle.volume.specs.Asked.{asked};
-ghost use Rattle.volume.specs.Change.{createDirectory};
-ghost use Rattle.script.specs.Script.{numbers, lastOp, Fits, nameAt, dataAt, opAt, changeAt, callAt, itemCall, encoded, encodedItem, itemOk, itemsFrom, callsOf, answersSize, leaves, outcome, replayOutcome, JustStarted};
+ghost use Rattle.store.specs.Asked.{asked};
+ghost use Rattle.store.specs.Change.{create, createDirectory};
+ghost use Rattle.script.specs.Script.{numbers, Fits, nameAt, dataAt, opAt, shows, changeAt, callAt, itemCall, encoded, encodedItem, itemOk, itemsFrom, callsOf, answersSize, leaves, outcome, replayOutcome, JustStarted};
 ghost use Rattle.script.specs.Walks.Scripts.{looks, Item, Whole, CallDone, ItemDone};
 use super::answers::Numbers;
 use super::items::data_of;
 use super::items::name_of;
 use layout::number::get64;
-use volume::change::Change;
+use store::change::Change;
+use volume::change::Change as VolumeChange;
 
 // The numbers of a change's answer.
 fn changed_numbers(c: journal::calls::Changed) -> Numbers
@@ -60,13 +61,29 @@ fn undone_numbers(u: journal::calls::Undone) -> Numbers
     }
 }
 
+// The file that the item at `at` asks to create.
+fn file_of(script: &[u8], at: usize, time: u64) -> Change
+    requires { ⌜ Fits (now script) at ⌝ }
+    ensures { λ r. ⌜ asked r (nameAt (now (script .entry)) at) (dataAt (now (script .entry)) at)
+        ≡ create (nameAt (now (script .entry)) at) (getD (now (script .entry)) (at + 1) 0) (getD (now (script .entry)) (at + 2) 0) (getD (now (script .entry)) (at + 3) 0) (getD (now (script .entry)) (at + 4) 0) (be32 (now (script .entry)) (at + 5)) time ⌝ }
+{
+    Change::Volume(VolumeChange::Create {
+        kind: script[at + 1],
+        user: script[at + 2],
+        group: script[at + 3],
+        permissions: script[at + 4],
+        flags: layout::number::get32(script, at + 5),
+        time: time,
+    })
+}
+
 // The directory that the item at `at` asks to create.
 fn directory_of(script: &[u8], at: usize, time: u64) -> Change
     requires { ⌜ Fits (now script) at ⌝ }
     ensures { λ r. ⌜ asked r (nameAt (now (script .entry)) at) (dataAt (now (script .entry)) at)
         ≡ createDirectory (nameAt (now (script .entry)) at) (getD (now (script .entry)) (at + 1) 0) (getD (now (script .entry)) (at + 2) 0) (getD (now (script .entry)) (at + 3) 0) (getD (now (script .entry)) (at + 4) 0) (be32 (now (script .entry)) (at + 5)) time (be32 (now (script .entry)) (at + 13)) ⌝ }
 {
-    Change::CreateDirectory {
+    Change::Volume(VolumeChange::CreateDirectory {
         kind: script[at + 1],
         user: script[at + 2],
         group: script[at + 3],
@@ -74,7 +91,7 @@ fn directory_of(script: &[u8], at: usize, time: u64) -> Change
         flags: layout::number::get32(script, at + 5),
         blocks: layout::number::get32(script, at + 13),
         time: time,
-    }
+    })
 }
 
 // The change that the item at `at` asks for.
@@ -85,37 +102,33 @@ fn change_of(script: &[u8], at: usize) -> Change
     let op = script[at];
     let time = get64(script, at + 17);
     if op == 5 {
-        return Change::Create {
-            kind: script[at + 1],
-            user: script[at + 2],
-            group: script[at + 3],
-            permissions: script[at + 4],
-            flags: layout::number::get32(script, at + 5),
-            time: time,
-        };
+        return file_of(script, at, time);
     }
     if op == 6 {
-        return Change::Write {
+        return Change::Volume(VolumeChange::Write {
             offset: get64(script, at + 9) as usize,
             time: time,
-        };
+        });
     }
     if op == 9 {
         return directory_of(script, at, time);
     }
     if op == 10 {
-        return Change::DeleteDirectory;
+        return Change::Volume(VolumeChange::DeleteDirectory);
     }
     if op == 11 {
-        return Change::SetAttributes;
+        return Change::Volume(VolumeChange::SetAttributes);
     }
     if op == 12 {
-        return Change::ClearAttributes;
+        return Change::Volume(VolumeChange::ClearAttributes);
     }
     if op == 14 {
-        return Change::ClearFlags;
+        return Change::Volume(VolumeChange::ClearFlags);
     }
-    Change::Delete
+    if op == 18 {
+        return Change::Put { time: time };
+    }
+    Change::Volume(VolumeChange::Delete)
 }
 
 // Undo, with its answer.
@@ -175,7 +188,7 @@ fn is_look(op: u8) -> bool
 
 // Make the call of the item at `at`, which is no list.
 fn make_call(script: &[u8], at: usize, image: &mut [u8], journal: &mut [u8], part: &mut [u8])
-    requires { ⌜ (Item (now script) at (now part)) × (1 ≤ opAt (now script) at) × (opAt (now script) at ≤ lastOp) ⌝ }
+    requires { ⌜ (Item (now script) at (now part)) × (1 ≤ opAt (now script) at) ⌝ }
     ensures { λ _. ⌜ CallDone (state (now (image .entry)) (now (journal .entry))) (callAt (now (script .entry)) at) (now (image .exit)) (now (journal .exit)) (now (part .exit)) ⌝ }
 {
     if is_look(script[at]) {
@@ -203,9 +216,9 @@ fn make_list(script: &[u8], at: usize, image: &mut [u8], journal: &mut [u8], par
     );
 }
 
-// Make the call or write the list of the item at `at`, whose op is below 16.
+// Make the call or write the list of the item at `at`, which is no look from op 16 on.
 fn make_plain(script: &[u8], at: usize, image: &mut [u8], journal: &mut [u8], part: &mut [u8])
-    requires { ⌜ (Whole (now script) at (now part)) × (1 ≤ opAt (now script) at) × (opAt (now script) at < 16) ⌝ }
+    requires { ⌜ (Whole (now script) at (now part)) × (1 ≤ opAt (now script) at) × (shows (opAt (now script) at) ≡ false) ⌝ }
     ensures { λ _. ⌜ ItemDone (state (now (image .entry)) (now (journal .entry))) (itemCall (now (script .entry)) at) (now (image .exit)) (now (journal .exit)) (now (part .exit)) ⌝ }
 {
     if script[at] == 15 {
@@ -217,10 +230,10 @@ fn make_plain(script: &[u8], at: usize, image: &mut [u8], journal: &mut [u8], pa
 
 // Make the call or write the list of the item at `at`.
 fn make(script: &[u8], at: usize, image: &mut [u8], journal: &mut [u8], part: &mut [u8])
-    requires { ⌜ (Whole (now script) at (now part)) × (1 ≤ opAt (now script) at) × (opAt (now script) at ≤ lastOp) ⌝ }
+    requires { ⌜ (Whole (now script) at (now part)) × (1 ≤ opAt (now script) at) ⌝ }
     ensures { λ _. ⌜ ItemDone (state (now (image .entry)) (now (journal .entry))) (itemCall (now (script .entry)) at) (now (image .exit)) (now (journal .exit)) (now (part .exit)) ⌝ }
 {
-    if 16 <= script[at] {
+    if super::items::shows(script[at]) {
         super::overview::show(script, at, image, part);
         return;
     }

@@ -6,7 +6,7 @@ use Rattle.layout.specs.Lists.{interval}
 use Rattle.layout.specs.Bytes.{be32, splice, block}
 use Rattle.layout.specs.Table.{next, setNext}
 use Rattle.layout.specs.Check.{check}
-use Rattle.volume.specs.Change.{Change, delete, setAttributes, clearAttributes, named, refusal, after}
+use Rattle.store.specs.Change.{Change, delete, setAttributes, clearAttributes, named, refusal, after}
 use Rattle.journal.specs.Journal.{used, started, ascending}
 use Rattle.journal.specs.Run.{change, look, readAttributesOf, State, step, answer, lookAnswer}
 use Rattle.tables.proofs.Rules.{rules}

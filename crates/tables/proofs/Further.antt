@@ -10,7 +10,7 @@ use Rattle.layout.specs.Table.{next, setNext}
 use Rattle.layout.specs.Check.{check}
 use Rattle.layout.specs.Listing.{listing}
 use Rattle.volume.specs.Format.{formatRefusal, formatted}
-use Rattle.volume.specs.Change.{create, write, delete, clearFlags, named, refusal, after}
+use Rattle.store.specs.Change.{create, write, delete, clearFlags, named, refusal, after}
 use Rattle.journal.specs.Journal.{started, startRefusal, wellFormed, ascending}
 use Rattle.journal.specs.Run.{Look, change, undo, look, checkImage, findFile, readFile, lookAt, State, step, answer, changeRefusal, undoRefusal}
 use Rattle.tables.proofs.Rules.{rules}

@@ -7,7 +7,7 @@ use Rattle.layout.specs.Directory.{attributeBlocks, attributes}
 use Rattle.layout.specs.Check.{noAttributes}
 use Rattle.layout.specs.Looks.{lookup, read}
 use Rattle.volume.specs.Delete.{allBlocks}
-use Rattle.volume.specs.Change.{Change, create, write, delete, createDirectory, deleteDirectory, refusal, after}
+use Rattle.store.specs.Change.{Change, create, write, delete, createDirectory, deleteDirectory, refusal, after}
 use Rattle.journal.specs.Run.{found, filled}
 use Rattle.tables.proofs.Rules.{rules}
 use Rattle.tables.proofs.Samples.{AsExpected, formattedAs, pattern, inRoot, fileA, createFile, writeA, numbers, samples}

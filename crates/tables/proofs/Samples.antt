@@ -5,8 +5,8 @@ use lib.ListN.{replicate}
 use lib.Dec.{T}
 use Rattle.layout.specs.Lists.{interval, every, same}
 use Rattle.volume.specs.Format.{formatted}
-use Rattle.volume.specs.Change.{Change, create, write}
-use Rattle.journal.specs.Run.{Answer, changed, undone, checked, found, filled, shown, described, entered}
+use Rattle.store.specs.Change.{Change, create, write}
+use Rattle.journal.specs.Run.{Answer, changed, undone, checked, found, filled, shown, got, described, entered}
 
 -- in each row, what the definitions give is what is expected
 abbrev pub AsExpected : List (List ℕ × List ℕ) → Type 0
@@ -47,6 +47,7 @@ numbers (checked number) = number ∷ []
 numbers (found a) = a .number ∷ a .slot ∷ a .size ∷ a .blocks ∷ []
 numbers (filled a) = a .number ∷ a .count ∷ a .buffer
 numbers (shown x bytes) = x .start ∷ x .size ∷ bytes
+numbers (got a) = a .number ∷ a .revision ∷ a .size ∷ a .buffer
 numbers (described a) = a .number ∷ a .blocks ∷ a .used ∷ a .free ∷ a .rootBlocks ∷ a .buffer
 numbers (entered a) =
     a .number ∷ a .slot ∷ a .type ∷ a .user ∷ a .group ∷ a .permissions ∷ a .first ∷ a .size ∷ a .blocks ∷ a .created ∷ a .modified ∷ a .attributeBlock ∷ a .attributeSize ∷ a .flags ∷ a .buffer

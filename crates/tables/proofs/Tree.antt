@@ -9,7 +9,7 @@ use Rattle.layout.specs.Directory.{dirs}
 use Rattle.layout.specs.Check.{check}
 use Rattle.layout.specs.Paths.{fileRefusal}
 use Rattle.layout.specs.Listing.{listing}
-use Rattle.volume.specs.Change.{Change, create, write, delete, createDirectory, deleteDirectory, named, refusal, after}
+use Rattle.store.specs.Change.{Change, create, write, delete, createDirectory, deleteDirectory, named, refusal, after}
 use Rattle.journal.specs.Journal.{started, ascending}
 use Rattle.journal.specs.Run.{change, undo, look, findFile, State, step, answer}
 use Rattle.tables.proofs.Rules.{rules}

@@ -11,7 +11,7 @@ use Rattle.layout.specs.Directory.{slots, root}
 use Rattle.layout.specs.Check.{check}
 use Rattle.layout.specs.Listing.{listing}
 use Rattle.volume.specs.Format.{formatRefusal}
-use Rattle.volume.specs.Change.{named}
+use Rattle.store.specs.Change.{named}
 use Rattle.journal.specs.Journal.{used, started, ascending}
 use Rattle.journal.specs.Run.{change, undo, State, step, answer}
 use Rattle.tables.proofs.Rules.{rules}

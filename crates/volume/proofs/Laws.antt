@@ -4,6 +4,9 @@ pub mod Notes
 pub mod Entries
 pub mod Frame
 pub mod Data
+pub mod Splices
+pub mod Puts
+pub mod Fronts
 pub mod Growth
 pub mod Release
 pub mod Places
@@ -15,6 +18,7 @@ pub mod Flags
 pub mod Delete
 pub mod DeleteDirectory
 pub mod Create
+pub mod Created
 pub mod Taken
 pub mod CreateDirectory
 pub mod Space

@@ -226,7 +226,7 @@ module _ (s : List ℕ) (ok : check s ≡ 0) where
     -- The blocks taken are as many as needed, the lowest free ones in ascending order (LowestFree), and stand at the end of the file's chain.
     pub blocks-taken : fileBlocks written e ≡ fileBlocks s e ++ newBlocks s e offset (length bytes)
     unfolding refusal after
-    blocks-taken = written-blocks s path ok offset bytes time r
+    blocks-taken = written-blocks s path ok offset bytes time (write-given s path offset (length bytes) r)
 
     pub count-taken : length (newBlocks s e offset (length bytes)) ≡ needed s e offset (length bytes)
     unfolding refusal

@@ -10,7 +10,7 @@ use Rattle.layout.specs.Refusals.{require, firstOf, accept}
 use Rattle.layout.specs.Bytes.{be32, be64, part}
 use Rattle.layout.specs.Geometry.{blockCount}
 use Rattle.layout.specs.Check.{check}
-use Rattle.volume.specs.Change.{Change, write}
+use Rattle.store.specs.Change.{Change, write}
 use Rattle.journal.specs.Journal.{recordsFrom, wellFormed}
 use Rattle.journal.specs.Run.{State, changeRefusal, afterChange}
 

@@ -7,7 +7,8 @@ ghost use Rattle.journal.specs.Answers.{changedAnswer};
 ghost use Rattle.journal.specs.Walks.Changes.{Ready};
 ghost use Rattle.write_list.specs.List.{writeAt, itemOk, listOk, writes, listed, oneByOne, writeList};
 use journal::calls::Changed;
-use volume::change::Change;
+use store::change::Change;
+use volume::change::Change as VolumeChange;
 
 // What a list gives: the number of the refusal that stopped it, or 0, and how many of its writes were done.
 pub struct Listed {
@@ -31,13 +32,13 @@ fn write_item(image: &mut [u8], journal: &mut [u8], list: &[u8], at: usize) -> u
     ensures number { λ r. ⌜ r ≡ changeRefusal (state (now (image .entry)) (now (journal .entry))) (writeAt (now (list .entry)) at) ⌝ }
     ensures state { λ _. ⌜ state (now (image .exit)) (now (journal .exit)) ≡ afterChange (state (now (image .entry)) (now (journal .entry))) (writeAt (now (list .entry)) at) ⌝ }
 {
-    let what = Change::Write {
+    let what = VolumeChange::Write {
         offset: layout::number::get32(list, at + 12) as usize,
         time: layout::number::get64(list, at + 4),
     };
     let path = super::list::path_of(list, at);
     let bytes = super::list::data_of(list, at);
-    let c = journal::calls::change_ready(image, journal, what, path, bytes);
+    let c = journal::calls::change_ready(image, journal, Change::Volume(what), path, bytes);
     number_of(c)
 }
 

@@ -8,7 +8,7 @@ use reference::path::Want;
 use reference::worked::list_of;
 use reference::{
     Append, Change, ClearAttributes, ClearFlags, Create, CreateDirectory, Delete, DeleteDirectory,
-    SetAttributes, Write,
+    Put, SetAttributes, Which, Write,
 };
 
 fn any(rng: &mut Rng, items: Vec<Item>) -> Option<Item> {
@@ -550,8 +550,101 @@ pub fn any_list(rng: &mut Rng, image: &[u8]) -> Vec<u8> {
     list
 }
 
+/// A serial number that is none.
+pub fn bad_serial(rng: &mut Rng) -> Vec<u8> {
+    let mut serial = good_serial(rng);
+    let i = rng.below(serial.len());
+    match rng.below(6) {
+        0 => vec![],
+        1 => (0..rng.pick(&[17, 18, 32, 80, 300])).map(|_| rng.pick(b"0aZ")).collect(),
+        2 => [b"/", &serial[..]].concat(),
+        3 => {
+            serial.push(0);
+            serial
+        }
+        4 => {
+            serial[i] = rng.pick(b"/:@[`{\0 -_\x80\xFF\xC1");
+            serial
+        }
+        _ => {
+            serial[i] |= 0x80;
+            serial
+        }
+    }
+}
+
+pub fn good_serial(rng: &mut Rng) -> Vec<u8> {
+    match rng.below(4) {
+        0 => (0..16).map(|_| rng.pick(b"09AZaz5Mm")).collect(),
+        1 => (0..rng.between(1, 16)).map(|_| rng.pick(b"09AZaz5Mm")).collect(),
+        _ => format!("SN{}", rng.below(12)).into_bytes(),
+    }
+}
+
+/// Any serial number: of a file or folder of the root more often than not.
+pub fn any_serial(rng: &mut Rng, image: &[u8]) -> Vec<u8> {
+    let root = tree(image).swap_remove(0);
+    let fits = |e: &&Entry| e.name.len() <= 16 && e.name.iter().all(u8::is_ascii_alphanumeric);
+    let fitting: Vec<&Entry> = root.entries.iter().filter(fits).collect();
+    let settled = |e: &&&Entry| e.is_file() && file_revisions(image, e).is_some();
+    let settled: Vec<&Entry> = fitting.iter().filter(settled).copied().collect();
+    match rng.below(12) {
+        0 => bad_serial(rng),
+        1..=2 => good_serial(rng),
+        3..=4 if !fitting.is_empty() => rng.pick(&fitting).name.clone(),
+        _ if !settled.is_empty() => rng.pick(&settled).name.clone(),
+        _ => good_serial(rng),
+    }
+}
+
+/// The revisions of a file of a sound image, if it is of the form.
+pub fn file_revisions(image: &[u8], file: &Entry) -> Option<Vec<reference::Revision>> {
+    let blocks = file.chain(image);
+    let bytes: Vec<u8> =
+        blocks.iter().flat_map(|&b| &image[b * BLOCK..(b + 1) * BLOCK]).copied().collect();
+    reference::store::revisions(&bytes[..file.size as usize])
+}
+
+pub fn any_settings(rng: &mut Rng) -> Vec<u8> {
+    let length = match rng.below(12) {
+        0 => 0,
+        1 => 200,
+        2 if rng.once_in(2) => rng.pick(&[201, 202, 255, 256, 257, 456, 4096]),
+        3 => rng.pick(&[1, 2, 199]),
+        _ => rng.below(201),
+    };
+    if rng.once_in(6) {
+        vec![0; length]
+    } else {
+        rng.bytes(length)
+    }
+}
+
+pub fn any_put(rng: &mut Rng, image: &[u8]) -> Change {
+    let serial = any_serial(rng, image);
+    Change::Put(Put { serial, data: any_settings(rng), time: any_time(rng) })
+}
+
+/// A serial number, a revision near those that stand, and a buffer.
+pub fn any_get(rng: &mut Rng, image: &[u8]) -> (Vec<u8>, Which, Vec<u8>) {
+    let serial = any_serial(rng, image);
+    let latest = reference::get(image, &serial, Which::Latest, 200).map_or(0, |r| r.number);
+    let which = match rng.below(8) {
+        0..=2 => Which::Latest,
+        3 => Which::Number(rng.pick(&[0, 1, u32::MAX])),
+        4 => Which::Number(latest.wrapping_add(1)),
+        _ => Which::Number(latest.saturating_sub(rng.below(18) as u32)),
+    };
+    let length = match rng.below(10) {
+        0 => rng.pick(&[0, 1, 100, 199]),
+        1..=5 => 200,
+        _ => rng.between(200, 1000),
+    };
+    (serial, which, rng.bytes(length))
+}
+
 /// One of each change.
-pub fn changes(rng: &mut Rng, image: &[u8]) -> [Change; 8] {
+pub fn changes(rng: &mut Rng, image: &[u8]) -> [Change; 9] {
     [
         any_create(rng, image),
         any_write(rng, image),
@@ -561,6 +654,7 @@ pub fn changes(rng: &mut Rng, image: &[u8]) -> [Change; 8] {
         any_set_attributes(rng, image),
         any_clear_attributes(rng, image),
         any_clear_flags(rng, image),
+        any_put(rng, image),
     ]
 }
 

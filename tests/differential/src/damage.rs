@@ -118,7 +118,17 @@ fn new_name(home: &Directory) -> Vec<u8> {
 pub fn outside(rng: &mut Rng, image: &[u8]) -> u32 {
     let (n, t) = n_t(image);
     let any = rng.next() as u32 | 0x8000_0000;
-    rng.pick(&[n as u32, n as u32 + 1, t as u32, 1.max(t as u32 / 2), 4096.max(n as u32), 65536, any, u32::MAX]).max(1)
+    rng.pick(&[
+        n as u32,
+        n as u32 + 1,
+        t as u32,
+        1.max(t as u32 / 2),
+        4096.max(n as u32),
+        65536,
+        any,
+        u32::MAX,
+    ])
+    .max(1)
 }
 
 /// A value that is not 1 although one of its bytes may be.

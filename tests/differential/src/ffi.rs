@@ -80,6 +80,22 @@ pub struct Listed {
     pub done: u32,
 }
 
+#[repr(C)]
+#[derive(Clone, Copy, Debug, PartialEq, Eq)]
+pub struct Put {
+    pub number: u32,
+    pub revision: u32,
+    pub record: u32,
+}
+
+#[repr(C)]
+#[derive(Clone, Copy, Debug, PartialEq, Eq)]
+pub struct Got {
+    pub number: u32,
+    pub revision: u32,
+    pub length: u32,
+}
+
 // Laid out line by line as in the header.
 #[rustfmt::skip]
 extern "C" {
@@ -168,6 +184,21 @@ extern "C" {
     pub fn bulgefs_write_list(image: *mut u8, image_len: usize,
                               journal: *mut u8, journal_len: usize,
                               list: *const u8, list_len: usize) -> Listed;
+
+    pub fn bulgefs_put_settings(image: *mut u8, image_len: usize,
+                                journal: *mut u8, journal_len: usize,
+                                serial: *const u8, serial_len: usize,
+                                data: *const u8, data_len: usize,
+                                time: u64) -> Put;
+
+    pub fn bulgefs_get_settings(image: *const u8, image_len: usize,
+                                serial: *const u8, serial_len: usize,
+                                revision: u32,
+                                buffer: *mut u8, buffer_len: usize) -> Got;
+
+    pub fn bulgefs_get_latest_settings(image: *const u8, image_len: usize,
+                                       serial: *const u8, serial_len: usize,
+                                       buffer: *mut u8, buffer_len: usize) -> Got;
 
     pub fn bulgefs_undo(image: *mut u8, image_len: usize,
                         journal: *mut u8, journal_len: usize) -> Changed;

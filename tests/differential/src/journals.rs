@@ -281,7 +281,8 @@ pub const FAULTS: &[Fault] = &[
         what: "number above n",
         make: |rng, image| {
             let n = block_count(image) as u32;
-            let number = rng.pick(&[n + 1, 4096.max(n), 0x0001_0000, 0x0100_0000, 0x8000_0000, u32::MAX]);
+            let number =
+                rng.pick(&[n + 1, 4096.max(n), 0x0001_0000, 0x0100_0000, 0x8000_0000, u32::MAX]);
             let bad = record_of(rng, &[number.max(n)]);
             ending_in(rng, image, bad)
         },

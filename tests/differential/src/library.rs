@@ -1,8 +1,8 @@
 //! The library's calls, on lent buffers. Nothing else calls an entry point.
 
-use crate::ffi::{self, Changed, Created, Filled, Found, Listed, Part, Uuid};
+use crate::ffi::{self, Changed, Created, Filled, Found, Got, Listed, Part, Put, Uuid};
 use crate::lent::Lent;
-use reference::{Create, CreateDirectory, State};
+use reference::{Create, CreateDirectory, State, Which};
 
 pub fn check(image: &Lent) -> u32 {
     unsafe { ffi::bulgefs_check(image.ptr(), image.len()) }
@@ -34,6 +34,19 @@ pub fn read_next(image: &Lent, path: &Lent, position: &mut u64, buffer: &mut Len
 pub fn read_attributes(image: &Lent, path: &Lent, buffer: &mut Lent) -> Filled {
     let (at, len, into) = (image.ptr(), image.len(), buffer.mut_ptr());
     unsafe { ffi::bulgefs_read_attributes(at, len, path.ptr(), path.len(), into, buffer.len()) }
+}
+
+pub fn get(image: &Lent, serial: &Lent, which: Which, buffer: &mut Lent) -> Got {
+    let (at, len, serial, serial_len) = (image.ptr(), image.len(), serial.ptr(), serial.len());
+    let (into, room) = (buffer.mut_ptr(), buffer.len());
+    match which {
+        Which::Latest => unsafe {
+            ffi::bulgefs_get_latest_settings(at, len, serial, serial_len, into, room)
+        },
+        Which::Number(x) => unsafe {
+            ffi::bulgefs_get_settings(at, len, serial, serial_len, x, into, room)
+        },
+    }
 }
 
 pub fn look_in_place(image: &Lent, path: &Lent, index: u64) -> Part {
@@ -164,6 +177,14 @@ impl Pair {
         unsafe {
             ffi::bulgefs_write_list(image, image_len, journal, journal_len,
                                     list.ptr(), list.len())
+        }
+    }
+
+    pub fn put(&mut self, serial: &Lent, data: &Lent, time: u64) -> Put {
+        let (image, image_len, journal, journal_len) = self.lent();
+        unsafe {
+            ffi::bulgefs_put_settings(image, image_len, journal, journal_len,
+                                      serial.ptr(), serial.len(), data.ptr(), data.len(), time)
         }
     }
 

@@ -23,6 +23,9 @@ pub enum Entry {
     ClearFlags,
     Append,
     WriteList,
+    Put,
+    Get,
+    GetLatest,
     Undo,
     LoadTable,
     StoreTable,
@@ -31,7 +34,7 @@ pub enum Entry {
 
 /// Every entry point, and the numbers that it can answer. Look in place has
 /// no number; its row counts what look up would have answered.
-const ENTRIES: [(Entry, &str, &[u32]); 25] = [
+const ENTRIES: [(Entry, &str, &[u32]); 28] = [
     (Entry::Check, "check", &[0, 1, 2, 3, 4, 5, 6, 7]),
     (Entry::PlainCheck, "plain_check", &[0, 1, 2, 3, 4, 5, 6, 7]),
     (Entry::Format, "format", &[0, 1, 9, 14]),
@@ -45,7 +48,11 @@ const ENTRIES: [(Entry, &str, &[u32]); 25] = [
     (Entry::Create, "create", &[0, 1, 2, 3, 4, 5, 6, 7, 8, 9, 10, 11, 13, 15, 17, 26]),
     (Entry::Write, "write", &[0, 1, 2, 3, 4, 5, 6, 7, 8, 9, 10, 12, 14, 15, 17]),
     (Entry::Delete, "delete", &[0, 1, 2, 3, 4, 5, 6, 7, 8, 9, 10, 15, 17]),
-    (Entry::CreateDirectory, "create_dir", &[0, 1, 2, 3, 4, 5, 6, 7, 8, 9, 10, 11, 13, 14, 15, 17, 26]),
+    (
+        Entry::CreateDirectory,
+        "create_dir",
+        &[0, 1, 2, 3, 4, 5, 6, 7, 8, 9, 10, 11, 13, 14, 15, 17, 26],
+    ),
     (Entry::DeleteDirectory, "delete_dir", &[0, 1, 2, 3, 4, 5, 6, 7, 8, 9, 10, 15, 17, 18]),
     (Entry::SetAttributes, "set_attr", &[0, 1, 2, 3, 4, 5, 6, 7, 8, 9, 10, 14, 15, 17, 20]),
     (Entry::ReadAttributes, "read_attr", &[0, 1, 2, 3, 4, 5, 6, 7, 9, 10, 17]),
@@ -53,6 +60,9 @@ const ENTRIES: [(Entry, &str, &[u32]); 25] = [
     (Entry::ClearFlags, "clear_flags", &[0, 1, 2, 3, 4, 5, 6, 7, 8, 9, 10, 15, 17]),
     (Entry::Append, "append", &[0, 1, 2, 3, 4, 5, 6, 7, 8, 9, 10, 14, 15, 17]),
     (Entry::WriteList, "write_list", &[0, 1, 2, 3, 4, 5, 6, 7, 8, 9, 10, 12, 14, 15, 17, 19]),
+    (Entry::Put, "put", &[0, 1, 2, 3, 4, 5, 6, 7, 8, 11, 13, 14, 15, 22, 24, 25]),
+    (Entry::Get, "get", &[0, 1, 2, 3, 4, 5, 6, 7, 10, 22, 23, 24]),
+    (Entry::GetLatest, "get_latest", &[0, 1, 2, 3, 4, 5, 6, 7, 10, 22, 24]),
     (Entry::Undo, "undo", &[0, 1, 2, 3, 4, 5, 6, 7, 8, 16]),
     (Entry::LoadTable, "load_table", &[0, 1, 2, 3, 4, 5, 6, 7, 21]),
     (Entry::StoreTable, "store_table", &[0, 1, 2, 3, 4, 5, 6, 7, 21]),

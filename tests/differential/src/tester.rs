@@ -6,7 +6,7 @@ use crate::library::{self, Pair};
 use crate::report::{Entry, Report};
 use reference::overview::{ENTRY_NUMBERS, VOLUME_NUMBERS};
 use reference::replay::told;
-use reference::{Answer, Append, Change, Listed, Salvaged, State};
+use reference::{Answer, Append, Change, Listed, Salvaged, State, Which};
 
 /// The most steps that the plain check is run for, a second or so. In stage 6 it
 /// walks every chain once for each block.
@@ -150,6 +150,38 @@ impl Tester {
         self.report.call(entry, number, troubles);
     }
 
+    /// A get. Gives the reference's number.
+    pub fn get(&mut self, image: &[u8], serial: &[u8], which: Which, buffer: &[u8]) -> u32 {
+        let lent = self.lend(image);
+        self.get_in(&lent, image, serial, which, buffer)
+    }
+
+    /// A get from an image that is lent already.
+    pub fn get_in(
+        &mut self,
+        lent: &Lent,
+        image: &[u8],
+        serial: &[u8],
+        which: Which,
+        buffer: &[u8],
+    ) -> u32 {
+        let (lent_serial, mut lent_buffer) = (self.lend(serial), self.lend(buffer));
+        let got = library::get(lent, &lent_serial, which, &mut lent_buffer);
+        let result = reference::get(image, serial, which, buffer.len());
+        let number = number_of(&result);
+        let (revision, data) = result.map_or((0, vec![]), |r| (r.number, r.data));
+        let mut after = buffer.to_vec();
+        after[..data.len()].copy_from_slice(&data);
+        let troubles = [
+            unequal(got, ffi::Got { number, revision, length: data.len() as u32 }),
+            lent.trouble("image", image),
+            lent_serial.trouble("serial", serial),
+            lent_buffer.trouble("buffer", &after),
+        ];
+        self.report.call(get_entry(which), number, troubles);
+        number
+    }
+
     pub fn look_in_place(&mut self, image: &[u8], path: &[u8], index: u64) {
         let (lent, lent_path) = (self.lend(image), self.lend(path));
         let got = library::look_in_place(&lent, &lent_path, index);
@@ -205,13 +237,17 @@ impl Tester {
         }
     }
 
-    /// All calls that only look, for one path.
+    /// All calls that only look, for one path and its bytes as a serial number.
     pub fn look(&mut self, image: &[u8], path: &[u8], offset: u64, buffer: &[u8], index: u64) {
         self.check(image);
         self.lookup(image, path);
         self.read(image, path, offset, buffer);
         self.read_attributes(image, path, buffer);
         self.look_in_place(image, path, index);
+        let serial = path.strip_prefix(b"/").unwrap_or(path);
+        for which in [Which::Latest, Which::Number(index as u32)] {
+            self.get(image, serial, which, buffer);
+        }
         self.info(image, buffer);
         self.entry(image, path, index as u32, buffer);
     }
@@ -364,13 +400,14 @@ impl Tester {
     }
 
     /// Makes a change on lent buffers: the answer, with slot 0 where the call
-    /// has none, and what happened to the buffers that are only read.
+    /// has none and the revision of a put there, and what happened to the buffers that are only read.
     pub fn make(
         &mut self,
         pair: &mut Pair,
         change: &Change,
     ) -> (Entry, ffi::Created, Vec<Option<String>>) {
-        let path = self.lend(change.path());
+        let own_path = change.path();
+        let path = self.lend(&own_path);
         let mut troubles = Vec::new();
         let (entry, got) = match change {
             Change::Create(c) => (Entry::Create, pair.create(&path, c)),
@@ -395,9 +432,24 @@ impl Tester {
                 (Entry::ClearAttributes, without_slot(pair.clear_attributes(&path)))
             }
             Change::ClearFlags(_) => (Entry::ClearFlags, without_slot(pair.clear_flags(&path))),
+            Change::Put(p) => {
+                let (serial, data) = (self.lend(&p.serial), self.lend(&p.data));
+                let ffi::Put { number, revision, record } = pair.put(&serial, &data, p.time);
+                troubles.push(serial.trouble("serial", &p.serial));
+                troubles.push(data.trouble("data", &p.data));
+                (Entry::Put, ffi::Created { number, slot: revision, record })
+            }
         };
-        troubles.push(path.trouble("path", change.path()));
+        troubles.push(path.trouble("path", &own_path));
         (entry, got, troubles)
+    }
+}
+
+/// The entry point of a get.
+pub fn get_entry(which: Which) -> Entry {
+    match which {
+        Which::Latest => Entry::GetLatest,
+        Which::Number(_) => Entry::Get,
     }
 }
 

@@ -26,6 +26,7 @@ pub struct State {
 #[derive(Clone, Debug, PartialEq, Eq)]
 pub struct Applied {
     pub state: State,
+    /// The slot of a create, the revision of a put; 0 for the others.
     pub slot: u32,
     pub record: u32,
 }

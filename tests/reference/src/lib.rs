@@ -14,6 +14,7 @@ pub mod path;
 pub mod pieces;
 pub mod replay;
 pub mod salvage;
+pub mod store;
 pub mod table;
 pub mod views;
 pub mod volume;
@@ -27,6 +28,7 @@ pub use overview::{info, next_entry, Told};
 pub use pieces::{append, append_whole, read_next, Append, Appended};
 pub use replay::{Answer, Call, Replay};
 pub use salvage::{salvage, Salvaged};
+pub use store::{get, Put, Revision, Which};
 pub use table::{load_table, store_table};
 pub use volume::{
     format, look_in_place, lookup, read, read_attributes, Change, ClearAttributes, ClearFlags,
@@ -34,5 +36,5 @@ pub use volume::{
 };
 pub use write_list::{write_list, Listed};
 
-/// A refusal number, 1 to 21 or 26.
+/// A refusal number, 1 to 26.
 pub type Refusal = u32;

@@ -5,6 +5,7 @@
 use crate::journal::{apply, State};
 use crate::overview::{info, next_entry, none, Told, ENTRY_NUMBERS, VOLUME_NUMBERS};
 use crate::pieces::{append, piece_write, Append};
+use crate::store::{get, Revision, Which};
 use crate::volume::{look_in_place, lookup, read, read_attributes, Change, Found};
 use crate::write_list::{write_list, writes};
 use crate::{check, Refusal};
@@ -23,6 +24,7 @@ pub enum Call {
     Read { path: Vec<u8>, offset: u64, buffer: Vec<u8> },
     LookInPlace { path: Vec<u8>, index: u64 },
     ReadAttributes { path: Vec<u8>, buffer: Vec<u8> },
+    Get { serial: Vec<u8>, which: Which, buffer: Vec<u8> },
     Info { buffer: Vec<u8> },
     Entry { path: Vec<u8>, slot: u32, buffer: Vec<u8> },
 }
@@ -30,6 +32,7 @@ pub enum Call {
 /// What a call must give.
 #[derive(Clone, Debug, PartialEq, Eq)]
 pub enum Answer {
+    /// In the slot's place a put has its revision.
     Changed {
         number: u32,
         slot: u32,
@@ -46,6 +49,14 @@ pub enum Answer {
     Read {
         number: u32,
         count: u32,
+        buffer: Vec<u8>,
+    },
+    /// The number, the revision, the length of its data and the whole buffer
+    /// afterwards.
+    Got {
+        number: u32,
+        revision: u32,
+        length: u32,
         buffer: Vec<u8>,
     },
     /// The part of the image and the bytes in it.
@@ -156,6 +167,9 @@ fn look_at(image: &[u8], call: &Call) -> Answer {
         Call::ReadAttributes { path, buffer } => {
             filled(buffer, read_attributes(image, path, buffer.len()))
         }
+        Call::Get { serial, which, buffer } => {
+            got(buffer, get(image, serial, *which, buffer.len()))
+        }
         Call::LookInPlace { path, index } => {
             let range = look_in_place(image, path, *index);
             Answer::Part { bytes: image[range.clone()].to_vec(), range }
@@ -178,6 +192,18 @@ fn filled(buffer: &[u8], bytes: Result<Vec<u8>, Refusal>) -> Answer {
         Ok(bytes) => {
             after[..bytes.len()].copy_from_slice(&bytes);
             Answer::Read { number: 0, count: bytes.len() as u32, buffer: after }
+        }
+    }
+}
+
+/// The answer of a get.
+fn got(buffer: &[u8], revision: Result<Revision, Refusal>) -> Answer {
+    let mut after = buffer.to_vec();
+    match revision {
+        Err(number) => Answer::Got { number, revision: 0, length: 0, buffer: after },
+        Ok(Revision { number: revision, data }) => {
+            after[..data.len()].copy_from_slice(&data);
+            Answer::Got { number: 0, revision, length: data.len() as u32, buffer: after }
         }
     }
 }

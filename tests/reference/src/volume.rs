@@ -4,6 +4,7 @@
 use crate::check::{length, sound};
 use crate::layout::*;
 use crate::path::{named, parts, place, Want};
+use crate::store::{self, Put};
 use crate::Refusal;
 use std::collections::BTreeSet;
 use std::ops::Range;
@@ -79,20 +80,22 @@ pub enum Change {
     SetAttributes(SetAttributes),
     ClearAttributes(ClearAttributes),
     ClearFlags(ClearFlags),
+    Put(Put),
 }
 
 impl Change {
-    /// The path that the change brings.
-    pub fn path(&self) -> &[u8] {
+    /// The path that the change brings; of a put, that of its file.
+    pub fn path(&self) -> Vec<u8> {
         match self {
-            Change::Create(c) => &c.path,
-            Change::Write(w) => &w.path,
-            Change::Delete(d) => &d.path,
-            Change::CreateDirectory(c) => &c.entry.path,
-            Change::DeleteDirectory(d) => &d.path,
-            Change::SetAttributes(s) => &s.path,
-            Change::ClearAttributes(c) => &c.path,
-            Change::ClearFlags(c) => &c.path,
+            Change::Create(c) => c.path.clone(),
+            Change::Write(w) => w.path.clone(),
+            Change::Delete(d) => d.path.clone(),
+            Change::CreateDirectory(c) => c.entry.path.clone(),
+            Change::DeleteDirectory(d) => d.path.clone(),
+            Change::SetAttributes(s) => s.path.clone(),
+            Change::ClearAttributes(c) => c.path.clone(),
+            Change::ClearFlags(c) => c.path.clone(),
+            Change::Put(p) => store::path_of(&p.serial),
         }
     }
 }
@@ -101,7 +104,7 @@ impl Change {
 pub struct Changed {
     pub image: Vec<u8>,
     pub named: BTreeSet<usize>,
-    /// The slot that a create used; 0 for the others.
+    /// The slot that a create used, the revision of a put; 0 for the others.
     pub slot: u32,
 }
 
@@ -210,7 +213,8 @@ fn find_file(image: &[u8], path: &[u8]) -> Result<Entry, Refusal> {
     place(path, Want::File, true)?.find(image, Want::File)
 }
 
-/// A change of a sound image; weighs the numbers 9, 20, 17, 26, 10 to 12, 18, 13, 14.
+/// A change of a sound image; weighs the numbers 9 or 22, 20, 17, 26, 10 to 12,
+/// 18, 24, 25, 13, 14.
 pub fn change(image: &[u8], change: &Change) -> Result<Changed, Refusal> {
     match change {
         Change::Create(c) => create(image, c),
@@ -221,10 +225,11 @@ pub fn change(image: &[u8], change: &Change) -> Result<Changed, Refusal> {
         Change::SetAttributes(s) => set_attributes(image, s),
         Change::ClearAttributes(c) => clear_attributes(image, c),
         Change::ClearFlags(c) => clear_flags(image, c),
+        Change::Put(p) => store::put(image, p),
     }
 }
 
-fn create(image: &[u8], c: &Create) -> Result<Changed, Refusal> {
+pub(crate) fn create(image: &[u8], c: &Create) -> Result<Changed, Refusal> {
     let place = place(&c.path, Want::File, is_file_type(c.kind))?;
     no_flags(c)?;
     let (slot, at) = free_slot(image, place.home(image)?, place.name)?;

@@ -3,7 +3,7 @@
 
 use crate::{
     format, start, Append, Change, ClearAttributes, ClearFlags, Create, CreateDirectory, Delete,
-    DeleteDirectory, Refusal, SetAttributes, State, Write,
+    DeleteDirectory, Put, Refusal, SetAttributes, State, Write,
 };
 
 /// A volume of `n` blocks, `d` of them for the root.
@@ -77,4 +77,8 @@ pub fn clear_attributes(path: &[u8]) -> Change {
 
 pub fn clear_flags(path: &[u8]) -> Change {
     Change::ClearFlags(ClearFlags { path: path.to_vec() })
+}
+
+pub fn put(serial: &[u8], data: &[u8]) -> Change {
+    Change::Put(Put { serial: serial.to_vec(), data: data.to_vec(), time: 9 })
 }

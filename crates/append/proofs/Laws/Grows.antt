@@ -16,8 +16,8 @@ use Rattle.layout.proofs.Laws.Lists.{In}
 use Rattle.layout.proofs.Laws.Frames.{same-be32, same-beside, set-next-length}
 use Rattle.layout.proofs.Laws.Bytes.{splice-nil, length-zeros, length-take-most}
 use Rattle.volume.proofs.Laws.Table.{cleared-length, taken-length, linked-length}
-use Rattle.append.proofs.Laws.Splices.{splice-commutes}
-use Rattle.append.proofs.Laws.Puts.{run-length}
+use Rattle.volume.proofs.Laws.Splices.{splice-commutes}
+use Rattle.volume.proofs.Laws.Puts.{run-length}
 
 pub last-append : (xs ys : List ℕ) (a : ℕ) → lastOr a (xs ++ ys) ≡ lastOr (lastOr a xs) ys
 last-append [] ys a = refl

@@ -12,7 +12,8 @@ use Rattle.layout.specs.Directory.{sizeOf, isFile}
 use Rattle.layout.specs.Check.{check}
 use Rattle.layout.specs.Paths.{entryOf, fileRefusal}
 use Rattle.volume.specs.Write.{needed, writeAt, writeAtRefusal, writeRefusal}
-use Rattle.volume.specs.Change.{Change, write, refusal, after}
+use Rattle.volume.specs.Change as volume
+use Rattle.store.specs.Change.{Change, write, refusal, after}
 use Rattle.journal.specs.Journal.{wellFormed}
 use Rattle.journal.specs.Run.{State, changeRefusal, afterChange}
 use Rattle.append.specs.Append.{fileEnd, pieceWrite, appendRefusal, afterAppend}
@@ -32,7 +33,7 @@ end-is s path r = rw r
 -- an accepted piece: the image is sound, and the path is a file's
 given : (p : State) (path x : List ℕ) (time : ℕ) → appendRefusal p path x time ≡ 0
     → (check (p .image) ≡ 0) × (writeRefusal (p .image) path (fileEnd (p .image) path) (length x) ≡ 0)
-unfolding appendRefusal pieceWrite refusal
+unfolding appendRefusal pieceWrite refusal volume.refusal
 given p path [] time r =
     let a = firstOf-zero (check (p .image)) _ r in
     let b = require-zero (wellFormed (p .journal) (blockCount (p .image))) 7 _ (a .1) in
@@ -61,7 +62,7 @@ changed-image p c r = rw r
 
 piece-image : (p : State) (path : List ℕ) (b : ℕ) (bs : List ℕ) (time : ℕ) → appendRefusal p path (b ∷ bs) time ≡ 0
     → afterAppend p path (b ∷ bs) time .image ≡ writeAt (p .image) (entryOf isFile (p .image) path) (sizeOf (p .image) (entryOf isFile (p .image) path)) (b ∷ bs) time
-unfolding appendRefusal afterAppend pieceWrite after
+unfolding appendRefusal afterAppend pieceWrite after volume.after
 piece-image p path b bs time r =
     changed-image p (write path (fileEnd (p .image) path) (b ∷ bs) time) r
     ∙ ap (λ (i : ℕ). writeAt (p .image) (entryOf isFile (p .image) path) i (b ∷ bs) time) (end-is (p .image) path (piece-stands p path (b ∷ bs) time r .there))

@@ -4,8 +4,8 @@ use mathlib.Core.List.{List, [], _∷_, _++_}
 use mathlib.Core.Path.{_≡_, refl, sym, ap, _∙_}
 use Rattle.layout.specs.Limits.{minJournal, maxJournal}
 use Rattle.layout.specs.Check.{check}
-use Rattle.volume.specs.Change.{Change}
-use Rattle.volume.proofs.Theorems.{change-sound}
+use Rattle.store.specs.Change.{Change}
+use Rattle.store.proofs.Theorems.{change-sound}
 use Rattle.journal.specs.Journal.{started}
 use Rattle.journal.specs.Run.{Call, change, Answer, State, step, run, afterChange}
 use Rattle.journal.specs.Replay.{replayed, standingAfter, standing}

@@ -11,9 +11,10 @@ use Rattle.layout.specs.Directory.{isFile, sizeOf}
 use Rattle.layout.specs.Paths.{fileRefusal, entryOf}
 use Rattle.layout.specs.Walks.Looks.{Opens}
 use Rattle.layout.proofs.Laws.Tests.{accept-either}
-use Rattle.volume.specs.Change.{write, refusal, slotGiven}
+use Rattle.volume.specs.Change as volume
+use Rattle.store.specs.Change.{write, refusal, slotGiven}
 use Rattle.journal.specs.Journal.{wellFormed}
-use Rattle.journal.specs.Run.{State, Answer, state, changed, undone, checked, found, filled, shown, described, entered, changeRefusal, changeAnswer, afterChange}
+use Rattle.journal.specs.Run.{State, Answer, state, changed, undone, checked, found, filled, shown, described, entered, got, changeRefusal, changeAnswer, afterChange}
 use Rattle.journal.specs.Walks.Changes.{Ready, readyRefusal}
 use Rattle.journal.proofs.Walks.Undoing.{unready}
 use Rattle.journal.proofs.Walks.Changes.{change-unready}
@@ -61,9 +62,10 @@ slotOf (filled a) = 0
 slotOf (shown x bytes) = 0
 slotOf (described a) = 0
 slotOf (entered a) = 0
+slotOf (got a) = 0
 
 answer-slotless : (p : State) (path piece : List ℕ) (time : ℕ) → slotOf (appendAnswer p path piece time) ≡ 0
-unfolding appendAnswer pieceWrite changeAnswer slotGiven
+unfolding appendAnswer pieceWrite changeAnswer slotGiven volume.slotGiven
 answer-slotless p path [] time = refl
 answer-slotless p path (b ∷ bs) time =
     accept-either (λ (a : Answer). slotOf a ≡ 0) (changeRefusal p (write path (fileEnd (p .image) path) (b ∷ bs) time)) _ _ refl refl

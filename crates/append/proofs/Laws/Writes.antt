@@ -17,7 +17,7 @@ use Rattle.layout.proofs.Laws.Tests.{eqb-self}
 use Rattle.layout.proofs.Laws.Bytes.{length-splice, length-bytes8}
 use Rattle.volume.proofs.Laws.Frame.{grown-length, put-length}
 use borrow.Author.Tests.{eqb-true}
-use Rattle.append.proofs.Laws.Puts.{put-fits, put-joined, put-commutes, set-file-again}
+use Rattle.volume.proofs.Laws.Puts.{put-fits, put-joined, put-commutes, set-file-again}
 use Rattle.append.proofs.Laws.Grows.{last-append, grown-append, grown-commutes, grown-put}
 
 -- what a write leaves, by the blocks that the file has and those that it takes

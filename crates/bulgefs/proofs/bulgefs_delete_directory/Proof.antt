@@ -1,5 +1,6 @@
 use mathlib.Core.Path.{refl}
-use Rattle.volume.specs.Change.{slotGiven}
+use Rattle.volume.specs.Change as volume
+use Rattle.store.specs.Change.{slotGiven}
 use borrow.Author.Needs.{needs}
 use Rattle.bulgefs.proofs.bulgefs_delete_directory.Statement.{statement}
 use Rattle.bulgefs.proofs.bulgefs_delete_directory.Tie as tie
@@ -17,7 +18,7 @@ same-length-2 : tie.Need-same-length-2
 same-length-2 c = search needs
 
 returns : tie.Need-returns
-unfolding slotGiven
+unfolding slotGiven volume.slotGiven
 returns c =
     let call = c .before .before .before .before .before .delete-directory in
     (c .slotless .ensures _ _ refl (call .ensures .0), call .ensures .1 .0)

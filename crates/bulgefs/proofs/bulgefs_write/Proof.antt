@@ -1,5 +1,6 @@
 use mathlib.Core.Path.{refl}
-use Rattle.volume.specs.Change.{slotGiven}
+use Rattle.volume.specs.Change as volume
+use Rattle.store.specs.Change.{slotGiven}
 use borrow.Author.Needs.{needs}
 use Rattle.bulgefs.proofs.bulgefs_write.Statement.{statement}
 use Rattle.bulgefs.proofs.bulgefs_write.Tie as tie
@@ -17,7 +18,7 @@ same-length-2 : tie.Need-same-length-2
 same-length-2 c = search needs
 
 returns : tie.Need-returns
-unfolding slotGiven
+unfolding slotGiven volume.slotGiven
 returns c =
     let write = c .before .before .before .before .before .write in
     (c .slotless .ensures _ _ refl (write .ensures .0), write .ensures .1 .0)

@@ -4,8 +4,8 @@ use mathlib.Core.List.{List, [], _∷_}
 use mathlib.Core.Path.{_≡_, refl, ap, _∙_, subst}
 use Rattle.layout.specs.Limits.{minJournal, maxJournal}
 use Rattle.layout.specs.Check.{check}
-use Rattle.volume.specs.Change.{Change}
-use Rattle.volume.proofs.Theorems.{change-sound}
+use Rattle.store.specs.Change.{Change}
+use Rattle.store.proofs.Theorems.{change-sound}
 use Rattle.journal.specs.Journal.{started}
 use Rattle.journal.specs.Run.{Call, State, state}
 use Rattle.journal.specs.Replay.{replayed, standingAfter, replayAnswer}

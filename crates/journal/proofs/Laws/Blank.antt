@@ -10,13 +10,13 @@ use borrow.Author.Tests.{ne-eqb}
 use Rattle.layout.specs.Bytes.{block, zeros}
 use Rattle.layout.specs.Geometry.{blockCount}
 use Rattle.layout.specs.Table.{next}
-use Rattle.volume.specs.Change.{Change, after}
+use Rattle.store.specs.Change.{Change, after}
 use Rattle.volume.specs.Claims.{Blanked}
 use Rattle.journal.specs.Journal.{started}
 use Rattle.journal.specs.Run.{State, changeRefusal, afterChange}
 use Rattle.journal.specs.Replay.{replayed, standing, usedSince, freeContent, BlankTheorem}
-use Rattle.volume.proofs.Theorems.{change-length, freed-blank}
-use Rattle.volume.proofs.Laws.Sound.{KeptSound}
+use Rattle.store.proofs.Theorems.{change-length, freed-blank}
+use Rattle.store.proofs.Laws.Sound.{KeptSound}
 use Rattle.journal.proofs.Laws.Undo.{accepted}
 use Rattle.journal.proofs.Laws.Runs.{Stand, run-theorem, run-stands}
 

@@ -1,11 +1,11 @@
--- Two changes in either order (L13), on image and journal: from the volume's theorem.
+-- Two changes in either order (L13), on image and journal: from the store's theorem.
 use Prim.Native.Nat.{ℕ}
 use mathlib.Core.Path.{_≡_, ap, _∙_, subst}
 use mathlib.Core.List.{List}
 use mathlib.Core.Logic.{_≢_}
-use Rattle.volume.specs.Change.{Change, refusal, after}
-use Rattle.volume.specs.Views.{SameFiles, subject}
-use Rattle.volume.proofs.Theorems as volume
+use Rattle.volume.specs.Views.{SameFiles}
+use Rattle.store.specs.Change.{Change, refusal, after, subject}
+use Rattle.store.proofs.Theorems as store
 use Rattle.journal.specs.Run.{State, changeRefusal, afterChange}
 use Rattle.journal.proofs.Laws.Undo.{accepted}
 
@@ -28,4 +28,4 @@ either-order p c d rc rcd rd rdc ne =
     let C = accepted p c rc in
     let D = accepted p d rd in
     rw (both-images p c d rc rcd, both-images p d c rd rdc)
-    (volume.either-order (p .image) (C .sound) c d (C .allowed) (second-allowed p c d rc rcd) (D .allowed) (second-allowed p d c rd rdc) ne)
+    (store.either-order (p .image) (C .sound) c d (C .allowed) (second-allowed p c d rc rcd) (D .allowed) (second-allowed p d c rd rdc) ne)

@@ -10,14 +10,14 @@ use lib.Dec.{leb}
 use lib.ListN.{length}
 use Rattle.layout.specs.Geometry.{blockCount}
 use Rattle.layout.specs.Check.{check}
-use Rattle.volume.specs.Change.{Change, refusal, after, named}
+use Rattle.store.specs.Change.{Change, refusal, after, named}
 use Rattle.journal.specs.Journal.{used, started, recordsFrom, records, wellFormed, ascending, added, lastRecord, undoneImage, Shaped}
 use Rattle.journal.specs.Run.{State, undone, recordOf, changeRefusal, afterChange, undoRefusal, afterUndo, undoAnswer}
 use Rattle.journal.specs.Replay.{RunInvariant}
 use Rattle.journal.specs.Walks.Changes.{Ready}
 use Rattle.layout.specs.Limits.{minJournal, maxJournal}
-use Rattle.volume.proofs.Laws.Framed.{Framed, frame}
-use Rattle.volume.proofs.Laws.Sound.{KeptSound}
+use Rattle.store.proofs.Laws.Framed.{Framed, frame}
+use Rattle.store.proofs.Laws.Sound.{KeptSound}
 use Rattle.layout.proofs.Laws.Tests.{require-zero, firstOf-zero}
 use Rattle.layout.proofs.Laws.Lists.{in-some, has-eqb-in}
 use Rattle.layout.proofs.Laws.Sound.{Sound, sound}
@@ -105,6 +105,10 @@ module _ (kept-sound : KeptSound) (p : State) (c : Change) (ok : changeRefusal p
       laws .image-back (after (p .image) c)
       ∙ puts-back k (p .image) (sz .whole) bs (after (p .image) c) (ascending-below k ns)
       (agree-ascending k (p .image) (after (p .image) c) ns (sz .whole) (framed .agree))
+
+  pub undone-image : afterUndo (afterChange p c) .image ≡ p .image
+  unfolding afterUndo
+  undone-image = rw (after-is, undo-ok, image-back)
 
   pub back : Shaped (p .journal) → afterUndo (afterChange p c) ≡ p
   unfolding afterUndo

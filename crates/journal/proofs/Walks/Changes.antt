@@ -12,7 +12,7 @@ use Rattle.layout.specs.Refusals.{require, accept}
 use Rattle.layout.specs.Bytes.{zeros}
 use Rattle.layout.specs.Geometry.{blockCount}
 use Rattle.layout.specs.Check.{check}
-use Rattle.volume.specs.Change.{Change, refusal, after, named, slotGiven}
+use Rattle.store.specs.Change.{Change, refusal, after, named, slotGiven}
 use Rattle.journal.specs.Journal.{used, wellFormed, ascending, recordBytes, added, lastRecord}
 use Rattle.journal.specs.Run.{State, Answer, changed, numberOf, recordOf, changeRefusal, afterChange, changeAnswer, state}
 use Rattle.journal.specs.Walks.Saves.{Marks, markedFrom}

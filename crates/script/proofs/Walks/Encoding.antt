@@ -11,7 +11,8 @@ use Rattle.layout.specs.Bytes.{be64, bytes4, zeros, part, splice}
 use Rattle.layout.specs.declared.reading.Filled.{Filled}
 use Rattle.layout.specs.declared.reading.Filled.the-variants.{Bytes, Refused}
 use Rattle.layout.specs.Looks.{ReadAnswer, Extent, VolumeAnswer, EntryAnswer, read, extentOf, lookInPlace, readAttributes, volumeInfo, nextEntry}
-use Rattle.journal.specs.Run.{Call, Answer, State, change, undo, look, checkImage, findFile, readFile, lookAt, readAttributesOf, showVolume, showEntry, filled, shown, described, entered, lookAnswer, answer, changeAnswer, changeRefusal, undoAnswer, undoRefusal}
+use Rattle.store.specs.Get.{GetAnswer, gotAnswer, get}
+use Rattle.journal.specs.Run.{Call, Answer, State, change, undo, look, checkImage, findFile, readFile, lookAt, readAttributesOf, showVolume, showEntry, getSettings, filled, shown, got, described, entered, lookAnswer, answer, changeAnswer, changeRefusal, undoAnswer, undoRefusal}
 use Rattle.script.specs.Script.{opAt, nameAt, dataAt, numbers, volumeHead, entryHead, encoded, encodedItem, answerSize, itemRoom}
 use Rattle.write_list.specs.Runs.{ListCall, call, list, listAnswer}
 use Rattle.script.specs.Walks.Scripts.{filledAt}
@@ -20,6 +21,7 @@ use Rattle.layout.specs.declared.overview.VolumeInfo.{VolumeInfo}
 use Rattle.layout.specs.declared.overview.EntryInfo.{EntryInfo}
 use Rattle.layout.proofs.Laws.Bytes.{length-zeros, lent, putMid-splice, splice-append, splice-whole, splice-two, splice-three, splice-back}
 use Rattle.layout.proofs.Laws.Tests.{accept-either}
+use Rattle.store.proofs.Laws.Gets.{get-length}
 use Rattle.layout.proofs.Laws.Looks.{read-count, read-length, attributes-count, attributes-length, extent-small, length-look, look-short, volume-length, entry-length}
 
 pub length-numbers : (a b c d : ℕ) → length (numbers a b c d) ≡ 16
@@ -61,6 +63,9 @@ answer-length p (look (readFile name offset buffer)) =
 answer-length p (look (readAttributesOf name buffer)) =
     let r : ReadAnswer = readAttributes (p .image) name buffer in
     length-append (numbers (r .number) (r .count) 0 0) (r .buffer) ∙ rw (length-numbers, attributes-length (p .image) name buffer)
+answer-length p (look (getSettings serial which buffer)) =
+    let g : GetAnswer = get (p .image) serial which buffer in
+    length-append (numbers (g .number) (g .revision) (g .size) 0) (g .buffer) ∙ rw (length-numbers, get-length (p .image) serial which buffer)
 answer-length p (look (lookAt name i)) =
     let b : List ℕ = lookInPlace (p .image) name i in
     let h : length b ≤ 512 = look-short (p .image) name i in
@@ -206,3 +211,10 @@ pub entered-written : (s b ys : List ℕ) (k : ℕ) (v : EntryInfo) (a : EntryAn
 unfolding encoded entryHead
 entered-written s b ys k v a e l lb w =
     headed s b ys (entryHead (entryAnswer v [])) k 64 l lb (length-entryHead (entryAnswer v [])) w ∙ ap (λ (x : EntryAnswer). encoded (entered x)) e
+
+pub got-written : (s b : List ℕ) (k number revision size : ℕ) (a : GetAnswer) → gotAnswer number revision size b ≡ a → length s ≡ 16 + length b → length b ≡ k
+    → splice (putMid 16 k s b) 0 (numbers number revision size 0) ≡ encoded (got a)
+unfolding encoded
+got-written s b k number revision size a e l lb =
+    ap (λ (x : List ℕ). splice x 0 (numbers number revision size 0)) (putMid-splice s 16 k b lb)
+    ∙ splice-back s (numbers number revision size 0) b 16 l (length-numbers number revision size 0) ∙ ap (λ (x : GetAnswer). encoded (got x)) e

@@ -7,11 +7,11 @@ use mathlib.Core.Logic.{⊎-elim}
 use native.Mathlib.Omega.{arith}
 use lib.ListN.{length}
 use Rattle.layout.specs.Bytes.{splice}
-use Rattle.volume.specs.Change.{Change}
-use Rattle.volume.specs.Asked.{asked}
-use Rattle.volume.specs.declared.change.Change.{Change as Kind}
+use Rattle.store.specs.Change.{Change}
+use Rattle.store.specs.Asked.{asked}
+use Rattle.store.specs.declared.change.Change.{Change as Kind}
 use Rattle.journal.specs.Run.{Call, Answer, State, Look, change, undo, look, step, answer, afterChange, changeAnswer, afterUndo, undoAnswer, lookAnswer, state}
-use Rattle.script.specs.Script.{opAt, nameAt, dataAt, changeAt, callAt, showAt, itemCall, answerSize, numbers, encoded, encodedItem}
+use Rattle.script.specs.Script.{opAt, nameAt, dataAt, changeAt, callAt, shows, showAt, itemCall, answerSize, numbers, encoded, encodedItem}
 use Rattle.write_list.specs.List.{Listed, listed, writeList}
 use Rattle.write_list.specs.Runs.{ListCall, list, listStep, listAnswer}
 use Rattle.script.specs.Walks.Scripts.{looks, CallDone, ItemDone}
@@ -66,12 +66,12 @@ pub look-made : (image journal part s : List ℕ) (at : ℕ) → 1 ≤ opAt s at
 look-made image journal part s at l h answered = record { after = sym (look-keeps (state image journal) s at l h); answered = answered journal }
 
 -- an item that is a call, and one that is a list
-pub call-item : (p : State) (s : List ℕ) (at : ℕ) (image journal part : List ℕ) → (opAt s at ≡ 15 → ⊥) → opAt s at < 16 → CallDone p (callAt s at) image journal part
+pub call-item : (p : State) (s : List ℕ) (at : ℕ) (image journal part : List ℕ) → (opAt s at ≡ 15 → ⊥) → shows (opAt s at) ≡ false → CallDone p (callAt s at) image journal part
     → ItemDone p (itemCall s at) image journal part
 unfolding listStep listAnswer encodedItem
 call-item p s at image journal part n h d = rw (is-call s at n h) (record { after = d .after; answered = d .answered })
 
-pub show-item : (image journal s : List ℕ) (at : ℕ) (part : List ℕ) → 16 ≤ opAt s at → part ≡ encoded (lookAnswer image (showAt s at))
+pub show-item : (image journal s : List ℕ) (at : ℕ) (part : List ℕ) → shows (opAt s at) ≡ true → part ≡ encoded (lookAnswer image (showAt s at))
     → ItemDone (state image journal) (itemCall s at) image journal part
 unfolding listStep listAnswer encodedItem step answer
 show-item image journal s at part h e = rw (is-show s at h) (record { after = refl; answered = e })

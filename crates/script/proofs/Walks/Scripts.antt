@@ -1,7 +1,7 @@
 -- The items of a script one after the other, and the call of each.
 use Prim.Native.Nat.{ℕ, _+_, _-_, _≤_, _<_}
 use mathlib.Core.Path.{_≡_, refl, ap, _∙_}
-use mathlib.Core.Bool.{Bool, true, false, cond, _||_}
+use mathlib.Core.Bool.{Bool, true, false, cond, not, _&&_, _||_}
 use mathlib.Core.Logic.{_⊎_, inl, inr, ⊎-elim}
 use mathlib.Core.List.{List, [], _∷_, map}
 use native.Mathlib.Omega.{arith}
@@ -11,21 +11,22 @@ use lib.Dec.{leb, eqb}
 use lib.ListN.{length}
 use Rattle.layout.specs.Lists.{every}
 use Rattle.layout.specs.Bytes.{be32, be64}
-use Rattle.journal.specs.Run.{Call, State, change, undo, look, checkImage, findFile, readFile, lookAt, readAttributesOf, showVolume, showEntry, filled, lookAnswer, answer}
-use Rattle.script.specs.Script.{lastOp, opAt, nameAt, dataAt, dataLength, itemSize, changeAt, callAt, showAt, itemCall, itemOk, itemsFrom, callsFrom, answerSize, itemRoom, answersSize}
+use Rattle.journal.specs.Run.{Call, State, change, undo, look, checkImage, findFile, readFile, lookAt, readAttributesOf, showVolume, showEntry, getSettings, filled, lookAnswer, answer}
+use Rattle.script.specs.Script.{lastOp, opAt, nameAt, dataAt, dataLength, itemSize, changeAt, callAt, shows, whichAt, showAt, itemCall, itemOk, itemsFrom, callsFrom, answerSize, itemRoom, answersSize}
 use Rattle.write_list.specs.Runs.{call, list}
-use Rattle.script.specs.Walks.Scripts.{looks, fills, filledAt}
+use Rattle.script.specs.Walks.Scripts.{looks, fills, headSize, filledAt}
 use Rattle.layout.proofs.Laws.Tests.{and-split, or-split, true-not-false}
 use Rattle.layout.proofs.Laws.Bytes.{length-part}
 use Rattle.journal.proofs.Laws.RecordWalk.{records-none, records-more, records-enough}
 
--- the length of the numbers of op 16 or 17
-pub head-small : (op r : ℕ) → r ≡ cond (eqb op 16) 32 64 → r ≤ 64
-head-small op r e = go (eqb op 16) e
+-- the length of the numbers of a look from op 16 on
+pub head-small : (op r : ℕ) → r ≡ headSize op → r ≤ 64
+head-small op r e = go (eqb op 16) (eqb op 17) e
   where
-    go : (t : Bool) → r ≡ cond t 32 64 → r ≤ 64
-    go true q = omega arith
-    go false q = omega arith
+    go : (t u : Bool) → r ≡ cond t 32 (cond u 64 16) → r ≤ 64
+    go true u q = omega arith
+    go false true q = omega arith
+    go false false q = omega arith
 
 -- the ops that look, and those that fill a buffer
 module _ (x : ℕ) where
@@ -34,6 +35,10 @@ module _ (x : ℕ) where
 
   pub fills-split : fills x ≡ true → (x ≡ 13) ⊎ (x ≡ 3)
   fills-split h = ⊎-elim (λ a. inl (eqb-true x 13 a)) (λ b. inr (eqb-true x 3 b)) (or-split (eqb x 13) (eqb x 3) h)
+
+  -- the looks from op 16 on
+  pub shows-split : shows x ≡ true → 16 ≤ x
+  shows-split h = leb-true 16 x (and-split (not (eqb x 18)) (leb 16 x) h .1)
 
   neither : (a b : Bool) → a || b ≡ false → (a ≡ false) × (b ≡ false)
   neither true b h = absurd (true-not-false refl h)
@@ -98,14 +103,13 @@ module _ (s : List ℕ) (at : ℕ) where
   pub record Next : Type 0 where
     pub fits : at + itemSize s at ≤ length s
     pub low : 1 ≤ opAt s at
-    pub high : opAt s at ≤ lastOp
     pub rest : every (itemOk s) (itemsFrom s (at + itemSize s at)) ≡ true
 
   pub next : at < length s → every (itemOk s) (itemsFrom s at) ≡ true → Next
   next h w =
       let a = and-split (itemOk s at) _ (rw (items-step h) at w) in
       let f = item-fits (a .0) in
-      record { fits = f .0; low = f .1; high = f .2; rest = a .1 }
+      record { fits = f .0; low = f .1; rest = a .1 }
 
   -- the call of each op
   pub is-check : opAt s at ≡ 1 → callAt s at ≡ look checkImage
@@ -193,55 +197,62 @@ module _ (s : List ℕ) (at : ℕ) where
   unfolding itemCall
   is-list e = rw e
 
-  pub is-call : (opAt s at ≡ 15 → ⊥) → opAt s at < 16 → itemCall s at ≡ call (callAt s at)
+  pub is-call : (opAt s at ≡ 15 → ⊥) → shows (opAt s at) ≡ false → itemCall s at ≡ call (callAt s at)
   unfolding itemCall
-  is-call n h = rw (ne-eqb (opAt s at) 15 n, lt-leb 16 (opAt s at) h)
+  is-call n h = rw (ne-eqb (opAt s at) 15 n, h)
 
-  -- a look at the volume or at an entry
-  pub is-show : 16 ≤ opAt s at → itemCall s at ≡ call (look (showAt s at))
+  -- a look at the volume, at an entry or at settings
+  pub is-show : shows (opAt s at) ≡ true → itemCall s at ≡ call (look (showAt s at))
   unfolding itemCall
-  is-show h = rw (ne-eqb (opAt s at) 15 (λ e. omega arith), le-leb 16 (opAt s at) h)
+  is-show h = rw (ne-eqb (opAt s at) 15 (λ e. omega (arith, shows-split (opAt s at) h)), h)
 
   pub shows-volume : opAt s at ≡ 16 → showAt s at ≡ showVolume (dataAt s at)
   unfolding showAt
   shows-volume e = rw e
 
-  pub shows-entry : (opAt s at ≡ 16 → ⊥) → showAt s at ≡ showEntry (nameAt s at) (be64 s (at + 9)) (dataAt s at)
+  pub shows-entry : opAt s at ≡ 17 → showAt s at ≡ showEntry (nameAt s at) (be64 s (at + 9)) (dataAt s at)
   unfolding showAt
-  shows-entry n = rw (ne-eqb (opAt s at) 16 n)
+  shows-entry e = rw e
 
-  pub size-show : at + itemSize s at ≤ length s → answerSize (look (showAt s at)) ≡ cond (eqb (opAt s at) 16) 32 64 + dataLength s at
+  pub shows-settings : (opAt s at ≡ 16 → ⊥) → (opAt s at ≡ 17 → ⊥) → showAt s at ≡ getSettings (nameAt s at) (whichAt s at) (dataAt s at)
+  unfolding showAt
+  shows-settings m n = rw (ne-eqb (opAt s at) 16 m, ne-eqb (opAt s at) 17 n)
+
+  pub size-show : at + itemSize s at ≤ length s → answerSize (look (showAt s at)) ≡ headSize (opAt s at) + dataLength s at
   unfolding answerSize showAt
-  size-show h = go (eqb (opAt s at) 16)
+  size-show h = go (eqb (opAt s at) 16) (eqb (opAt s at) 17)
     where
-      go : (t : Bool) → answerSize (look (cond t (showVolume (dataAt s at)) (showEntry (nameAt s at) (be64 s (at + 9)) (dataAt s at)))) ≡ cond t 32 64 + dataLength s at
-      go true = ap (λ (x : ℕ). 32 + x) (length-data h)
-      go false = ap (λ (x : ℕ). 64 + x) (length-data h)
+      go : (t u : Bool)
+          → answerSize (look (cond t (showVolume (dataAt s at)) (cond u (showEntry (nameAt s at) (be64 s (at + 9)) (dataAt s at)) (getSettings (nameAt s at) (whichAt s at) (dataAt s at)))))
+          ≡ cond t 32 (cond u 64 16) + dataLength s at
+      go true u = ap (λ (x : ℕ). 32 + x) (length-data h)
+      go false true = ap (λ (x : ℕ). 64 + x) (length-data h)
+      go false false = ap (λ (x : ℕ). 16 + x) (length-data h)
 
-  pub room-is-show : 16 ≤ opAt s at → itemRoom (itemCall s at) ≡ answerSize (look (showAt s at))
+  pub room-is-show : shows (opAt s at) ≡ true → itemRoom (itemCall s at) ≡ answerSize (look (showAt s at))
   unfolding itemRoom
   room-is-show g = rw (is-show g)
 
-  pub room-show : at + itemSize s at ≤ length s → 16 ≤ opAt s at → itemRoom (itemCall s at) ≡ cond (eqb (opAt s at) 16) 32 64 + dataLength s at
+  pub room-show : at + itemSize s at ≤ length s → shows (opAt s at) ≡ true → itemRoom (itemCall s at) ≡ headSize (opAt s at) + dataLength s at
   room-show h g = room-is-show g ∙ size-show h
 
   pub room-list : opAt s at ≡ 15 → itemRoom (itemCall s at) ≡ 16
   unfolding itemRoom
   room-list e = rw (is-list e)
 
-  pub room-call : (opAt s at ≡ 15 → ⊥) → opAt s at < 16 → itemRoom (itemCall s at) ≡ answerSize (callAt s at)
+  pub room-call : (opAt s at ≡ 15 → ⊥) → shows (opAt s at) ≡ false → itemRoom (itemCall s at) ≡ answerSize (callAt s at)
   unfolding itemRoom
   room-call n h = rw (is-call n h)
 
   pub room-read : at + itemSize s at ≤ length s → fills (opAt s at) ≡ true → itemRoom (itemCall s at) ≡ 16 + dataLength s at
   room-read h f =
-      room-call (λ e. ⊎-elim (λ a. omega arith) (λ b. omega arith) (fills-split (opAt s at) f)) (⊎-elim (λ a. omega arith) (λ b. omega arith) (fills-split (opAt s at) f))
+      room-call (λ e. ⊎-elim (λ a. omega arith) (λ b. omega arith) (fills-split (opAt s at) f)) (⊎-elim (λ a. rw a) (λ b. rw b) (fills-split (opAt s at) f))
       ∙ size-read h f
 
   pub room-look-in-place : opAt s at ≡ 4 → itemRoom (itemCall s at) ≡ 528
-  room-look-in-place e = room-call (λ f. omega arith) (omega arith) ∙ size-look-in-place e
+  room-look-in-place e = room-call (λ f. omega arith) (rw e) ∙ size-look-in-place e
 
-  pub room-plain : opAt s at < 16 → fills (opAt s at) ≡ false → eqb (opAt s at) 4 ≡ false → itemRoom (itemCall s at) ≡ 16
+  pub room-plain : shows (opAt s at) ≡ false → fills (opAt s at) ≡ false → eqb (opAt s at) 4 ≡ false → itemRoom (itemCall s at) ≡ 16
   room-plain h f g = go (ℕ-discrete (opAt s at) 15)
     where
       go : Dec (opAt s at ≡ 15) → itemRoom (itemCall s at) ≡ 16

@@ -23,6 +23,10 @@ unfoldable pub filledAt : (image script : List ℕ) (at : ℕ) → ReadAnswer
 filledAt s script at =
     cond (eqb (opAt script at) 13) (readAttributes s (nameAt script at) (dataAt script at)) (read s (nameAt script at) (be64 script (at + 9)) (dataAt script at))
 
+-- the length of the numbers in the answer of a look from op 16 on
+abbrev pub headSize : ℕ → ℕ
+headSize op = cond (eqb op 16) 32 (cond (eqb op 17) 64 16)
+
 -- a whole item, and the part of the answers that is its own
 pub record Item (s : List ℕ) (at : ℕ) (part : List ℕ) : Type 0 where
   pub fits : Fits s at

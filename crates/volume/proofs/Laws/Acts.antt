@@ -21,7 +21,7 @@ use Rattle.volume.specs.Directories.{createDirectoryRefusal, newDirector
 use Rattle.volume.specs.Delete.{allBlocks, deleteAt, deleteNamed}
 use Rattle.volume.specs.Change.{Change, create, write, delete, createDirectory, deleteDirectory, setAttributes, clearAttributes, clearFlags, refusal, after, named}
 use Rattle.volume.specs.Views.{Folder, Maybe, just, folderOf, fileAt, folderAt, subject, ofFile, made, takes, gives, madeFolder, sizeIn, givesFolder}
-use Rattle.volume.proofs.Laws.Places.{CreateDirectoryGiven, create-directory-given, leading-shorter, path-levels, path-name, place-is, place-home, place-free, place-new, place-there}
+use Rattle.volume.proofs.Laws.Places.{CreateDirectoryGiven, create-directory-given, write-given, leading-shorter, path-levels, path-name, place-is, place-home, place-free, place-new, place-there}
 use Rattle.volume.proofs.Laws.CreateDirectory.{made-inserted, made-slot, made-dir, made-bare, made-name, made-folder, made-used}
 use Rattle.volume.proofs.Laws.Content.{create-untouched, write-untouched, delete-untouched, set-untouched, clear-untouched, flags-untouched, create-directory-untouched}
 use Rattle.volume.proofs.Laws.Views.{other-shown}
@@ -316,7 +316,7 @@ acts s (clearFlags path) ok r = file-acts s (clearFlags path) (λ m. refl) (λ m
 pub others-untouched : (s : List ℕ) (c : Change) (other : List ℕ) → check s ≡ 0 → refusal s c ≡ 0 → other ≢ subject c → pathOk other ≡ true → Untouched s (after s c) other
 unfolding refusal after subject
 others-untouched s (create path type user group permissions flags time) other ok r ne good = create-untouched s path other ok good ne type user group permissions flags time r
-others-untouched s (write path offset bytes time) other ok r ne good = write-untouched s path other ok good ne offset bytes time r
+others-untouched s (write path offset bytes time) other ok r ne good = write-untouched s path other ok good ne offset bytes time (write-given s path offset (length bytes) r)
 others-untouched s (delete path) other ok r ne good = delete-untouched s path other ok good ne r
 others-untouched s (createDirectory path type user group permissions flags time d) other ok r ne good = create-directory-untouched s path other ok type user group permissions flags time d r
 others-untouched s (deleteDirectory path) other ok r ne good = delete-directory-untouched s path ok r other

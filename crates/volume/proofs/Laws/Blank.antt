@@ -18,7 +18,7 @@ use Rattle.layout.specs.Check.{check}
 use Rattle.layout.specs.Paths.{parts, leading, lastPart, home, pathSlot, entryOf, fileRefusal, directoryRefusal}
 use Rattle.volume.specs.Entries.{directoryMade, released, taken, grown, entriesNamed, blocksNamed}
 use Rattle.volume.specs.Create.{place, createRefusal, createImage, createNamed}
-use Rattle.volume.specs.Write.{written, changedEntries, newBlocks, writeAt, writeRefusal, writeNamed}
+use Rattle.volume.specs.Write.{written, changedEntries, newBlocks, writeAt, writeNamed}
 use Rattle.volume.specs.Delete.{allBlocks, deleteAt, deleteNamed}
 use Rattle.volume.specs.Attributes.{emptied, newAttributes, setAttributesRefusal, setAttributesAt, setAttributesNamed, clearAttributesAt, clearAttributesNamed}
 use Rattle.volume.specs.Flags.{clearFlagsAt, clearFlagsNamed}
@@ -38,8 +38,8 @@ use Rattle.layout.proofs.Laws.Slots.{entry-low, entry-high, right-dir}
 use Rattle.layout.proofs.Laws.Owners.{Fresh, free-fresh, file-used}
 use Rattle.volume.proofs.Laws.Table.{taken-length, taken-first, taken-zeros, released-next, released-zero}
 use Rattle.volume.proofs.Laws.Frame.{entries-low, blocks-not, written-in, changed-below, released-agree}
-use Rattle.volume.proofs.Laws.Framed.{frame, at-entry, place-entry, child-chain, own-only}
-use Rattle.volume.proofs.Laws.Places.{create-given, create-directory-given, file-at-path, directory-at-path, path-levels, path-name, place-is, place-home, place-free, place-new, write-given, set-path, set-given}
+use Rattle.volume.proofs.Laws.Framed.{frame, write-framed, at-entry, place-entry, child-chain, own-only}
+use Rattle.volume.proofs.Laws.Places.{create-given, create-directory-given, file-at-path, directory-at-path, path-levels, path-name, place-is, place-home, place-free, place-new, WriteGiven, write-given, set-path, set-given}
 use Rattle.volume.proofs.Laws.CreateDirectory.{made-table}
 use Rattle.volume.proofs.Laws.Delete.{deleted-below, deleted-above, deleted-in-use, deleted-once}
 use Rattle.volume.proofs.Laws.Attributes.{old-below, old-used, emptied-length, emptied-next, set-fresh, both-below}
@@ -180,11 +180,10 @@ module _ (s : List ℕ) (ok : check s ≡ 0) where
       entry-blanked s T (place s path) E _ (frame s (create path type user group permissions flags time) ok r .agree)
 
   -- the data may go into old blocks too, and the block before the new ones is in use
-  write-blanked : (path : List ℕ) (offset : ℕ) (bytes : List ℕ) (time : ℕ) → writeRefusal s path offset (length bytes) ≡ 0
+  pub write-blanked : (path : List ℕ) (offset : ℕ) (bytes : List ℕ) (time : ℕ) → WriteGiven s path offset (length bytes)
       → Blanked s (writeAt s (entryOf isFile s path) offset bytes time)
   unfolding refusal after named writeNamed entryOf
-  write-blanked path offset bytes time r =
-      let G = write-given s path offset (length bytes) r in
+  write-blanked path offset bytes time G =
       let A = G .there in
       let N = A .named in
       let k = pathSlot isFile s path in
@@ -197,7 +196,7 @@ module _ (s : List ℕ) (ok : check s ≡ 0) where
       let last-small = last-below s T e E (N .typed) offset (length bytes) in
       let last-used : 0 < lastOr 0 old → next s (lastOr 0 old) ≢ 0 = λ pos. ⊎-elim (λ q. absurd (omega arith)) (file-used s T e E (N .typed) (lastOr 0 old)) (last-in old 0) in
       grown-blanked s T e E (writeAt s e offset bytes time) (written (old ++ new) offset (length bytes) ++ entriesNamed (changedEntries (lastOr 0 old) new)) new (lastOr 0 old)
-      (frame s (write path offset bytes time) ok r .agree) last-small last-used F
+      (write-framed s T path offset bytes time G .agree) last-small last-used F
       (written-table s T d (A .home-in) k (N .low) (N .high) (N .typed) offset bytes time (G .room))
       (λ b z out m. ⊎-elim
       (λ i. ⊎-elim (λ j. file-used s T e E (N .typed) b j z) out (in-append b old new (written-in (old ++ new) offset (length bytes) b i)))
@@ -287,7 +286,7 @@ module _ (s : List ℕ) (ok : check s ≡ 0) where
 pub blank : (s : List ℕ) (c : Change) → check s ≡ 0 → refusal s c ≡ 0 → Blanked s (after s c)
 unfolding refusal after
 blank s (create path type user group permissions flags time) ok r = create-blanked s ok path type user group permissions flags time r
-blank s (write path offset bytes time) ok r = write-blanked s ok path offset bytes time r
+blank s (write path offset bytes time) ok r = write-blanked s ok path offset bytes time (write-given s path offset (length bytes) r)
 blank s (delete path) ok r = delete-blanked s ok path r
 blank s (createDirectory path type user group permissions flags time d) ok r = create-directory-blanked s ok path type user group permissions flags time d r
 blank s (deleteDirectory path) ok r = delete-directory-blanked s ok path r

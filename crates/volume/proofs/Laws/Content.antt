@@ -13,7 +13,7 @@ use Rattle.layout.specs.Directory.{slotAt, typeOf, isFile, nameOf, directory, d
 use Rattle.layout.specs.Check.{check}
 use Rattle.layout.specs.Paths.{parts, pathOk, leading, lastPart, shallow, home, pathSlot, entryOf, fileRefusal}
 use Rattle.volume.specs.Create.{createRefusal, createImage}
-use Rattle.volume.specs.Write.{writeAt, writeRefusal}
+use Rattle.volume.specs.Write.{writeAt}
 use Rattle.volume.specs.Delete.{deleteAt}
 use Rattle.volume.specs.Attributes.{setAttributesAt, clearAttributesAt, setAttributesRefusal}
 use Rattle.volume.specs.Flags.{clearFlagsAt}
@@ -22,7 +22,7 @@ use Rattle.volume.specs.Directories.{createDirectoryRefusal, newDirector
 use Rattle.volume.specs.Change.{createDirectory, refusal, after, named}
 use Rattle.volume.proofs.Laws.CreateDirectory.{made-untouched}
 use Rattle.volume.proofs.Laws.Framed.{frame}
-use Rattle.volume.proofs.Laws.Places.{At, create-given, create-directory-given, path-levels, file-at-path, write-given, set-path, set-given, path-name, place-is, place-home, place-free, place-new, place-there}
+use Rattle.volume.proofs.Laws.Places.{At, create-given, create-directory-given, path-levels, file-at-path, WriteGiven, set-path, set-given, path-name, place-is, place-home, place-free, place-new, place-there}
 use Rattle.volume.proofs.Laws.Write.{written-file, written-slot, written-next, written-block}
 use Rattle.volume.proofs.Laws.Delete.{deleted-slot, deleted-type, deleted-next, deleted-block}
 use Rattle.volume.proofs.Laws.SetClear.{cleared-slot, cleared-entry, cleared-next, cleared-block, set-slot, set-entry, set-next, set-block}
@@ -86,10 +86,9 @@ module _ (s path other : List ℕ) (ok : check s ≡ 0) (good : pathOk other ≡
       (file-no-dir (typeOf s e) (N .typed)) (rw type (file-no-dir (typeOf s e) (N .typed))) values bytes
       other (beside s s e path other (N .named) p) (beside s s′ e path other (name ∙ N .named) p)
 
-  pub write-untouched : (offset : ℕ) (bytes : List ℕ) (time : ℕ) → writeRefusal s path offset (length bytes) ≡ 0 → Untouched s (writeAt s (entryOf isFile s path) offset bytes time) other
+  pub write-untouched : (offset : ℕ) (bytes : List ℕ) (time : ℕ) → WriteGiven s path offset (length bytes) → Untouched s (writeAt s (entryOf isFile s path) offset bytes time) other
   unfolding entryOf
-  write-untouched offset bytes time r =
-      let G = write-given s path offset (length bytes) r in
+  write-untouched offset bytes time G =
       let A = G .there in
       let N = A .named in
       let d : ℕ × ℕ = (home s path, A .level) in

@@ -1,28 +1,27 @@
 -- THE EFFECT OF A CHANGE OF A FILE: on what its own path shows a function of that alone, on what other paths show none, and how many blocks it takes and gives.
 use Prim.Native.Nat.{ℕ, _+_, _-_, _/_, _≤_, _<_, max}
 use mathlib.Core.Path.{_≡_, refl, sym, ap, _∙_}
-use mathlib.Core.Bool.{true, false, _&&_}
+use mathlib.Core.Bool.{true, false}
 use mathlib.Core.List.{List, [], _∷_, _++_}
 use mathlib.Core.Logic.{_⊎_, inl, inr, ⊎-elim, _≢_}
 use native.Mathlib.Omega.{arith}
 use lib.ListN.{length, getD}
-use Rattle.layout.specs.Limits.{maxLevels, maxData}
-use lib.Dec.{leb}
+use Rattle.layout.specs.Limits.{maxLevels}
 use Rattle.layout.specs.Bytes.{be32, bytes4, bytes8, part, splice, zeros}
 use Rattle.layout.specs.Geometry.{blockCount, blocksFor}
 use Rattle.layout.specs.Table.{next, chain, freeBlocks}
 use Rattle.layout.specs.Directory.{slotAt, typeOf, sizeOf, blocksOf, isFile, isDirectory, nameOf, goodName, directory, dirs, freeSlot, fileBlocks, content, attributeSize, attributeBlocks, attributes}
 use Rattle.layout.specs.Check.{check}
-use Rattle.layout.specs.Paths.{parts, pathOk, leading, lastPart, home, pathSlot, entryOf, fileRefusal}
+use Rattle.layout.specs.Paths.{parts, leading, lastPart, home, pathSlot, entryOf, fileRefusal}
 use Rattle.volume.specs.Entries.{entryBytes}
-use Rattle.volume.specs.Create.{createRefusal, createSlot, createImage}
-use Rattle.volume.specs.Write.{newSize, needed, newBlocks, writeAt, writeRefusal}
+use Rattle.volume.specs.Create.{createRefusal, createSlot, createImage, place}
+use Rattle.volume.specs.Write.{newSize, needed, newBlocks, writeAt}
 use Rattle.volume.specs.Delete.{deleteAt}
 use Rattle.volume.specs.Attributes.{setAttributesAt, clearAttributesAt, setAttributesRefusal}
 use Rattle.volume.specs.Flags.{clearFlagsAt}
 use Rattle.volume.specs.Change.{Change, create, write, delete, createDirectory, deleteDirectory, setAttributes, clearAttributes, clearFlags, refusal, after}
 use Rattle.volume.specs.Views.{just, fileOf, fileAt, folderAt, subject, ofFile, made, takes, gives}
-use Rattle.volume.proofs.Laws.Places.{CreateGiven, create-given, At, file-at-path, WriteGiven, write-given, SetGiven, set-path, set-given, path-name, place-is, place-home, place-free, place-new, place-there}
+use Rattle.volume.proofs.Laws.Places.{CreateGiven, create-given, At, file-at-path, at-accepted, WriteGiven, write-given, SetGiven, set-path, set-given, path-name, place-is, place-home, place-free, place-new, place-there}
 use Rattle.volume.proofs.Laws.Entries.{entry-length, entry-type, entry-size, entry-attribute-size}
 use Rattle.volume.proofs.Laws.Create.{created-slot, created-no-dir, created-name, created-sound}
 use Rattle.volume.proofs.Laws.Write.{Written, written-file, written-slot, written-used, written-attributes, written-sound}
@@ -33,7 +32,7 @@ use Rattle.volume.proofs.Laws.Flags.{flags-beside, flags-zero, flags-so
 use Rattle.volume.proofs.Laws.Content.{write-untouched, delete-untouched, create-untouched, set-untouched, clear-untouched, flags-untouched}
 use Rattle.volume.proofs.Laws.Views.{file-shown, other-shown, OneEntry, folder-shown, own-gone, own-slot, own-entry, own-shown}
 use Rattle.layout.proofs.Laws.Bytes.{part-part, part-same, be32-part, zeros-32, length-splice}
-use Rattle.layout.proofs.Laws.Tests.{require-zero, firstOf-zero, true-not-false}
+use Rattle.layout.proofs.Laws.Tests.{true-not-false}
 use Rattle.layout.proofs.Laws.Lists.{In}
 use Rattle.layout.proofs.Laws.Names.{padded-length}
 use Rattle.layout.proofs.Laws.Frames.{same-inside, same-below, same-byte, same-be32}
@@ -123,6 +122,14 @@ module _ (s path : List ℕ) (ok : check s ≡ 0) (type user group permissions f
       let w = place-free s path (given .placed) in
       let S′ : Sound s′ = created-sound s S (home s path, maxLevels - length (leading (parts path))) di (freeSlot s (directory s (home s path))) (w .0) (w .1) (w .2) (lastPart (parts path)) good (place-new s path (given .placed)) type user group permissions flags time (given .file) in
       rw create-is (own-slot s s′ path S (given .good) (given .short) (place-there s path (given .placed)) (maxLevels - length (leading (parts path))) di (freeSlot s (directory s (home s path))) (w .0) (w .1) slots was-none no-dir
+      S′ (rw (entry-type (lastPart (parts path)) (padded-length (lastPart (parts path)) good) type user group permissions 0 0 0 time flags s e high) (given .file))
+      (created-name s S (home s path, maxLevels - length (leading (parts path))) di (freeSlot s (directory s (home s path))) (w .0) (w .1) (w .2) (lastPart (parts path)) good (place-new s path (given .placed)) type user group permissions flags time (given .file)))
+
+  pub create-entry : entryOf isFile (createImage s path type user group permissions flags time) path ≡ place s path
+  create-entry =
+      let w = place-free s path (given .placed) in
+      let S′ : Sound s′ = created-sound s S (home s path, maxLevels - length (leading (parts path))) di (freeSlot s (directory s (home s path))) (w .0) (w .1) (w .2) (lastPart (parts path)) good (place-new s path (given .placed)) type user group permissions flags time (given .file) in
+      rw (create-is, place-is s path (given .placed)) (own-entry s s′ path S (given .good) (given .short) (place-there s path (given .placed)) (maxLevels - length (leading (parts path))) di (freeSlot s (directory s (home s path))) (w .0) (w .1) slots was-none no-dir
       S′ (rw (entry-type (lastPart (parts path)) (padded-length (lastPart (parts path)) good) type user group permissions 0 0 0 time flags s e high) (given .file))
       (created-name s S (home s path, maxLevels - length (leading (parts path))) di (freeSlot s (directory s (home s path))) (w .0) (w .1) (w .2) (lastPart (parts path)) good (place-new s path (given .placed)) type user group permissions flags time (given .file)))
 
@@ -389,14 +396,10 @@ module _ (s path : List ℕ) (ok : check s ≡ 0) (q : fileRefusal s path ≡ 0)
           size = set-only .len;
         }
 
--- WRITE
-module _ (s path : List ℕ) (ok : check s ≡ 0) (offset : ℕ) (bytes : List ℕ) (time : ℕ) (r : writeRefusal s path offset (length bytes) ≡ 0) where
-  G : WriteGiven s path offset (length bytes)
-  G = write-given s path offset (length bytes) r
-
+-- WRITE, of data of any length
+module _ (s path : List ℕ) (ok : check s ≡ 0) (offset : ℕ) (bytes : List ℕ) (time : ℕ) (G : WriteGiven s path offset (length bytes)) where
   write-q : fileRefusal s path ≡ 0
-  unfolding writeRefusal
-  write-q = firstOf-zero (fileRefusal s path) _ (require-zero (leb (length bytes) maxData && pathOk path) 8 _ r .1) .0
+  write-q = at-accepted s path (G .there)
 
   abbrev write-A : At isFile s path
   write-A = file-at-path s path write-q
@@ -451,7 +454,7 @@ module _ (s path : List ℕ) (ok : check s ≡ 0) (offset : ℕ) (bytes : List �
   write-effect =
       record {
         own = rw (shown s path ok write-q, there-still s path ok write-q w O write-sound (W .type) (W .name)) (unfold fileOf in rw (W .contents, W .kind, W .created, W .modified, write-flags, write-attributes));
-        others = λ other ne. other-shown s w (sound s ok) (O .len) other (λ g. write-untouched s path other ok g ne offset bytes time r);
+        others = λ other ne. other-shown s w (sound s ok) (O .len) other (λ g. write-untouched s path other ok g ne offset bytes time G);
         folders = folder-shown s w (sound s ok) (one-entry s path ok write-q w O (rw (W .type) (no-dir-file s path ok write-q)));
         used = rw (shown s path ok write-q) (unfold fileOf in write-count);
         size = O .len;
@@ -461,7 +464,7 @@ module _ (s path : List ℕ) (ok : check s ≡ 0) (offset : ℕ) (bytes : List �
 pub effect : (s : List ℕ) (c : Change) → ofFile c ≡ true → check s ≡ 0 → refusal s c ≡ 0 → Effect s c
 unfolding ofFile refusal
 effect s (create path type user group permissions flags time) f ok r = create-effect s path ok type user group permissions flags time r
-effect s (write path offset bytes time) f ok r = write-effect s path ok offset bytes time r
+effect s (write path offset bytes time) f ok r = write-effect s path ok offset bytes time (write-given s path offset (length bytes) r)
 effect s (delete path) f ok r = delete-effect s path ok r
 effect s (createDirectory path type user group permissions flags time d) f ok r = absurd (true-not-false f refl)
 effect s (deleteDirectory path) f ok r = absurd (true-not-false f refl)

@@ -17,7 +17,7 @@ use Rattle.layout.specs.Check.{check}
 use Rattle.layout.specs.Paths.{parts, leading, lastPart, shallow, home, pathSlot, entryOf, directoryRefusal}
 use Rattle.volume.specs.Entries.{entryBytes, directoryMade, released, grown, entriesNamed, blocksNamed}
 use Rattle.volume.specs.Create.{place, placeRefusal, createRefusal, createImage, createNamed}
-use Rattle.volume.specs.Write.{put, written, changedEntries, newSize, needed, newBlocks, setFile, writeAt, writeRefusal, writeNamed}
+use Rattle.volume.specs.Write.{put, written, changedEntries, newSize, needed, newBlocks, setFile, writeAt, writeNamed}
 use Rattle.volume.specs.Delete.{allBlocks, deleteAt, deleteNamed}
 use Rattle.volume.specs.Attributes.{newAttributes, setAttributesNamed, clearAttributesNamed}
 use Rattle.volume.specs.Flags.{clearFlagsNamed}
@@ -82,7 +82,7 @@ module _ (s : List ℕ) (S : Sound s) where
       let w = place-free s path r in
       rw (place-is s path r) (slot-entry s S (home s path, maxLevels - length (leading (parts path))) (place-home s path r h) (freeSlot s (directory s (home s path))) (omega (arith, w .1)))
 
-  create-framed : (path : List ℕ) (type user group permissions flags time : ℕ) → createRefusal s path type flags ≡ 0 → Framed s (create path type user group permissions flags time)
+  pub create-framed : (path : List ℕ) (type user group permissions flags time : ℕ) → createRefusal s path type flags ≡ 0 → Framed s (create path type user group permissions flags time)
   unfolding after named createImage createNamed
   create-framed path type user group permissions flags time r =
       let G = create-given s path type flags r in
@@ -219,10 +219,7 @@ module _ (s : List ℕ) (S : Sound s) where
         (agree-then c (slot-agree s S e E made e p₂ (c .size ∙ S .whole) (omega arith) (omega arith)) (λ x i. i) (in-single (e / 512) ns (inl refl)))
         (blocks-below n new (fresh-taken .below) (S .least))
 
-  module _ (path : List ℕ) (offset : ℕ) (bytes : List ℕ) (time : ℕ) (r : writeRefusal s path offset (length bytes) ≡ 0) where
-    given : WriteGiven s path offset (length bytes)
-    given = write-given s path offset (length bytes) r
-
+  module _ (path : List ℕ) (offset : ℕ) (bytes : List ℕ) (time : ℕ) (given : WriteGiven s path offset (length bytes)) where
     abbrev entry : ℕ
     entry = entryOf isFile s path
 
@@ -266,7 +263,7 @@ module _ (s : List ℕ) (S : Sound s) where
     new-written : (x : ℕ) → In x new → In x holds
     new-written x i = taken-written (fileBlocks s entry) new (sizeOf s entry) offset (length bytes) x (counts .0) (counts .1) (counts .2) i
 
-    write-framed : Framed s (write path offset bytes time)
+    pub write-framed : Framed s (write path offset bytes time)
     unfolding after named writeAt writeNamed setFile
     write-framed =
         let p : List ℕ = bytes4 (getD (old ++ new) 0 0) ++ (bytes4 (newSize s entry offset (length bytes)) ++ bytes4 (length (old ++ new))) in
@@ -290,7 +287,7 @@ module _ (s : List ℕ) (S : Sound s) where
 pub frame : (s : List ℕ) (c : Change) → check s ≡ 0 → refusal s c ≡ 0 → Framed s c
 unfolding refusal
 frame s (create path type user group permissions flags time) ok r = create-framed s (sound s ok) path type user group permissions flags time r
-frame s (write path offset bytes time) ok r = write-framed s (sound s ok) path offset bytes time r
+frame s (write path offset bytes time) ok r = write-framed s (sound s ok) path offset bytes time (write-given s path offset (length bytes) r)
 frame s (delete path) ok r = delete-framed s (sound s ok) path (file-at-path s path r)
 frame s (createDirectory path type user group permissions flags time d) ok r = create-directory-framed s (sound s ok) path type user group permissions flags time d r
 frame s (deleteDirectory path) ok r = delete-directory-framed s (sound s ok) path r

@@ -152,6 +152,11 @@ file-at-path s path r =
     let ne = eqb-false _ _ (not-true _ (f .0)) in
     record { good = a .0; short = b .0; there = home-found isFile s path ne; level = maxLevels - length (leading (parts path)); home-in = path-home isFile s path ne (b .0); named = path-named isFile s path ne }
 
+-- and back: the path of an entry is accepted
+pub at-accepted : (s path : List ℕ) → At isFile s path → fileRefusal s path ≡ 0
+unfolding fileRefusal
+at-accepted s path A = let l = A .named .low in rw (A .good, A .short, ne-eqb (pathSlot isFile s path) 0 (λ z. omega arith))
+
 pub directory-at-path : (s path : List ℕ) → directoryRefusal s path ≡ 0 → At isDirectory s path
 unfolding directoryRefusal
 directory-at-path s path r =
@@ -162,7 +167,7 @@ directory-at-path s path r =
     let l = path-levels path (a .0) (b .0) in
     record { good = a .0; short = l .0; there = home-found isDirectory s path ne; level = maxLevels - length (leading (parts path)); home-in = path-home isDirectory s path ne (l .0); named = path-named isDirectory s path ne }
 
--- what an accepted write has
+-- what an accepted write has, but for the limit on its data: a write of any length is told by these
 pub record WriteGiven (s path : List ℕ) (offset count : ℕ) : Type 0 where
   pub there : At isFile s path
   pub within-size : offset ≤ sizeOf s (entryOf isFile s path)

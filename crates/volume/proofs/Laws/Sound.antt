@@ -2,8 +2,10 @@
 use Prim.Native.Nat.{ℕ}
 use mathlib.Core.Path.{_≡_}
 use mathlib.Core.List.{List}
+use lib.ListN.{length}
 use Rattle.layout.specs.Check.{check}
 use Rattle.volume.specs.Change.{Change, create, write, delete, createDirectory, deleteDirectory, setAttributes, clearAttributes, clearFlags, refusal, after}
+use Rattle.volume.proofs.Laws.Places.{write-given}
 use Rattle.volume.proofs.Laws.Create.{kept-create}
 use Rattle.volume.proofs.Laws.Write.{kept-write}
 use Rattle.volume.proofs.Laws.Delete.{kept-delete}
@@ -18,7 +20,7 @@ KeptSound = (s : List ℕ) (c : Change) → check s ≡ 0 → refusal s c ≡ 0 
 pub kept : KeptSound
 unfolding refusal after
 kept s (create path type user group permissions flags time) ok r = kept-create s path type user group permissions flags time ok r
-kept s (write path offset bytes time) ok r = kept-write s path offset bytes time ok r
+kept s (write path offset bytes time) ok r = kept-write s path offset bytes time ok (write-given s path offset (length bytes) r)
 kept s (delete path) ok r = kept-delete s path ok r
 kept s (createDirectory path type user group permissions flags time d) ok r = kept-create-directory s path type user group permissions flags time d ok r
 kept s (deleteDirectory path) ok r = kept-delete-directory s path ok r

@@ -2,25 +2,25 @@
 -- that the write asks for, and the other files stay.
 use Prim.Native.Nat.{ℕ, zero, suc, _+_, _-_, _*_, _≤_, _<_, _/_, max}
 use mathlib.Core.Path.{_≡_, refl, sym, ap, _∙_, subst}
-use mathlib.Core.Bool.{true, false, not, _&&_, or-true}
+use mathlib.Core.Bool.{true, false, or-true}
 use mathlib.Core.List.{List, _++_}
 use mathlib.Core.Logic.{_⊎_, inl, inr, ⊎-elim, _≢_}
 use native.Mathlib.Omega.{arith}
 use native.Mathlib.Nat.{eq-or-lt-of-le}
-use borrow.Author.Tests.{eq-eqb, ne-eqb, eqb-false, not-true, leb-true}
+use borrow.Author.Tests.{eq-eqb, ne-eqb}
 use lib.ListN.{length, getD, take, List·getD-eq-default}
-use lib.Dec.{eqb, leb}
+use lib.Dec.{eqb}
 use lib.Seq.{take-append-le}
 use Rattle.layout.specs.Lists.{iff, lastOr, distinct, joined}
 use Rattle.layout.specs.Bytes.{be32, bytes8, part, splice, zeros, block}
 use Rattle.layout.specs.Geometry.{blockCount, tableBlocks, blocksFor, rootBlock}
 use Rattle.layout.specs.Table.{next, chain, freeBlocks}
 use Rattle.layout.specs.Directory.{slotAt, typeOf, firstBlock, sizeOf, blocksOf, isFree, isFile, isDirectory, nameOf, nameOk, directory, dirs, fileBlocks, content}
-use Rattle.layout.specs.Limits.{maxData, maxLevels}
-use Rattle.layout.specs.Paths.{parts, pathOk, leading, shallow, home, pathSlot, entryOf, fileRefusal}
+use Rattle.layout.specs.Paths.{home, pathSlot, entryOf}
 use Rattle.layout.specs.Check.{noAttributes, attributesOk, fileOk, slotOk, check}
 use Rattle.volume.specs.Entries.{grown, entriesNamed}
-use Rattle.volume.specs.Write.{newSize, needed, newBlocks, put, setFile, writeAt, writeAtRefusal, writeRefusal, changedEntries}
+use Rattle.volume.specs.Write.{newSize, needed, newBlocks, put, setFile, writeAt, changedEntries}
+use Rattle.volume.proofs.Laws.Places.{WriteGiven}
 use Rattle.volume.proofs.Laws.Growth.{grown-steps, put-steps}
 use Rattle.volume.proofs.Laws.Space.{new-fresh, new-length, all-above, all-below, last-below, all-length, all-size}
 use Rattle.volume.proofs.Laws.Data.{put-outside, joined-put, grown-zero, put-next}
@@ -28,7 +28,7 @@ use Rattle.volume.proofs.Laws.Table.{grown-next, grown-used}
 use Rattle.volume.proofs.Laws.Entries.{set-file-length, set-file-same, set-file-created, set-file-modified, set-file-first, set-file-size, set-file-blocks}
 use Rattle.volume.proofs.Laws.Frame.{entries-low, changed-below, grown-agree, grown-length}
 use Rattle.layout.proofs.Laws.Bytes.{splice-cut}
-use Rattle.layout.proofs.Laws.Tests.{and-split, and-join, is-false, within-split, require-zero, firstOf-zero}
+use Rattle.layout.proofs.Laws.Tests.{and-split, and-join, is-false, within-split}
 use Rattle.layout.proofs.Laws.Lists.{In, in-append, joined-append, last-in, joined-same}
 use Rattle.layout.proofs.Laws.Frames.{Same, same-then, same-inner, same-byte, same-be32, same-part, before-next, Agree, agree-block}
 use Rattle.layout.proofs.Laws.Chains.{nth, Chain, getD-chain, in-chain, chain-agree, chain-distinct, chain-last, chain-start}
@@ -43,7 +43,6 @@ use Rattle.layout.proofs.Laws.Changed.{OneSlot}
 use Rattle.layout.proofs.Laws.Steps.{over-same, Midway, Staying, staying, midway-start, dir-apart, midway-own, one-slot}
 use Rattle.layout.specs.Claims.{SameAttributes}
 use Rattle.layout.proofs.Laws.Others.{same-attributes}
-use Rattle.layout.proofs.Laws.Paths.{path-named, path-home}
 
 -- what an accepted write makes of the entry at e, and of its file
 pub record Written (s s′ : List ℕ) (e offset : ℕ) (bytes : List ℕ) (time : ℕ) : Type 0 where
@@ -374,18 +373,10 @@ module _ (s : List ℕ) (S : Sound s) (d : ℕ × ℕ) (di : In d (dirs s)) (k :
             name = name-done;
           })
 
-pub kept-write : (s path : List ℕ) (offset : ℕ) (bytes : List ℕ) (time : ℕ) → check s ≡ 0 → writeRefusal s path offset (length bytes) ≡ 0
+pub kept-write : (s path : List ℕ) (offset : ℕ) (bytes : List ℕ) (time : ℕ) → check s ≡ 0 → WriteGiven s path offset (length bytes)
     → check (writeAt s (entryOf isFile s path) offset bytes time) ≡ 0
-unfolding writeRefusal writeAtRefusal fileRefusal entryOf
-kept-write s path offset bytes time c r =
-    let x = require-zero (leb (length bytes) maxData && pathOk path) 8 _ r in
-    let y = firstOf-zero (fileRefusal s path) _ (x .1) in
-    let a = require-zero (pathOk path) 8 _ (y .0) in
-    let b = require-zero (shallow (leading (parts path))) 16 _ (a .1) in
-    let f = require-zero (not (eqb (pathSlot isFile s path) 0)) 9 _ (b .1) in
-    let g = require-zero (leb offset (sizeOf s (entryOf isFile s path))) 11 _ (y .1) in
-    let h = require-zero (leb (needed s (entryOf isFile s path) offset (length bytes)) (length (freeBlocks (next s) (blockCount s)))) 13 _ (g .1) in
-    let ne = eqb-false _ _ (not-true _ (f .0)) in
-    let N = path-named isFile s path ne in
-    check-zero _ (written-sound s (sound s c) (home s path, maxLevels - length (leading (parts path))) (path-home isFile s path ne (b .0)) (pathSlot isFile s path) (N .low) (N .high) (N .typed)
-    offset bytes time (leb-true _ _ (h .0)))
+unfolding entryOf
+kept-write s path offset bytes time c G =
+    let A = G .there in
+    let N = A .named in
+    check-zero _ (written-sound s (sound s c) (home s path, A .level) (A .home-in) (pathSlot isFile s path) (N .low) (N .high) (N .typed) offset bytes time (G .room))

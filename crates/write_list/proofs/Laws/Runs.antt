@@ -8,8 +8,8 @@ use lib.ListN.{take}
 use Rattle.layout.specs.Limits.{minJournal, maxJournal}
 use Rattle.layout.specs.Check.{check}
 use Rattle.layout.specs.Refusals.{accept}
-use Rattle.volume.specs.Change.{Change}
-use Rattle.volume.proofs.Theorems.{change-sound}
+use Rattle.store.specs.Change.{Change}
+use Rattle.store.proofs.Theorems.{change-sound}
 use Rattle.journal.specs.Journal.{started}
 use Rattle.journal.specs.Run.{Call, change, State, step, run, changeRefusal, afterChange}
 use Rattle.journal.specs.Replay.{replayed, standingAfter, standing}

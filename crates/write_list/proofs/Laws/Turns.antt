@@ -15,8 +15,8 @@ use Rattle.layout.specs.Geometry.{blockCount}
 use Rattle.layout.specs.Check.{check}
 use Rattle.journal.specs.Journal.{wellFormed}
 use Rattle.layout.proofs.Laws.Tests.{and-split, accept-refused, firstOf-refused}
-use Rattle.volume.specs.Change.{Change}
-use Rattle.volume.proofs.Theorems.{change-sound}
+use Rattle.store.specs.Change.{Change}
+use Rattle.store.proofs.Theorems.{change-sound}
 use Rattle.journal.specs.Run.{State, state, changeRefusal, afterChange}
 use Rattle.journal.specs.Walks.Changes.{Ready, readyRefusal}
 use Rattle.journal.proofs.Laws.Undo.{ready-again}

@@ -15,7 +15,18 @@ use reference::State;
 /// reference to them; here the library follows the same steps.
 pub fn numbers(_: &mut Rng, _: u64, t: &mut Tester) {
     let name = [b'v'; 128];
-    for (n, d) in [(3, 1), (3, 2), (2, 1), (128, 1), (129, 1), (4096, 64), (16, 2), (65_535, 64), (65_536, 64), (65_537, 64)] {
+    for (n, d) in [
+        (3, 1),
+        (3, 2),
+        (2, 1),
+        (128, 1),
+        (129, 1),
+        (4096, 64),
+        (16, 2),
+        (65_535, 64),
+        (65_536, 64),
+        (65_537, 64),
+    ] {
         t.report.about(format!("format n {n} d {d}"));
         t.format(&vec![0xEE; 512 * n], d, 7, [3; 16], &name);
     }

@@ -1,5 +1,5 @@
 //! Volumes of several table blocks, some of them with no free entry: writes,
-//! folders and sets of attributes take the lowest free blocks that are left.
+//! folders, sets of attributes and puts take the lowest free blocks that are left.
 
 use crate::images::{self, Fill};
 use crate::journals;
@@ -7,7 +7,7 @@ use crate::rng::Rng;
 use crate::tester::Tester;
 use crate::tree::root;
 use reference::layout::*;
-use reference::worked::{create_directory, delete, set_attributes, write};
+use reference::worked::{create_directory, delete, put, set_attributes, write};
 use reference::{Change, State};
 
 const NAMES: [&[u8]; 3] = [b"holds all", b"has two", b"is new"];
@@ -59,8 +59,9 @@ fn any_change(rng: &mut Rng, image: &[u8]) -> Change {
     let path = rng.pick(&PATHS);
     let size = crate::arguments::size_of(image, path);
     let len = rng.pick(&[1, 512, 513, 4096, 4096]);
-    match rng.below(8) {
+    match rng.below(9) {
         0 => delete(path),
+        8 => put(b"SN4471", &vec![7; rng.below(201)]),
         1 => create_directory(
             format!("/folder {}", rng.below(3)).as_bytes(),
             rng.between(1, 9) as u32,

@@ -1,7 +1,7 @@
 //! The library keeps nothing between calls: images and journals of one length
 //! take turns in the same buffers.
 
-use crate::arguments::{any_append, any_list, changes};
+use crate::arguments::{any_append, any_get, any_list, changes};
 use crate::rng::Rng;
 use crate::tester::Tester;
 use crate::{damage, images, journals};
@@ -19,18 +19,22 @@ pub fn run(rng: &mut Rng, _: u64, t: &mut Tester) {
         let changes = changes(rng, &state.image);
         let list = any_list(rng, &state.image);
         let piece = any_append(rng, &state.image);
+        let (serial, which, buffer) = any_get(rng, &state.image);
         if rng.once_in(3) {
             damage_in_place(rng, &mut state.image);
         }
         pair.image.put(&state.image);
         pair.journal.put(&state.journal);
-        match rng.below(5) {
+        match rng.below(6) {
             0 => t.check_in(&pair.image, &state.image),
             2 => {
                 t.write_list_in(&mut pair, &state, &list);
             }
             3 => {
                 t.append_in(&mut pair, &state, &piece);
+            }
+            4 => {
+                t.get_in(&pair.image, &state.image, &serial, which, &buffer);
             }
             1 => {
                 t.change_in(&mut pair, &state, &rng.pick(&changes));

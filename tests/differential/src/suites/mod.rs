@@ -15,6 +15,7 @@ mod runs;
 mod salvage;
 mod scripts;
 mod sound;
+mod store;
 mod tables;
 mod trees;
 
@@ -55,6 +56,12 @@ pub const SUITES: &[Suite] = &[
     Suite { name: "list_forms", rounds: |_| 1, run: lists::forms },
     Suite { name: "pieces", rounds: |n| n.div_ceil(2), run: pieces::run },
     Suite { name: "pieces_long", rounds: |n| n.div_ceil(250), run: pieces::long },
+    Suite { name: "store", rounds: |n| 2 * n, run: store::run },
+    Suite { name: "store_puts", rounds: |n| 40 * n.div_ceil(500), run: store::puts },
+    Suite { name: "store_lengths", rounds: |_| 1, run: store::lengths },
+    Suite { name: "store_forms", rounds: |_| 1, run: store::forms },
+    Suite { name: "store_order", rounds: |n| n.div_ceil(50), run: store::order },
+    Suite { name: "store_long", rounds: |n| n.div_ceil(250), run: store::long },
     Suite { name: "order", rounds: |n| n.div_ceil(25), run: order::all },
     Suite { name: "orders", rounds: |n| n, run: orders::run },
     Suite { name: "kept", rounds: |n| n.div_ceil(5), run: kept::run },

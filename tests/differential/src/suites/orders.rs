@@ -33,9 +33,9 @@ pub fn run(rng: &mut Rng, _: u64, t: &mut Tester) {
         let other = both(t, &state, &second, &first);
         if let (Some(one), Some(other)) = (one, other) {
             let (path, other_path) = (first.path(), second.path());
-            let inside = is_inside(path, other_path) || is_inside(other_path, path);
+            let inside = is_inside(&path, &other_path) || is_inside(&other_path, &path);
             t.report.agree("accepted in both orders: one path inside the other", inside, false);
-            same(t, &one, &other, [path, other_path]);
+            same(t, &one, &other, [&path, &other_path]);
         }
     }
 }
@@ -51,7 +51,7 @@ fn brief(change: &Change) -> String {
 fn two_changes(rng: &mut Rng, image: &[u8]) -> (Change, Change) {
     let first = any_accepted(rng, image);
     let second = if rng.once_in(8) {
-        let path = [first.path(), b"/", &good_name(rng)].concat();
+        let path = [&first.path()[..], b"/", &good_name(rng)].concat();
         let (file, folder) = (good_kind(rng, Want::File), good_kind(rng, Want::Directory));
         match rng.below(2) {
             0 => create(rng, path, file, 0),
@@ -65,7 +65,7 @@ fn two_changes(rng: &mut Rng, image: &[u8]) -> (Change, Change) {
 
 /// A change of any kind, tried again a few times where it is refused.
 fn any_accepted(rng: &mut Rng, image: &[u8]) -> Change {
-    let kind = rng.below(8);
+    let kind = rng.below(9);
     let mut change = changes(rng, image)[kind].clone();
     for _ in 0..8 {
         if reference::volume::change(image, &change).is_ok() {

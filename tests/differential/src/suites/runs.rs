@@ -10,7 +10,7 @@ use crate::lent::{difference, Lent};
 use crate::library::{self, Pair};
 use crate::report::Entry;
 use crate::rng::Rng;
-use crate::tester::{found, Tester};
+use crate::tester::{found, get_entry, Tester};
 use reference::path::Want;
 use reference::{Answer, Call, Replay, State};
 use std::thread;
@@ -27,16 +27,18 @@ pub struct Mix {
     folder: usize,
     /// Sets of attributes, and clears of them and of flags.
     attributes: usize,
+    put: usize,
     undo: usize,
     look: usize,
 }
 
-pub const MIXES: [Mix; 5] = [
-    Mix { create: 3, write: 8, delete: 2, folder: 3, attributes: 3, undo: 3, look: 4 },
-    Mix { create: 2, write: 12, delete: 1, folder: 1, attributes: 1, undo: 1, look: 2 },
-    Mix { create: 4, write: 4, delete: 5, folder: 9, attributes: 2, undo: 2, look: 2 },
-    Mix { create: 3, write: 6, delete: 3, folder: 4, attributes: 4, undo: 9, look: 1 },
-    Mix { create: 3, write: 3, delete: 3, folder: 1, attributes: 12, undo: 4, look: 5 },
+pub const MIXES: [Mix; 6] = [
+    Mix { create: 3, write: 8, delete: 2, folder: 3, attributes: 3, put: 2, undo: 3, look: 4 },
+    Mix { create: 2, write: 12, delete: 1, folder: 1, attributes: 1, put: 1, undo: 1, look: 2 },
+    Mix { create: 4, write: 4, delete: 5, folder: 9, attributes: 2, put: 1, undo: 2, look: 2 },
+    Mix { create: 3, write: 6, delete: 3, folder: 4, attributes: 4, put: 3, undo: 9, look: 1 },
+    Mix { create: 3, write: 3, delete: 3, folder: 1, attributes: 12, put: 1, undo: 4, look: 5 },
+    Mix { create: 1, write: 1, delete: 1, folder: 1, attributes: 1, put: 20, undo: 3, look: 9 },
 ];
 
 pub fn run(rng: &mut Rng, round: u64, t: &mut Tester) {
@@ -127,7 +129,9 @@ fn any_call(rng: &mut Rng, replay: &Replay, mix: &Mix) -> Call {
     let image = &replay.replayed().image;
     let folders = mix.create + mix.write + mix.delete;
     let attributes = folders + mix.folder;
-    let looks = attributes + mix.attributes + mix.undo;
+    let puts = attributes + mix.attributes;
+    let undos = puts + mix.put;
+    let looks = undos + mix.undo;
     let pick = rng.below(looks + mix.look);
     if pick < mix.create {
         Call::Change(any_create(rng, image))
@@ -142,12 +146,14 @@ fn any_call(rng: &mut Rng, replay: &Replay, mix: &Mix) -> Call {
         } else {
             any_delete_directory(rng, image)
         })
-    } else if pick < attributes + mix.attributes {
+    } else if pick < puts {
         Call::Change(match rng.below(4) {
             0 => any_clear_attributes(rng, image),
             1 => any_clear_flags(rng, image),
             _ => any_set_attributes(rng, image),
         })
+    } else if pick < undos {
+        Call::Change(any_put(rng, image))
     } else if pick < looks {
         Call::Undo
     } else {
@@ -158,11 +164,15 @@ fn any_call(rng: &mut Rng, replay: &Replay, mix: &Mix) -> Call {
 fn any_look(rng: &mut Rng, image: &[u8]) -> Call {
     let path = any_path(rng, image, Want::File);
     let size = size_of(image, &path);
-    match rng.below(7) {
+    match rng.below(9) {
         0 => Call::Check,
+        5 | 6 => {
+            let (serial, which, buffer) = any_get(rng, image);
+            Call::Get { serial, which, buffer }
+        }
         1 => Call::Lookup { path },
-        5 => Call::Info { buffer: any_label_buffer(rng) },
-        6 => {
+        7 => Call::Info { buffer: any_label_buffer(rng) },
+        8 => {
             let path = any_listed(rng, image);
             Call::Entry { path, slot: any_slot(rng), buffer: any_label_buffer(rng) }
         }
@@ -190,6 +200,7 @@ fn brief(call: &Call) -> String {
         Call::Change(SetAttributes(s)) => format!("set of {} bytes of attributes", s.data.len()),
         Call::Change(ClearAttributes(_)) => "clear of attributes".into(),
         Call::Change(ClearFlags(_)) => "clear of flags".into(),
+        Call::Change(Put(p)) => format!("put of {} bytes", p.data.len()),
         Call::WriteList(list) => format!("list of {} bytes", list.len()),
         Call::Append(a) => format!("piece of {} bytes", a.piece.len()),
         Call::Undo => "undo".into(),
@@ -197,6 +208,7 @@ fn brief(call: &Call) -> String {
         Call::Lookup { .. } => "lookup".into(),
         Call::Read { offset, buffer, .. } => format!("read of {} bytes at {offset}", buffer.len()),
         Call::LookInPlace { index, .. } => format!("look in place at {index}"),
+        Call::Get { which, .. } => format!("get of {which:?}"),
         Call::ReadAttributes { buffer, .. } => format!("read attributes into {}", buffer.len()),
         Call::Info { buffer } => format!("info into {}", buffer.len()),
         Call::Entry { slot, buffer, .. } => format!("entry from {slot} into {}", buffer.len()),
@@ -231,6 +243,7 @@ fn number_of(answer: &Answer) -> u32 {
     match answer {
         Answer::Changed { number, .. }
         | Answer::Listed { number, .. }
+        | Answer::Got { number, .. }
         | Answer::Read { number, .. } => *number,
         Answer::Checked(number) => *number,
         Answer::Found(result) => result.as_ref().err().copied().unwrap_or(0),
@@ -240,7 +253,11 @@ fn number_of(answer: &Answer) -> u32 {
 }
 
 fn differs(got: &Answer, expected: &Answer) -> String {
-    if let (Answer::Read { buffer: g, .. }, Answer::Read { buffer: e, .. }) = (got, expected) {
+    if let (
+        Answer::Read { buffer: g, .. } | Answer::Got { buffer: g, .. },
+        Answer::Read { buffer: e, .. } | Answer::Got { buffer: e, .. },
+    ) = (got, expected)
+    {
         if let Some(trouble) = difference("buffer", g, e) {
             return trouble;
         }
@@ -296,6 +313,15 @@ fn look_with_library(image: &Lent, call: &Call) -> (Entry, Answer, Vec<Option<St
             let fill = |path: &Lent, into: &mut Lent| library::read_attributes(image, path, into);
             let (answer, troubles) = fill_with_library(path, buffer, fill);
             (Entry::ReadAttributes, answer, troubles)
+        }
+        Call::Get { serial, which, buffer } => {
+            let (lent, mut lent_buffer) = (Lent::new(serial, 5), Lent::new(buffer, 7));
+            let got = library::get(image, &lent, *which, &mut lent_buffer);
+            let after = lent_buffer.content().to_vec();
+            let troubles =
+                vec![lent.trouble("serial", serial), lent_buffer.trouble("buffer", &after)];
+            let (number, revision, length) = (got.number, got.revision, got.length);
+            (get_entry(*which), Answer::Got { number, revision, length, buffer: after }, troubles)
         }
         Call::LookInPlace { path, index } => {
             let lent = Lent::new(path, 8);

@@ -10,7 +10,7 @@ use crate::tester::Tester;
 use reference::layout::put_number;
 use reference::overview::VOLUME_NUMBERS;
 use reference::path::Want;
-use reference::{Answer, Call, Change, Create, Replay, State};
+use reference::{Answer, Call, Change, Create, Replay, State, Which};
 
 const IMAGE: usize = 8192;
 const JOURNAL: usize = 16_384;
@@ -157,7 +157,7 @@ fn spoil(rng: &mut Rng, script: &mut Script) {
     let (any, last) = (rng.pick(&script.items), script.items[script.items.len() - 1]);
     let end = script.bytes.len();
     match rng.below(5) {
-        0 => script.bytes[any] = rng.pick(&[0, 16, 255]),
+        0 => script.bytes[any] = rng.pick(&[0, 21, 255]),
         1 => script.bytes.truncate(rng.between(last + 1, end - 1)),
         2 => script.bytes.extend(vec![8; rng.between(1, HEADER - 1)]),
         3 => put_number(&mut script.bytes, last + PATH_LENGTH, (end - last) as u32),
@@ -221,6 +221,15 @@ fn item_of(rng: &mut Rng, call: &Call) -> Vec<u8> {
             header[9..17].copy_from_slice(&u64::from(*slot).to_be_bytes());
             (17, path, buffer)
         }
+        Call::Change(Change::Put(p)) => {
+            header[17..25].copy_from_slice(&p.time.to_be_bytes());
+            (18, &p.serial, &p.data)
+        }
+        Call::Get { serial, which: Which::Number(revision), buffer } => {
+            put_number(&mut header, 13, *revision);
+            (19, serial, buffer)
+        }
+        Call::Get { serial, which: Which::Latest, buffer } => (20, serial, buffer),
         Call::Append(_) => unreachable!("a script has no op for a piece"),
     };
     header[0] = op;
@@ -238,7 +247,9 @@ fn put_given(header: &mut [u8], c: &Create) {
 
 fn answer_size(call: &Call) -> usize {
     match call {
-        Call::Read { buffer, .. } | Call::ReadAttributes { buffer, .. } => 16 + buffer.len(),
+        Call::Read { buffer, .. }
+        | Call::ReadAttributes { buffer, .. }
+        | Call::Get { buffer, .. } => 16 + buffer.len(),
         Call::LookInPlace { .. } => 528,
         Call::Info { buffer } => 32 + buffer.len(),
         Call::Entry { buffer, .. } => 64 + buffer.len(),
@@ -254,6 +265,9 @@ fn encoded(answer: &Answer) -> Vec<u8> {
         Answer::Found(Ok(f)) => ([0, f.slot, f.size, f.blocks], vec![]),
         Answer::Found(Err(number)) => ([*number, 0, 0, 0], vec![]),
         Answer::Read { number, count, buffer } => ([*number, *count, 0, 0], buffer.clone()),
+        Answer::Got { number, revision, length, buffer } => {
+            ([*number, *revision, *length, 0], buffer.clone())
+        }
         Answer::Part { range, bytes } => {
             let mut part = bytes.clone();
             part.resize(512, 0);

@@ -1,4 +1,4 @@
-use mathlib.Core.Path.{sym}
+use mathlib.Core.Path.{sym, _∙_}
 use native.Mathlib.Omega.{arith}
 use Rattle.script.specs.Script.{opAt}
 use Rattle.script.proofs.Walks.Scripts.{room-show, head-small}
@@ -6,8 +6,11 @@ use borrow.Author.Needs.{needs}
 use Rattle.script.proofs.items.answer_size.Statement.{statement}
 use Rattle.script.proofs.items.answer_size.Tie as tie
 
-shared-slice-read-if1 : tie.Need-shared-slice-read-if1
-shared-slice-read-if1 c = search needs
+shared-slice-read-shows : tie.Need-shared-slice-read-shows
+shared-slice-read-shows c = search needs
+
+shows-requires : tie.Need-shows-requires
+shows-requires c κs = search needs
 
 shared-slice-read-head-size : tie.Need-shared-slice-read-head-size
 shared-slice-read-head-size c = search needs
@@ -26,17 +29,18 @@ cast-result c = search needs
 
 add-result : tie.Need-add-result
 add-result c =
-    let a = c .before .before .before .before .before .before .args in
+    let a = c .before .before .before .before .before .before .before .args in
     let h = head-small (opAt (a .script .now) (a .at)) (c .before .head-size .result) (c .before .head-size .ensures) in
     omega (arith, h)
 
 returns : tie.Need-returns
 returns c =
-    let a = c .before .before .before .before .before .before .args in
-    rw (c .before .head-size .ensures, c .get32 .ensures) (sym (room-show (a .script .now) (a .at) (c .before .before .before .before .before .before .pre) (c .before .before .before .if1 .taken)))
+    let a = c .before .before .before .before .before .before .before .args in
+    let t = sym (c .before .before .before .before .shows .ensures) ∙ c .before .before .before .if1 .taken in
+    rw (c .before .head-size .ensures, c .get32 .ensures) (sym (room-show (a .script .now) (a .at) (c .before .before .before .before .before .before .before .pre) t))
 
 plain-size-requires : tie.Need-plain-size-requires
-plain-size-requires c κs = search needs
+plain-size-requires c κs = (c .before .before .before .before .pre, sym (c .before .shows .ensures) ∙ c .if1 .left)
 
 returns-2 : tie.Need-returns-2
 returns-2 c = search needs
@@ -45,7 +49,8 @@ pub answer-size-spec : {M : Type 1} → statement M
 answer-size-spec =
     tie.close
     (tie.spec
-    shared-slice-read-if1
+    shared-slice-read-shows
+    shows-requires
     shared-slice-read-head-size
     head-size-requires
     add-get32

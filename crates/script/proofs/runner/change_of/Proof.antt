@@ -14,39 +14,12 @@ add-get64 c = search needs
 get64-requires : tie.Need-get64-requires
 get64-requires c κs = search needs
 
-add-t9 : tie.Need-add-t9
-add-t9 c = search needs
-
-shared-slice-read-t11 : tie.Need-shared-slice-read-t11
-shared-slice-read-t11 c = search needs
-
-add-t12 : tie.Need-add-t12
-add-t12 c = search needs
-
-shared-slice-read-t14 : tie.Need-shared-slice-read-t14
-shared-slice-read-t14 c = search needs
-
-add-t15 : tie.Need-add-t15
-add-t15 c = search needs
-
-shared-slice-read-t17 : tie.Need-shared-slice-read-t17
-shared-slice-read-t17 c = search needs
-
-add-t18 : tie.Need-add-t18
-add-t18 c = search needs
-
-shared-slice-read-t20 : tie.Need-shared-slice-read-t20
-shared-slice-read-t20 c = search needs
-
-add-get32 : tie.Need-add-get32
-add-get32 c = search needs
-
-get32-requires : tie.Need-get32-requires
-get32-requires c κs = search needs
+file-of-requires : tie.Need-file-of-requires
+file-of-requires c κs = search needs
 
 returns : tie.Need-returns
 unfolding changeAt
-returns c = rw (c .before .before .before .before .before .if1 .taken, c .before .before .before .before .before .before .get64 .ensures, c .get32 .ensures)
+returns c = c .file-of .ensures ∙ rw (c .before .if1 .taken, c .before .before .get64 .ensures)
 
 add-get64-2 : tie.Need-add-get64-2
 add-get64-2 c = search needs
@@ -81,12 +54,16 @@ returns-7 : tie.Need-returns-7
 unfolding changeAt
 returns-7 c = rw (c .if7 .taken)
 
--- none of the ops above
 returns-8 : tie.Need-returns-8
 unfolding changeAt
-returns-8 c =
-    let b = c .before in
-    rw (ne-eqb _ 5 (b .before .before .before .before .before .if1 .left), ne-eqb _ 6 (b .before .before .before .before .if2 .left), ne-eqb _ 9 (b .before .before .before .if3 .left), ne-eqb _ 10 (b .before .before .if4 .left), ne-eqb _ 11 (b .before .if5 .left), ne-eqb _ 12 (b .if6 .left), ne-eqb _ 14 (c .if7 .left))
+returns-8 c = rw (c .if8 .taken, c .before .before .before .before .before .before .before .before .get64 .ensures)
+
+-- none of the ops above
+returns-9 : tie.Need-returns-9
+unfolding changeAt
+returns-9 c =
+    let b = c .before .before in
+    rw (ne-eqb _ 5 (b .before .before .before .before .before .if1 .left), ne-eqb _ 6 (b .before .before .before .before .if2 .left), ne-eqb _ 9 (b .before .before .before .if3 .left), ne-eqb _ 10 (b .before .before .if4 .left), ne-eqb _ 11 (b .before .if5 .left), ne-eqb _ 12 (b .if6 .left), ne-eqb _ 14 (c .before .if7 .left), ne-eqb _ 18 (c .if8 .left))
 
 pub change-of-spec : {M : Type 1} → statement M
 change-of-spec =
@@ -95,16 +72,7 @@ change-of-spec =
     shared-slice-read-op
     add-get64
     get64-requires
-    add-t9
-    shared-slice-read-t11
-    add-t12
-    shared-slice-read-t14
-    add-t15
-    shared-slice-read-t17
-    add-t18
-    shared-slice-read-t20
-    add-get32
-    get32-requires
+    file-of-requires
     returns
     add-get64-2
     get64-requires-2
@@ -115,4 +83,5 @@ change-of-spec =
     returns-5
     returns-6
     returns-7
-    returns-8)
+    returns-8
+    returns-9)

@@ -58,7 +58,6 @@ make-requires c κs =
             (omega (arith, answer-size .ensures, n .1)) ∙ l ∙ answer-size .ensures;
       },
       n .0 .low,
-      n .0 .high,
     )
 
 add-at : tie.Need-add-at Inv-loop μ-loop

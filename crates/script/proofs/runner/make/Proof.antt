@@ -1,15 +1,21 @@
-use mathlib.Core.Path.{_∙_}
+use mathlib.Core.Path.{sym, _∙_}
 use Rattle.script.proofs.Walks.Scripts.{room-is-show}
 use Rattle.script.proofs.Walks.Making.{show-item}
 use borrow.Author.Needs.{needs}
 use Rattle.script.proofs.runner.make.Statement.{statement}
 use Rattle.script.proofs.runner.make.Tie as tie
 
-shared-slice-read-if1 : tie.Need-shared-slice-read-if1
-shared-slice-read-if1 c = search needs
+shared-slice-read-shows : tie.Need-shared-slice-read-shows
+shared-slice-read-shows c = search needs
+
+shows-requires : tie.Need-shows-requires
+shows-requires c κs = search needs
 
 show-requires : tie.Need-show-requires
-show-requires c κs = (c .before .before .before .before .before .before .before .before .pre .0 .fits, c .before .before .before .before .before .before .before .before .pre .0 .room ∙ room-is-show (c .before .before .before .before .before .before .before .before .args .script .now) (c .before .before .before .before .before .before .before .before .args .at) (c .before .before .if1 .taken))
+show-requires c κs =
+    let p = c .before .before .before .before .before .before .before .before .before .pre in
+    let a = c .before .before .before .before .before .before .before .before .before .args in
+    (p .0 .fits, p .0 .room ∙ room-is-show (a .script .now) (a .at) (sym (c .before .before .before .shows .ensures) ∙ c .before .before .if1 .taken))
 
 same-length : tie.Need-same-length
 same-length c = search needs
@@ -18,10 +24,15 @@ same-length-2 : tie.Need-same-length-2
 same-length-2 c = search needs
 
 returns : tie.Need-returns
-returns c = let a = c .before .before .before .before .before .before .before .before .before .before .before .args in show-item (a .image .now) (a .journal .now) (a .script .now) (a .at) _ (c .before .before .before .before .before .if1 .taken) (c .before .before .show .ensures)
+returns c =
+    let a = c .before .before .before .before .before .before .before .before .before .before .before .before .args in
+    let t = sym (c .before .before .before .before .before .before .shows .ensures) ∙ c .before .before .before .before .before .if1 .taken in
+    show-item (a .image .now) (a .journal .now) (a .script .now) (a .at) _ t (c .before .before .show .ensures)
 
 make-plain-requires : tie.Need-make-plain-requires
-make-plain-requires c κs = search needs
+make-plain-requires c κs =
+    let p = c .before .before .before .before .before .before .before .before .before .before .pre in
+    (p .0, p .1, sym (c .before .before .before .before .shows .ensures) ∙ c .before .before .before .if1 .left)
 
 same-length-3 : tie.Need-same-length-3
 same-length-3 c = search needs
@@ -39,7 +50,8 @@ pub make-spec : {M : Type 1} → statement M
 make-spec =
     tie.close
     (tie.spec
-    shared-slice-read-if1
+    shared-slice-read-shows
+    shows-requires
     show-requires
     same-length
     same-length-2

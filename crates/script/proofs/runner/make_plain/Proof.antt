@@ -1,7 +1,6 @@
 use mathlib.Core.Path.{_∙_}
 use Rattle.script.proofs.Walks.Scripts.{room-list, room-call}
 use Rattle.script.proofs.Walks.Making.{call-item}
-use native.Mathlib.Omega.{arith}
 use borrow.Author.Needs.{needs}
 use Rattle.script.proofs.runner.make_plain.Statement.{statement}
 use Rattle.script.proofs.runner.make_plain.Tie as tie
@@ -30,7 +29,7 @@ returns c = search needs
 make-call-requires : tie.Need-make-call-requires
 make-call-requires c κs =
     let p = c .before .before .before .before .before .before .before .before .before .pre in
-    (record { fits = p .0 .fits; room = p .0 .room ∙ room-call _ _ (c .before .before .before .if1 .left) (p .2) }, p .1, omega (arith, p .2))
+    (record { fits = p .0 .fits; room = p .0 .room ∙ room-call _ _ (c .before .before .before .if1 .left) (p .2) }, p .1)
 
 same-length-4 : tie.Need-same-length-4
 same-length-4 c = search needs

@@ -7,11 +7,11 @@ use native.Mathlib.Omega.{arith}
 use lib.ListN.{length, take, drop, length-drop, drop-of-length-le}
 use lib.Seq.{take-all, take-nil, drop-nil, take-append-le, drop-append-le, take-append-add, drop-append-add}
 use Rattle.layout.specs.Bytes.{bytes4, bytes8, splice}
 use Rattle.volume.specs.Write.{put, setFile}
 use Rattle.layout.proofs.Laws.Tests.{lt-or-ge}
 use Rattle.layout.proofs.Laws.Lists.{In}
 use Rattle.layout.proofs.Laws.Bytes.{length-splice, splice-nil, splice-append, length-bytes8, length-take-most}
-use Rattle.append.proofs.Laws.Splices.{splice-commutes, splice-over}
+use Rattle.volume.proofs.Laws.Splices.{splice-commutes, splice-over}
 
 put-none : (bs s : List ℕ) (o : ℕ) → put s bs o [] ≡ s
 unfolding put

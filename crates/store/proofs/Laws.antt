@@ -1,0 +1,11 @@
+-- The laws of the store.
+pub mod Form
+pub mod Added
+pub mod Whole
+pub mod Serials
+pub mod Put
+pub mod Sound
+pub mod Framed
+pub mod Blank
+pub mod Orders
+pub mod Gets

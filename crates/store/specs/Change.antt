@@ -1,0 +1,60 @@
+-- All changes: those of the volume, and a put; the rules of each in one place, on a sound image. The names are those of the volume's changes: what the journal
+-- and its runs need of a change are these four.
+use Prim.Native.Nat.{ℕ}
+use mathlib.Core.List.{List}
+use Rattle.volume.specs.Change as volume
+use Rattle.volume.specs.Views as views
+use Rattle.store.specs.Put.{pathOf, putRefusal, putImage, putNamed, putRevision}
+
+pub data Change : Type 0 where
+  plain : volume.Change → Change
+  put : (serial : List ℕ) (time : ℕ) (bytes : List ℕ) → Change
+
+-- the volume's changes by their own names
+abbrev pub create : (path : List ℕ) (type user group permissions flags time : ℕ) → Change
+create path type user group permissions flags time = plain (volume.create path type user group permissions flags time)
+
+abbrev pub write : (path : List ℕ) (offset : ℕ) (bytes : List ℕ) (time : ℕ) → Change
+write path offset bytes time = plain (volume.write path offset bytes time)
+
+abbrev pub delete : (path : List ℕ) → Change
+delete path = plain (volume.delete path)
+
+abbrev pub createDirectory : (path : List ℕ) (type user group permissions flags time d : ℕ) → Change
+createDirectory path type user group permissions flags time d = plain (volume.createDirectory path type user group permissions flags time d)
+
+abbrev pub deleteDirectory : (path : List ℕ) → Change
+deleteDirectory path = plain (volume.deleteDirectory path)
+
+abbrev pub setAttributes : (path bytes : List ℕ) → Change
+setAttributes path bytes = plain (volume.setAttributes path bytes)
+
+abbrev pub clearAttributes : (path : List ℕ) → Change
+clearAttributes path = plain (volume.clearAttributes path)
+
+abbrev pub clearFlags : (path : List ℕ) → Change
+clearFlags path = plain (volume.clearFlags path)
+
+-- the refusal by the numbers 9 to 26, or 0
+unfoldable pub refusal : List ℕ → Change → ℕ
+refusal s (plain c) = volume.refusal s c
+refusal s (put serial time bytes) = putRefusal s serial time bytes
+
+-- of an accepted change: the image after it, its named blocks (in any order), and the number that it answers: the slot of create (of a directory too), the
+-- revision of put
+unfoldable pub after : List ℕ → Change → List ℕ
+after s (plain c) = volume.after s c
+after s (put serial time bytes) = putImage s serial time bytes
+
+unfoldable pub named : List ℕ → Change → List ℕ
+named s (plain c) = volume.named s c
+named s (put serial time bytes) = putNamed s serial time bytes
+
+unfoldable pub slotGiven : List ℕ → Change → ℕ
+slotGiven s (plain c) = volume.slotGiven s c
+slotGiven s (put serial time bytes) = putRevision s serial
+
+-- the path that a change is about
+unfoldable pub subject : Change → List ℕ
+subject (plain c) = views.subject c
+subject (put serial time bytes) = pathOf serial

@@ -1,0 +1,6 @@
+pub mod Settings
+pub mod Put
+pub mod Get
+pub mod Change
+pub mod Asked
+pub mod Walks
