@@ -1,7 +1,7 @@
 // The plain check. It keeps no record of owners: for each block it counts, by walking every chain afresh, how many chains hold it.
 // Tests joined by `&` and `|` are all made; one after `&&` is made only where those before it hold.
 ghost use Prim.Native.Nat.{_+_, _-_, _*_, _/_, _%_, _≤_, _<_};
-ghost use mathlib.Core.Bool.{true, not, _&&_};
+ghost use mathlib.Core.Bool.{true, _&&_};
 ghost use mathlib.Core.Path.{_≡_};
 ghost use lib.ListN.{length, getD};
 ghost use lib.Dec.{eqb, ltb};

@@ -1,6 +1,6 @@
 -- What the contracts of private functions say. The blocks claimed are known by a mark for each block; only which blocks are marked counts, so what a
 -- function does is said for every list of blocks that the marks are those of.
-use Prim.Native.Nat.{ℕ, _+_, _*_, _≤_, _<_}
+use Prim.Native.Nat.{ℕ, _+_, _≤_, _<_}
 use mathlib.Core.List.{List, [], _∷_, _++_}
 use mathlib.Core.Bool.{Bool, true, false, not, cond}
 use mathlib.Core.Path.{_≡_}

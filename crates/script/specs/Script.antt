@@ -1,7 +1,7 @@
 -- Scripts: a run's calls as bytes, and its answers as bytes. A script is a sequence of items that fill it exactly. An item is a header of 33 bytes,
 -- then a name, then data. In the header, all numbers big-endian: op (1 byte), type (1), user (1), group (1), permissions (1), flags (4), offset (8),
 -- time (8), length of the name (4), length of the data (4). Fields that an op does not use are not looked at.
-use Prim.Native.Nat.{ℕ, _+_, _-_, _*_, _/_, _%_, _≤_}
+use Prim.Native.Nat.{ℕ, _+_, _-_, _/_, _%_, _≤_}
 use mathlib.Core.Path.{_≡_}
 use mathlib.Core.List.{List, [], _∷_, _++_, map}
 use mathlib.Core.Bool.{Bool, not, _&&_, cond}

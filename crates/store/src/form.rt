@@ -6,7 +6,7 @@ ghost use mathlib.Core.List.{_∷_};
 ghost use lib.ListN.{length};
 ghost use Rattle.layout.specs.Bytes.{be32, bytes4, zeros, part, splice};
 ghost use Rattle.store.specs.Settings.{maxSetting, maxRevisions, maxNumber, recordBytes, wholeFile, encoded, held, recordsIn, added};
-ghost use Rattle.store.specs.Walks.Forms.{maxForm, lengthAt, followsOn, heldBy, inRoom, formIn, Counted, Standing, Parsed, droppedBy, lengthAfter, revision, Placed};
+ghost use Rattle.store.specs.Walks.Forms.{maxForm, lengthAt, followsOn, heldBy, inRoom, formIn, Counted, Summary, Parsed, droppedBy, lengthAfter, revision, Placed};
 use layout::number::get32;
 use volume::number::put32;
 
@@ -249,7 +249,7 @@ fn clear_from(room: &mut [u8], at: usize)
 
 // The file with a revision more: the records with it, the oldest dropped where 16 stand, and zeros to the end of the new room. Gives the new used length.
 pub fn rewrite(old: &[u8], form: Form, bytes: &[u8], new: &mut [u8]) -> usize
-    requires { ⌜ (Standing (now old) (form .used) (form .count) (form .last) (form .oldest)) × (form .last < maxNumber) × (length (now bytes) ≤ maxSetting)
+    requires { ⌜ (Summary (now old) (form .used) (form .count) (form .last) (form .oldest)) × (form .last < maxNumber) × (length (now bytes) ≤ maxSetting)
         × (length (now old) ≡ maxForm) × (length (now new) ≡ maxForm) ⌝ }
     ensures bytes { λ _. ⌜ now (new .exit) ≡ encoded (added (inRoom (now (old .entry)) (form .used)) (now (bytes .entry))) maxForm ⌝ }
     ensures size { λ r. ⌜ r ≡ length (wholeFile (added (inRoom (now (old .entry)) (form .used)) (now (bytes .entry)))) ⌝ }

@@ -2,13 +2,12 @@
 use Prim.Native.Nat.{ℕ}
 use mathlib.Core.List.{List, [], _∷_, _++_, map}
 use lib.ListN.{replicate}
-use Rattle.layout.specs.Lists.{interval}
-use Rattle.layout.specs.Bytes.{be32, splice, block}
-use Rattle.layout.specs.Table.{next, setNext}
+use Rattle.layout.specs.Bytes.{be32, splice}
+use Rattle.layout.specs.Table.{next}
 use Rattle.layout.specs.Check.{check}
 use Rattle.store.specs.Change.{Change, delete, setAttributes, clearAttributes, named, refusal, after}
 use Rattle.journal.specs.Journal.{used, started, ascending}
-use Rattle.journal.specs.Run.{change, look, readAttributesOf, State, step, answer, lookAnswer}
+use Rattle.journal.specs.Run.{change, readAttributesOf, step, answer, lookAnswer}
 use Rattle.tables.proofs.Rules.{rules}
 use Rattle.tables.proofs.Samples.{AsExpected, formattedAs, pattern, inRoot, fileA, createFile, writeA, numbers, samples}
 

@@ -6,3 +6,4 @@ pub mod Script
 pub mod Tree
 pub mod Attributes
 pub mod Orders
+pub mod Settings

@@ -1,5 +1,5 @@
 -- What is promised of a list of writes (FORMAT.md, 18), on any image, journal and list.
-use Prim.Native.Nat.{ℕ, _<_}
+use Prim.Native.Nat.{ℕ}
 use mathlib.Core.List.{List, map}
 use mathlib.Core.Path.{_≡_}
 use lib.ListN.{take}

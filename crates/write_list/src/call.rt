@@ -1,7 +1,6 @@
 // Write list: the writes of a list in order, each with its own record, until the first refusal.
 ghost use mathlib.Core.Path.{_≡_};
 ghost use mathlib.Core.Bool.{true};
-ghost use Rattle.layout.specs.Bytes.{be32};
 ghost use Rattle.journal.specs.Run.{numberOf, changeRefusal, afterChange, state};
 ghost use Rattle.journal.specs.Answers.{changedAnswer};
 ghost use Rattle.journal.specs.Walks.Changes.{Ready};

@@ -7,10 +7,10 @@ use Rattle.layout.specs.Check.{check}
 use Rattle.store.specs.Change.{Change}
 use Rattle.store.proofs.Theorems.{change-sound}
 use Rattle.journal.specs.Journal.{started}
-use Rattle.journal.specs.Run.{Call, change, Answer, State, step, run, afterChange}
+use Rattle.journal.specs.Run.{Call, Answer, State, step, run}
 use Rattle.journal.specs.Replay.{replayed, standingAfter, standing}
 use Rattle.journal.proofs.Laws.Runs.{Stand, One, one-call}
-use Rattle.append.specs.Append.{pieceWrite, afterAppend, appendAnswer}
+use Rattle.append.specs.Append.{afterAppend}
 use Rattle.append.specs.Runs.{PieceCall, call, append, pieceStep, pieceAnswer, pieceRun, pieceAnswers, callsOf, asWrites, pieceStanding, pieceReplayAnswer, pieceReplayAnswers, PieceRunTheorem}
 
 -- a run of two lists of calls

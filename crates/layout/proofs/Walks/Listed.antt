@@ -11,12 +11,11 @@ use Rattle.layout.specs.Limits.{maxLevels}
 use Rattle.layout.specs.Bytes.{be32, be64, part, splice}
 use Rattle.layout.specs.Geometry.{blockCount}
 use Rattle.layout.specs.Table.{next, chain}
-use Rattle.layout.specs.Directory.{slotAt, typeOf, firstBlock, blocksOf, isUsed, isDirectory, slash, directory, rootOf, root, dirs}
+use Rattle.layout.specs.Directory.{slotAt, typeOf, firstBlock, isUsed, isDirectory, slash, directory, rootOf, dirs}
 use Rattle.layout.specs.Check.{check}
 use Rattle.layout.specs.Paths.{parts, pathOk, leading, shallow, home, pathSlot, entryOf, directoryRefusal}
 use Rattle.layout.specs.Looks.{VolumeAnswer, EntryAnswer, volumeInfo, isRootPath, listedRefusal, listedBlock, usedSlot, noEntry, entryFields, nextEntry}
-use Rattle.layout.specs.Walks.Looks.{Located, Opens, Lists}
-use Rattle.layout.specs.Walks.Shapes.{DirectoryAt}
+use Rattle.layout.specs.Walks.Looks.{Opens, Lists}
 use Rattle.layout.specs.Walks.Slots.{Stands, entryAt, usedFrom}
 use Rattle.layout.proofs.Laws.Bytes.{be32-part}
 use Rattle.layout.proofs.Laws.Lists.{In, interval-next}

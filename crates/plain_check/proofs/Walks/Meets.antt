@@ -9,7 +9,7 @@ use lib.ListN.{length}
 use Rattle.layout.specs.Lists.{interval}
 use Rattle.layout.specs.Geometry.{rootBlock}
 use Rattle.layout.specs.Limits.{maxLevels}
-use Rattle.layout.specs.Table.{next, chain}
+use Rattle.layout.specs.Table.{next}
 use Rattle.layout.specs.Directory.{slotAt, typeOf, firstBlock, blocksOf, isDirectory, directory}
 use Rattle.layout.proofs.Laws.Chains.{chain-suc, chain-none}
 use Rattle.layout.proofs.Laws.Tests.{true-not-false}

@@ -6,14 +6,12 @@ use mathlib.Core.Path.{_≡_, refl, sym, ap, _∙_, subst}
 use native.Mathlib.Omega.{arith}
 use lib.ListN.{length, getD, set}
 use borrow.Author.Tests.{eq-eqb, ne-eqb}
-use Rattle.layout.specs.Bytes.{part, zeros, splice}
+use Rattle.layout.specs.Bytes.{zeros, splice}
 use Rattle.layout.specs.Geometry.{blockCount}
 use Rattle.layout.specs.Table.{next, chain}
-use Rattle.layout.specs.Directory.{slotAt, typeOf, firstBlock, blocksOf, attributeBlock, attributeSize, directory, fileBlocks, attributeBlocks}
+use Rattle.layout.specs.Directory.{slotAt, typeOf, firstBlock, blocksOf, attributeBlock, attributeSize, fileBlocks, attributeBlocks}
 use Rattle.layout.specs.Check.{slotOk, newName}
-use Rattle.layout.specs.Walks.Slots.{entryAt}
 use Rattle.volume.specs.Attributes.{setAttributeFields}
-use Rattle.layout.proofs.Laws.Tests.{below-more}
 use Rattle.layout.proofs.Laws.Bytes.{length-splice, splice-append, splice-ext, sets-splice}
 use Rattle.salvage.specs.Salvage.{claimable, ends, ended, skip, zeroEntry}
 use Rattle.salvage.specs.Walks.{Claimed, progress, FileTaken, SlotTaken}

@@ -24,7 +24,7 @@ use Rattle.volume.specs.Write.{newSize, needed, writeAt, writeAtRefusal}
 use Rattle.volume.specs.Walks.Targets as targets
 use Rattle.store.specs.Settings.{maxSetting, maxNumber, Revision, wholeFile, encoded, Found, broken, held, revisions, latest, added}
 use Rattle.store.specs.Put.{heldIn, formRefusal}
-use Rattle.store.specs.Walks.Forms.{maxForm, bytesOf, inRoom, Standing, Parsed, lengthAfter}
+use Rattle.store.specs.Walks.Forms.{maxForm, bytesOf, inRoom, Summary, Parsed, lengthAfter}
 use Rattle.store.specs.Walks.Puts.{heldAt, rewrittenAt, moreRefusal, Weighed}
 use Rattle.layout.proofs.Laws.Tests.{require-zero, firstOf-zero, lt-or-ge}
 use Rattle.layout.proofs.Laws.Bytes.{length-zeros, zeros-add}
@@ -120,7 +120,7 @@ module _ {s : List ℕ} {slot b first size blocks : ℕ} (st : targets.Standing 
 
     -- it is of the form
     module _ (q : right ≡ true) where
-      stood : Standing room used count last oldest
+      stood : Summary room used count last oldest
       stood = P .right q .1
 
       held-is : revisions (content s e) ≡ held rs
@@ -221,13 +221,13 @@ module _ {s : List ℕ} {slot b first size blocks : ℕ} (st : targets.Standing 
           go true q = refl
           go false q = let z : formRefusal (revisions (content s e)) ≡ 24 = ap formRefusal (found-is ∙ P .wrong q) in absurd (omega (arith, z, accepted))
 
-      pub more-standing : Standing room used count last oldest
-      more-standing = P .right more-right .1
+      pub more-summary : Summary room used count last oldest
+      more-summary = P .right more-right .1
 
       pub more-low : last < maxNumber
       more-low =
           let h : heldAt s e ≡ rs = ap heldIn (held-is more-right) in
           let l : latest (heldAt s e) < maxNumber = form-held (revisions (content s e)) accepted .1 in
           let g : latest rs < maxNumber = (rw h at l) in
-          let x = more-standing .latest-is in
+          let x = more-summary .latest-is in
           omega arith

@@ -16,7 +16,7 @@ use Rattle.layout.proofs.Laws.Lists.{in-drop}
 use Rattle.layout.proofs.Laws.Bytes.{length-part, part-part, part-rest, length-bytes4, length-zeros, zeros-add, length-splice, splice-append, splice-three}
 use Rattle.layout.proofs.Laws.Tests.{lt-or-ge}
 use Rattle.store.specs.Settings.{maxSetting, maxRevisions, Revision, recordBytes, wholeFile, encoded, latest, added}
-use Rattle.store.specs.Walks.Forms.{maxForm, inRoom, Standing, droppedBy, lengthAfter, revision}
+use Rattle.store.specs.Walks.Forms.{maxForm, inRoom, Summary, droppedBy, lengthAfter, revision}
 use Rattle.store.proofs.Laws.Form.{body-length}
 use Rattle.store.proofs.Laws.Added.{read-some}
 use Rattle.store.proofs.Laws.Whole.{Bytes, bytes-drop, bytes-take, records-whole}
@@ -62,7 +62,7 @@ whole-length : (rs : List Revision) → length (wholeFile rs) ≡ 5 + length (jo
 unfolding wholeFile bytes4
 whole-length rs = omega arith
 
-module _ (old : List ℕ) (used count last oldest : ℕ) (small : Bytes old) (long : length old ≡ maxForm) (S : Standing old used count last oldest) where
+module _ (old : List ℕ) (used count last oldest : ℕ) (small : Bytes old) (long : length old ≡ maxForm) (S : Summary old used count last oldest) where
   abbrev rs : List Revision
   rs = inRoom old used
 

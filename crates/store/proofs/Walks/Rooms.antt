@@ -17,7 +17,7 @@ use Rattle.layout.proofs.Laws.Bytes.{length-part, part-part, part-same, be32-sa
 use Rattle.layout.proofs.Laws.Tests.{and-split, true-not-false, lt-or-ge, within-split, within-join}
 use Rattle.layout.proofs.Walks.Content.{chainBytes, length-chainBytes, below-nth}
 use Rattle.store.specs.Settings.{maxRevisions, Found, broken, held, recordsIn, numbered, revisions, latest}
-use Rattle.store.specs.Walks.Forms.{maxForm, bytesOf, heldBy, inRoom, formIn, Counted, Standing, Parsed, Placed}
+use Rattle.store.specs.Walks.Forms.{maxForm, bytesOf, heldBy, inRoom, formIn, Counted, Summary, Parsed, Placed}
 use Rattle.store.proofs.Laws.Added.{not-broken}
 use Rattle.store.proofs.Walks.Records.{records-most}
 use Rattle.store.proofs.Walks.Zeros.{allZero-every}
@@ -30,9 +30,9 @@ pub none-in : (room : List ℕ) → inRoom room 5 ≡ []
 unfolding heldBy recordsIn
 none-in room = refl
 
-pub standing-none : (room : List ℕ) → Standing room 5 0 0 0
+pub summary-none : (room : List ℕ) → Summary room 5 0 0 0
 unfolding heldBy recordsIn latest
-standing-none room =
+summary-none room =
     record { low = omega arith; high = omega arith; read = refl; many = refl; latest-is = refl; oldest-is = refl }
 
 -- what parse gives: each refused exit, and the form

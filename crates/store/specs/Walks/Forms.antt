@@ -54,7 +54,7 @@ formIn room size =
     cond (eqb (getD room 0 0) 1 && (within 5 size used && leb used maxForm)) found broken
 
 -- the records that end at `used`, by numbers: how many, the number of the latest, 0 if there is none, and the length of the oldest record
-pub record Standing (room : List ℕ) (used count last oldest : ℕ) : Type 0 where
+pub record Summary (room : List ℕ) (used count last oldest : ℕ) : Type 0 where
   pub low : 5 ≤ used
   pub high : used ≤ maxForm
   pub read : recordsIn maxRevisions (part room 5 (used - 5)) ≡ held (inRoom room used)
@@ -64,7 +64,7 @@ pub record Standing (room : List ℕ) (used count last oldest : ℕ) : Type 0 wh
 
 -- what is found in a file, by numbers and the room
 pub record Parsed (found : Found) (room : List ℕ) (ok : Bool) (used count last oldest : ℕ) : Type 0 where
-  pub right : ok ≡ true → (found ≡ held (inRoom room used)) × (Standing room used count last oldest)
+  pub right : ok ≡ true → (found ≡ held (inRoom room used)) × (Summary room used count last oldest)
   pub wrong : ok ≡ false → found ≡ broken
 
 -- the length of what a further revision drops, the oldest record where 16 stand; the used length with a revision of `size` bytes more

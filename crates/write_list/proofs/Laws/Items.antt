@@ -1,18 +1,17 @@
 -- The items of a list, one after the other.
 use Prim.Native.Nat.{ℕ, _+_, _-_, _≤_, _<_}
-use mathlib.Core.Path.{_≡_, refl, ap, _∙_}
-use mathlib.Core.Bool.{true, false, and-false}
-use mathlib.Core.List.{List, [], _∷_, map}
+use mathlib.Core.Path.{_≡_, refl}
+use mathlib.Core.Bool.{true, false}
+use mathlib.Core.List.{List, [], _∷_}
 use native.Mathlib.Omega.{arith}
-use borrow.Author.Tests.{le-leb, lt-leb, leb-true, eqb-true, eq-eqb, ne-eqb}
-use lib.Dec.{leb, eqb}
-use lib.ListN.{length, getD}
-use Rattle.layout.specs.Lists.{within, every}
+use borrow.Author.Tests.{le-leb, lt-leb, leb-true}
+use lib.Dec.{leb}
+use lib.ListN.{length}
 use Rattle.layout.specs.Bytes.{be32}
 use Rattle.journal.specs.Journal.{recordsFrom}
 use Rattle.journal.proofs.Laws.RecordWalk.{records-none, records-more}
 use Rattle.layout.proofs.Laws.Tests.{and-split}
-use Rattle.write_list.specs.List.{maxList, itemSize, pathLength, writeAt, itemOk, items, listOk, writes}
+use Rattle.write_list.specs.List.{itemSize, pathLength, itemOk, items}
 
 -- an item of the form, and ways to miss it
 module _ (l : List ℕ) (at : ℕ) where

@@ -1,7 +1,7 @@
 -- The theorem over runs with lists, from the journal's law of one call.
 use Prim.Native.Nat.{ℕ, zero, suc, _+_, _-_, _≤_}
 use mathlib.Core.List.{List, [], _∷_, _++_, map}
-use mathlib.Core.Path.{_≡_, refl, sym, ap, _∙_, subst}
+use mathlib.Core.Path.{_≡_, refl, sym, ap, _∙_}
 use native.Mathlib.Omega.{arith}
 use native.Mathlib.Numerals.{add-one}
 use lib.ListN.{take}
@@ -14,7 +14,7 @@ use Rattle.journal.specs.Journal.{started}
 use Rattle.journal.specs.Run.{Call, change, State, step, run, changeRefusal, afterChange}
 use Rattle.journal.specs.Replay.{replayed, standingAfter, standing}
 use Rattle.journal.proofs.Laws.Runs.{Stand, One, one-call}
-use Rattle.write_list.specs.List.{writes, Listed, listed, oneByOne, listRefusal, writeList}
+use Rattle.write_list.specs.List.{writes, listed, oneByOne, listRefusal, writeList}
 use Rattle.write_list.specs.Runs.{ListCall, call, list, ListAnswer, answered, listAnswer, listStep, listRun, listAnswers, callsOf, spread, listStanding, listReplayAnswer, listReplayAnswers, ListRunTheorem}
 
 -- the count goes up from where it begins

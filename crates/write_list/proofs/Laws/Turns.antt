@@ -1,28 +1,27 @@
 -- The turns of the two loops over a list's items, and the exits of the calls.
-use Prim.Native.Nat.{ℕ, zero, suc, _+_, _≤_, _<_}
-use mathlib.Core.Path.{_≡_, refl, sym, ap, _∙_}
+use Prim.Native.Nat.{ℕ, _+_, _≤_, _<_}
+use mathlib.Core.Path.{_≡_, sym, _∙_}
 use mathlib.Core.Bool.{true, false}
 use mathlib.Core.List.{List, map}
 use native.Mathlib.Omega.{arith}
 use native.Mathlib.Numerals.{add-one}
-use borrow.Author.Tests.{le-leb, lt-leb, leb-true, eqb-true, eq-eqb, ne-eqb}
+use borrow.Author.Tests.{le-leb, lt-leb, leb-true, eq-eqb, ne-eqb}
 use lib.Dec.{leb, eqb}
 use lib.ListN.{length, getD}
 use Rattle.layout.specs.Lists.{within, every}
 use Rattle.layout.specs.Bytes.{be32}
-use Rattle.layout.specs.Refusals.{require, accept}
+use Rattle.layout.specs.Refusals.{require}
 use Rattle.layout.specs.Geometry.{blockCount}
 use Rattle.layout.specs.Check.{check}
 use Rattle.journal.specs.Journal.{wellFormed}
-use Rattle.layout.proofs.Laws.Tests.{and-split, accept-refused, firstOf-refused}
-use Rattle.store.specs.Change.{Change}
+use Rattle.layout.proofs.Laws.Tests.{and-split, accept-refused}
 use Rattle.store.proofs.Theorems.{change-sound}
-use Rattle.journal.specs.Run.{State, state, changeRefusal, afterChange}
+use Rattle.journal.specs.Run.{State, changeRefusal, afterChange}
 use Rattle.journal.specs.Walks.Changes.{Ready, readyRefusal}
 use Rattle.journal.proofs.Laws.Undo.{ready-again}
 use Rattle.journal.proofs.Walks.Undoing.{unready}
-use Rattle.write_list.specs.List.{maxList, itemSize, writeAt, itemOk, items, listOk, writes, Listed, listed, oneByOne, listRefusal, writeList}
-use Rattle.write_list.proofs.Laws.Items.{Item, item, Ahead, left, ahead-start, ahead-next, left-start, left-next, left-first, left-end}
+use Rattle.write_list.specs.List.{maxList, writeAt, itemOk, items, listOk, writes, listed, oneByOne, listRefusal, writeList}
+use Rattle.write_list.proofs.Laws.Items.{item, Ahead, left, ahead-start, ahead-next, left-start, left-next, left-first, left-end}
 
 -- from an offset on, the items are right if all are
 pub record Scanning (l : List ℕ) (at : ℕ) : Type 0 where

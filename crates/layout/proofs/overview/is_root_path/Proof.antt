@@ -1,4 +1,3 @@
-use mathlib.Core.Path.{sym}
 use Rattle.layout.proofs.Walks.Listed.{root-path-long, root-path-one}
 use borrow.Author.Needs.{needs}
 use Rattle.layout.proofs.overview.is_root_path.Statement.{statement}

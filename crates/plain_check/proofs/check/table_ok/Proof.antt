@@ -2,7 +2,6 @@ use mathlib.Core.Path.{refl, _∙_}
 use native.Mathlib.Omega.{arith}
 use Rattle.plain_check.proofs.Walks.Tests.{taken, left}
 use Rattle.plain_check.proofs.Walks.Stages.{six-all}
-use borrow.Author.Needs.{needs}
 use Rattle.plain_check.proofs.check.table_ok.Statement.{statement}
 use Rattle.plain_check.proofs.check.table_ok.Tie as tie
 use Rattle.plain_check.proofs.check.table_ok.Reads as reads

@@ -1,6 +1,4 @@
-use mathlib.Core.List.{[]}
-use Rattle.layout.specs.Answers.{volumeAnswer}
-use Rattle.script.specs.Script.{volumeHead, numbers}
+use Rattle.script.specs.Script.{volumeHead}
 use Rattle.script.proofs.Walks.Encoding.{length-numbers, two-groups}
 use borrow.Author.Needs.{needs}
 use Rattle.script.proofs.overview.put_volume.Statement.{statement}

@@ -6,7 +6,7 @@ use lib.ListN.{length}
 use Rattle.layout.specs.Walks.Slots.{entryAt}
 use Rattle.volume.specs.Write.{writeAt, writeAtRefusal}
 use Rattle.layout.proofs.Laws.Bytes.{length-zeros}
-use Rattle.store.proofs.Walks.Rooms.{standing-none}
+use Rattle.store.proofs.Walks.Rooms.{summary-none}
 use Rattle.store.proofs.Walks.Refusals.{first-length}
 use Rattle.store.proofs.Walks.Firsts.{first-used, first-front}
 use Rattle.store.specs.Walks.Forms.{maxForm}
@@ -32,7 +32,7 @@ slice-aggregate-rewrite-2 c = search needs
 rewrite-requires : tie.Need-rewrite-requires
 rewrite-requires c κs =
     let n = c .before .no-records .ensures in
-    (rw (n .1, n .2, n .3, n .4) (standing-none (c .before .before .before .before .empty-room .result)), omega (arith, n .3), c .before .before .before .before .before .before .before .pre .2, ap length (c .before .before .before .before .empty-room .ensures) ∙ length-zeros maxForm, ap length (c .before .before .before .empty-room2 .ensures) ∙ length-zeros maxForm)
+    (rw (n .1, n .2, n .3, n .4) (summary-none (c .before .before .before .before .empty-room .result)), omega (arith, n .3), c .before .before .before .before .before .before .before .pre .2, ap length (c .before .before .before .before .empty-room .ensures) ∙ length-zeros maxForm, ap length (c .before .before .before .empty-room2 .ensures) ∙ length-zeros maxForm)
 
 sub-write-at : tie.Need-sub-write-at
 sub-write-at c = search needs

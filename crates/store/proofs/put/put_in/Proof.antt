@@ -1,7 +1,7 @@
 use Prim.Native.Nat.{_-_, max}
 use mathlib.Core.Path.{_≡_, _∙_}
 use native.Mathlib.Omega.{arith}
-use Rattle.store.proofs.Walks.Puts.{file-below, file-inside, more-right, more-standing, more-low, more-fits, more-accepted, more-image, more-number}
+use Rattle.store.proofs.Walks.Puts.{file-below, file-inside, more-right, more-summary, more-low, more-fits, more-accepted, more-image, more-number}
 use borrow.Author.Needs.{needs}
 use Rattle.store.proofs.put.put_in.Statement.{statement}
 use Rattle.store.proofs.put.put_in.Tie as tie
@@ -13,7 +13,7 @@ rewrite-requires : tie.Need-rewrite-requires
 rewrite-requires c κs =
     let p = c .before .before .before .before .before .before .before .before .before .before .before .pre in
     let P = c .before .before .before .before .load .ensures in
-    (more-standing (p .1) (p .0) _ _ _ _ _ _ P _ (p .3), more-low (p .1) (p .0) _ _ _ _ _ _ P _ (p .3), p .2, c .before .before .before .before .load .kept .1 .1 .0 ∙ p .4, p .5)
+    (more-summary (p .1) (p .0) _ _ _ _ _ _ P _ (p .3), more-low (p .1) (p .0) _ _ _ _ _ _ P _ (p .3), p .2, c .before .before .before .before .load .kept .1 .1 .0 ∙ p .4, p .5)
 
 larger-requires : tie.Need-larger-requires
 larger-requires c κs = search needs

@@ -1,9 +1,8 @@
-use mathlib.Core.Path.{_≡_, sym, ap, _∙_}
+use mathlib.Core.Path.{ap, _∙_}
 use native.Mathlib.Omega.{arith}
 use Rattle.write_list.proofs.Laws.Items.{item}
 use Rattle.journal.proofs.Walks.Changes.{answer-number}
 use Rattle.journal.specs.Run.{numberOf}
-use Rattle.store.specs.Change.{write}
 use borrow.Author.Needs.{needs}
 use Rattle.write_list.proofs.call.write_item.Statement.{statement}
 use Rattle.write_list.proofs.call.write_item.Tie as tie

@@ -1,9 +1,8 @@
 use native.Mathlib.Omega.{arith}
 use Rattle.write_list.proofs.Laws.Items.{item}
-use Rattle.write_list.specs.List.{pathLength, dataAt}
+use Rattle.write_list.specs.List.{dataAt}
 use mathlib.Core.Path.{_≡_}
 use Prim.Native.Nat.{_+_, _-_}
-use Rattle.layout.specs.Bytes.{be32}
 use borrow.Author.Needs.{needs}
 use Rattle.write_list.proofs.list.data_of.Statement.{statement}
 use Rattle.write_list.proofs.list.data_of.Tie as tie

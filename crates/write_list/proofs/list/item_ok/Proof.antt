@@ -1,7 +1,6 @@
-use mathlib.Core.Path.{_≡_, sym, ap, _∙_}
+use mathlib.Core.Path.{sym}
 use native.Mathlib.Omega.{arith}
 use Rattle.write_list.proofs.Laws.Items.{item, item-cut, item-rest}
-use borrow.Author.Tests.{not-true}
 use Rattle.layout.proofs.Laws.Tests.{is-false}
 use borrow.Author.Needs.{needs}
 use Rattle.write_list.proofs.list.item_ok.Statement.{statement}

@@ -1,4 +1,4 @@
-use mathlib.Core.Path.{_≡_, sym, ap, _∙_}
+use mathlib.Core.Path.{sym, _∙_}
 use native.Mathlib.Omega.{arith}
 use Rattle.write_list.proofs.Laws.Turns.{list-short, list-long, list-version, list-length, list-items}
 use borrow.Author.Needs.{needs}

@@ -1,4 +1,3 @@
-use mathlib.Core.Path.{_≡_}
 use native.Mathlib.Omega.{arith}
 use Rattle.write_list.specs.List.{pathLength}
 use borrow.Author.Needs.{needs}
