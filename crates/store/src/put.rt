@@ -129,11 +129,16 @@ pub fn put_refusal(image: &[u8], serial: &[u8], bytes: &[u8], time: u64) -> File
     f
 }
 
-// Marks the blocks that an accepted put to a file names.
+// Marks the blocks that an accepted put to a file names. Where a revision more fits into the file's blocks in any case, they are those of a write of the
+// file's size, and the file need not be loaded.
 fn more_named(image: &[u8], found: File, bytes: &[u8], marks: &mut [u8])
     requires { ⌜ (check (now image) ≡ 0) × (Standing (now image) (fileRefusal (now image)) (found .slot) (found .block) (found .first) (found .size) (found .blocks)) × (length (now bytes) ≤ maxSetting) × (moreRefusal (now image) (entryAt (found .block) (found .slot)) (now bytes) ≡ 0) × (blockCount (now image) ≤ length (now marks)) ⌝ }
     ensures { λ _. ⌜ now (marks .exit) ≡ marked (now (marks .entry)) (writeNamed (now (image .entry)) (entryAt (found .block) (found .slot)) 0 (length (rewrittenAt (now (image .entry)) (entryAt (found .block) (found .slot)) (now (bytes .entry))))) ⌝ }
 {
+    if found.size + 5 + bytes.len() <= 512 * found.blocks {
+        volume::write::write_at_named(image, found, 0, found.size, marks);
+        return;
+    }
     let w = weigh(image, found, bytes);
     volume::write::write_at_named(image, found, 0, w.size, marks);
 }

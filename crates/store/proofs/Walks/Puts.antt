@@ -1,5 +1,5 @@
 -- What a put finds out of the file that is there, and writes to it.
-use Prim.Native.Nat.{ℕ, suc, _+_, _-_, _*_, _≤_, _<_, max}
+use Prim.Native.Nat.{ℕ, zero, suc, _+_, _-_, _*_, _/_, _≤_, _<_, max}
 use mathlib.Core.Path.{_≡_, refl, sym, ap, _∙_, subst}
 use mathlib.Core.Bool.{Bool, true, false}
 use mathlib.Core.List.{List, [], _∷_, _++_}
@@ -10,8 +10,8 @@ use borrow.Author.Tests.{leb-true, le-leb, lt-ltb, le-ltb, ltb-true}
 use lib.ListN.{length, getD, take, drop, length-append, length-take, List·getD-append}
 use lib.Dec.{leb, ltb}
 use lib.Seq.{take-all, drop-at, drop-append-add, getD-append-add}
-use Rattle.layout.specs.Lists.{joined}
-use Rattle.layout.specs.Bytes.{block, zeros}
+use Rattle.layout.specs.Lists.{lastOr, joined}
+use Rattle.layout.specs.Bytes.{bytes4, part, block, zeros}
 use Rattle.layout.specs.Geometry.{blockCount, blocksFor}
 use Rattle.layout.specs.Table.{next, freeBlocks}
 use Rattle.layout.specs.Directory.{sizeOf, blocksOf, isFile, fileBlocks, content}
@@ -20,9 +20,10 @@ use Rattle.layout.specs.Paths.{fileRefusal}
 use Rattle.layout.specs.Walks.Shapes.{ChainBelow}
 use Rattle.layout.specs.Walks.Looks.{Located}
 use Rattle.layout.specs.Walks.Slots.{entryAt}
-use Rattle.volume.specs.Write.{newSize, needed, writeAt, writeAtRefusal}
+use Rattle.volume.specs.Write.{newSize, needed, newBlocks, written, writeAt, changedEntries, writeNamed, writeAtRefusal}
+use Rattle.volume.specs.Entries.{entriesNamed}
 use Rattle.volume.specs.Walks.Targets as targets
-use Rattle.store.specs.Settings.{maxSetting, maxNumber, Revision, wholeFile, encoded, Found, broken, held, revisions, latest, added}
+use Rattle.store.specs.Settings.{maxSetting, maxNumber, Revision, recordBytes, wholeFile, encoded, Found, broken, held, revisions, latest, added}
 use Rattle.store.specs.Put.{heldIn, formRefusal}
 use Rattle.store.specs.Walks.Forms.{maxForm, bytesOf, inRoom, Summary, Parsed, lengthAfter}
 use Rattle.store.specs.Walks.Puts.{heldAt, rewrittenAt, moreRefusal, Weighed}
@@ -77,6 +78,56 @@ written-less s e a k h r =
     let z : blocksFor (max (sizeOf s e) (0 + a)) - blocksOf s e ≤ length (freeBlocks (next s) (blockCount s)) = leb-true _ _ (y .0) in
     rw (x .0, le-leb (blocksFor (max (sizeOf s e) (0 + k)) - blocksOf s e) (length (freeBlocks (next s) (blockCount s))) (omega arith))
 
+-- the records with one more are longer by that one at most
+body-drop : (k : ℕ) (rs : List Revision) → length (joined recordBytes (drop k rs)) ≤ length (joined recordBytes rs)
+body-drop zero rs = omega arith
+body-drop (suc k) [] = omega arith
+body-drop (suc k) (r ∷ rs) = let l = length-append (recordBytes r) (joined recordBytes rs) in let ih = body-drop k rs in omega arith
+
+body-append : (xs ys : List Revision) → length (joined recordBytes (xs ++ ys)) ≡ length (joined recordBytes xs) + length (joined recordBytes ys)
+body-append [] ys = omega arith
+body-append (r ∷ xs) ys =
+    let a = length-append (recordBytes r) (joined recordBytes (xs ++ ys)) in
+    let b = length-append (recordBytes r) (joined recordBytes xs) in
+    let ih = body-append xs ys in
+    omega arith
+
+whole-body : (rs : List Revision) → length (wholeFile rs) ≡ 5 + length (joined recordBytes rs)
+unfolding wholeFile bytes4
+whole-body rs = let l = length-append (bytes4 (5 + length (joined recordBytes rs))) (joined recordBytes rs) in omega arith
+
+more-longer : (rs : List Revision) (bytes : List ℕ) → length (wholeFile (added rs bytes)) ≤ length (wholeFile rs) + (5 + length bytes)
+unfolding added recordBytes bytes4
+more-longer rs bytes =
+    let new : Revision = record { number = suc (latest rs); bytes = bytes } in
+    let a = whole-body (drop (length rs - 15) rs ++ (new ∷ [])) in
+    let b = whole-body rs in
+    let c = body-append (drop (length rs - 15) rs) (new ∷ []) in
+    let d = body-drop (length rs - 15) rs in
+    let e = length-append bytes [] in
+    omega arith
+
+-- two lengths that need the same blocks name the same
+written-same : (bs : List ℕ) (a c : ℕ) → blocksFor a ≡ blocksFor c → 0 < a → 0 < c → written bs 0 a ≡ written bs 0 c
+unfolding written
+written-same bs zero c q h g = absurd (omega arith)
+written-same bs (suc a) zero q h g = absurd (omega arith)
+written-same bs (suc a) (suc c) q h g =
+    let z : blocksFor (0 + suc a) ≡ blocksFor (0 + suc c) = omega (arith, q) in
+    ap (part bs 0) z
+
+new-same : (s : List ℕ) (e a c : ℕ) → needed s e 0 a ≡ needed s e 0 c → newBlocks s e 0 a ≡ newBlocks s e 0 c
+unfolding newBlocks
+new-same s e a c n = ap (λ (k : ℕ). take k (freeBlocks (next s) (blockCount s))) n
+
+named-same : (s : List ℕ) (e a c : ℕ) → needed s e 0 a ≡ needed s e 0 c → blocksFor a ≡ blocksFor c → 0 < a → 0 < c → writeNamed s e 0 a ≡ writeNamed s e 0 c
+unfolding writeNamed
+named-same s e a c n q h g =
+    let old = fileBlocks s e in
+    let new = newBlocks s e 0 c in
+    ap (λ (x : List ℕ). e / 512 ∷ (written (old ++ x) 0 a ++ entriesNamed (changedEntries (lastOr 0 old) x))) (new-same s e a c n)
+    ∙ ap (λ (x : List ℕ). e / 512 ∷ (x ++ entriesNamed (changedEntries (lastOr 0 old) new))) (written-same (old ++ new) a c q h g)
+
 -- A FILE THAT WAS FOUND, on a sound image, and its first bytes in a room
 module _ {s : List ℕ} {slot b first size blocks : ℕ} (st : targets.Standing s (fileRefusal s) slot b first size blocks) (ok : check s ≡ 0) where
   o : Located isFile s (st .path) slot b first size blocks
@@ -94,6 +145,9 @@ module _ {s : List ℕ} {slot b first size blocks : ℕ} (st : targets.Standing 
   pub file-small : size ≤ 33554432
   file-small = let z = file-inside in let m = blocks-most o (st .accepted) ok in omega arith
 
+  pub file-blocks : blocks ≤ 65536
+  file-blocks = blocks-most o (st .accepted) ok
+
   -- its numbers and content
   size-is : sizeOf s e ≡ size
   size-is = ap (sizeOf s) (o .place) ∙ sym (o .bytes)
@@ -107,6 +161,38 @@ module _ {s : List ℕ} {slot b first size blocks : ℕ} (st : targets.Standing 
 
   content-long : length (content s e) ≡ size
   content-long = rw (o .place) (content-length s (st .path) ok (st .accepted)) ∙ sym (o .bytes)
+
+  -- a put for which there is room in the file's blocks, whatever it drops
+  module _ (byte-s : Bytes s) (bytes : List ℕ) (r : moreRefusal s (entryAt b slot) bytes ≡ 0) where
+    form-right : formRefusal (revisions (content s e)) ≡ 0
+    unfolding moreRefusal
+    form-right = firstOf-zero (formRefusal (revisions (content s e))) _ r .0
+
+    whole-most : length (wholeFile (heldAt s e)) ≤ size
+    whole-most =
+        let a = ap length (written-again (content s e) (heldAt s e) (content-bytes s e byte-s) (form-held (revisions (content s e)) form-right .0)) in
+        let l = length-encoded (heldAt s e) (length (content s e)) in
+        omega (arith, content-long)
+
+    spare-long : length (rewrittenAt s e bytes) ≡ max size (length (wholeFile (added (heldAt s e) bytes)))
+    unfolding rewrittenAt
+    spare-long = length-encoded (added (heldAt s e) bytes) (sizeOf s e) ∙ ap (λ (x : ℕ). max x (length (wholeFile (added (heldAt s e) bytes)))) size-is
+
+    pub spare-accepted : writeAtRefusal s (entryAt b slot) 0 size ≡ 0
+    unfolding moreRefusal
+    spare-accepted = let l = spare-long in written-less s e (length (rewrittenAt s e bytes)) size (omega arith) (firstOf-zero (formRefusal (revisions (content s e))) _ r .1)
+
+    pub spare-named : size + 5 + length bytes ≤ 512 * blocks → writeNamed s (entryAt b slot) 0 size ≡ writeNamed s (entryAt b slot) 0 (length (rewrittenAt s (entryAt b slot) bytes))
+    unfolding needed newSize
+    spare-named h =
+        let l = spare-long in
+        let w = whole-most in
+        let m = more-longer (heldAt s e) bytes in
+        let f = whole-body (heldAt s e) in
+        let z = blocks-for o (st .accepted) ok in
+        let k = size-is in
+        let j = blocks-is in
+        named-same s e size (length (rewrittenAt s e bytes)) (rw (k, j) (omega arith)) (omega arith) (omega arith) (omega arith)
 
   module _ (room : List ℕ) (right : Bool) (used count last oldest : ℕ) (P : Parsed (revisions (bytesOf s first size blocks)) room right used count last oldest) where
     abbrev rs : List Revision
