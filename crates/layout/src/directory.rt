@@ -11,12 +11,14 @@ ghost use Rattle.layout.specs.Check.{attributesOk, fileOk, directoryEntr
 ghost use Rattle.layout.specs.Walks.Chains.{walked};
 ghost use Rattle.layout.specs.Walks.Entries.{numbersOk, selfOk};
 ghost use Rattle.layout.specs.Walks.Shapes.{Room, DirectoryAt};
-ghost use Rattle.layout.specs.Walks.Slots.{Stands, entryAt, slotBlock, allFree};
+ghost use Rattle.layout.specs.Walks.Names.{ending, someHas, mayHold};
+ghost use Rattle.layout.specs.Walks.Slots.{Stands, entryAt, entryNamed, slotBlock, slotIn, allFree};
 ghost use Rattle.layout.specs.Walks.Stages.{followDirectory};
 use super::limits::MAX_ATTRIBUTES;
 use super::limits::MAX_DIRECTORY;
 use super::limits::NAME_FIELD;
 use super::number::get32;
+use super::number::word;
 
 // The block of slot k, if b is that of slot k − 1.
 pub fn following(image: &[u8], b: usize, k: usize) -> usize
@@ -279,27 +281,89 @@ fn holds_at(image: &[u8], b: usize, k: usize, lo: u8, hi: u8, name: &[u8]) -> bo
     slot_holds(super::bytes::block(image, b), o, lo, hi, name)
 }
 
+// The last four bytes of a name; 0 for a shorter one.
+fn ending(name: &[u8]) -> u32
+    ensures { λ r. ⌜ r ≡ ending (now (name .entry)) ⌝ }
+{
+    if name.len() < 4 {
+        return 0;
+    }
+    let at = name.len() - 4;
+    word(name, at)
+}
+
+// Whether one of the four entries of a directory's block has w at `at`. All four are looked at, so that no branch depends on the names.
+fn some_has(block: &[u8], at: usize, w: u32) -> bool
+    requires { ⌜ at + 388 ≤ length (now block) ⌝ }
+    ensures { λ r. ⌜ r ≡ someHas (now (block .entry)) at w ⌝ }
+{
+    let a = word(block, at);
+    let b = word(block, at + 128);
+    let c = word(block, at + 256);
+    let d = word(block, at + 384);
+    (a == w) | ((b == w) | ((c == w) | (d == w)))
+}
+
+// Whether one of the four entries of a directory's block may have a good name, whose ending is w: in a field, which begins at 48 of its entry, it would
+// stand at 44 and the name's length. Of a name of less than four bytes it tells nothing.
+fn may_hold(block: &[u8], name: &[u8], w: u32) -> bool
+    requires { ⌜ (length (now block) ≡ 512) × (goodName (now name) ≡ true) × (w ≡ ending (now name)) ⌝ }
+    ensures { λ r. ⌜ r ≡ mayHold (now (block .entry)) (now (name .entry)) ⌝ }
+{
+    if name.len() < 4 {
+        return true;
+    }
+    let at = 44 + name.len();
+    some_has(block, at, w)
+}
+
+// The slot of a good name, whose ending is w, among the slots k to k + j − 1, which are in block b, or 0.
+fn find_in(image: &[u8], b: usize, k: usize, j: usize, lo: u8, hi: u8, name: &[u8], w: u32) -> usize
+    requires { ⌜ (512 * b + 512 ≤ length (now image)) × (k + j ≤ 256) × (1 ≤ k) × (goodName (now name) ≡ true) × (w ≡ ending (now name)) ⌝ }
+    ensures { λ r. ⌜ r ≡ slotIn (entryNamed (within lo hi) (now (image .entry)) (now (name .entry))) b k j ⌝ }
+{
+    if !may_hold(super::bytes::block(image, b), name, w) {
+        return 0;
+    }
+    let mut at = k;
+    let mut left = j;
+    while 0 < left {
+        if holds_at(image, b, at, lo, hi, name) {
+            return at;
+        }
+        at = at + 1;
+        left = left - 1;
+    }
+    0
+}
+
 // Where an entry is: its slot and the block that holds it. Slot 0: there is none.
 pub struct Entry {
     pub slot: usize,
     pub block: usize,
 }
 
-// The slot of a good name in a directory, among those whose type is from lo to hi.
+// The slot of a good name in a directory, among those whose type is from lo to hi. It goes from block to block.
 pub fn find(image: &[u8], n: usize, first: usize, d: usize, lo: u8, hi: u8, name: &[u8]) -> Entry
     requires { ⌜ (DirectoryAt (now image) n first d) × (goodName (now name) ≡ true) ⌝ }
     ensures { λ r. ⌜ Stands (chain (next (now (image .entry))) first d) n (slotOf (within lo hi) (now (image .entry)) (chain (next (now (image .entry))) first d) (now (name .entry))) (r .slot) (r .block) ⌝ }
 {
+    let w = ending(name);
     let mut b = first;
     let mut k = 1;
     let mut left = 4 * d - 2;
     while 0 < left {
-        if holds_at(image, b, k, lo, hi, name) {
-            return Entry { slot: k, block: b };
+        let j = super::content::least(4 - k % 4, left);
+        let slot = find_in(image, b, k, j, lo, hi, name, w);
+        if slot != 0 {
+            return Entry {
+                slot: slot,
+                block: b,
+            };
         }
-        k = k + 1;
+        k = k + j;
         b = following(image, b, k);
-        left = left - 1;
+        left = left - j;
     }
     Entry { slot: 0, block: 0 }
 }

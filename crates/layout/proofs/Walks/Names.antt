@@ -1,24 +1,27 @@
 -- The loops over bytes and over the field of a name, at index i.
-use Prim.Native.Nat.{ℕ, zero, suc, _+_, _-_, _≤_, _<_, max}
-use mathlib.Core.Bool.{Bool, true, false, cond, _&&_, and-true, and-false, false≢true}
+use Prim.Native.Nat.{ℕ, zero, suc, _+_, _-_, _*_, _≤_, _<_, max}
+use mathlib.Core.Bool.{Bool, true, false, cond, _&&_, _||_, and-true, and-false, or-true, false≢true}
 use mathlib.Core.Logic.{⊎-elim}
 use mathlib.Core.List.{List, [], _∷_}
-use mathlib.Core.Path.{_≡_, refl, sym, ap, _∙_}
-use native.Mathlib.Nat.{le-of-suc-le-suc, not-suc-le-zero, suc-ne-zero, eq-or-lt-of-le}
+use mathlib.Core.Path.{_≡_, refl, sym, ap, _∙_, subst}
+use native.Mathlib.Nat.{add-zero, le-of-suc-le-suc, not-suc-le-zero, suc-ne-zero, eq-or-lt-of-le}
 use native.Mathlib.Numerals.{add-one}
 use native.Mathlib.Omega.{arith}
 use lib.Dec.{eqb, ltb, leb}
 use lib.ListN.{length, getD, drop, replicate, length-drop, List·getD-eq-default}
 use lib.Seq.{drop-cons, drop-length}
-use borrow.Author.Tests.{le-leb, lt-leb, ne-eqb, eq-eqb, eqb-true, eqb-false}
+use borrow.Author.Tests.{le-leb, lt-leb, lt-ltb, le-ltb, ne-eqb, eq-eqb, eqb-true, eqb-false}
 use Rattle.layout.specs.Limits.{maxName}
 use Rattle.layout.specs.Lists.{every, same}
-use Rattle.layout.specs.Bytes.{zeros}
-use Rattle.layout.specs.Directory.{slash, nameByte, goodName, unpadded, padded}
+use Rattle.layout.specs.Bytes.{zeros, part}
+use Rattle.layout.specs.Directory.{slash, nameByte, goodName, unpadded, nameOf, padded}
+use Rattle.layout.specs.Walks.Chains.{le32}
 use Rattle.layout.specs.Walks.Entries.{fieldOk, allZero, Scanned, Clean}
+use Rattle.layout.specs.Walks.Names.{ending, someHas, mayHold}
+use Rattle.layout.proofs.Laws.Bytes.{getD-part}
 use Rattle.layout.proofs.Laws.Lists.{every-in, getD-in}
-use Rattle.layout.proofs.Laws.Names.{same-eq, same-refl, same-append, take-unpadded, unpadded-most, goodName-split}
-use Rattle.layout.proofs.Laws.Tests.{and-split, and-join, is-false, lt-or-ge, below-more}
+use Rattle.layout.proofs.Laws.Names.{same-eq, same-refl, same-append, take-unpadded, unpadded-most, goodName-split, goodName-length}
+use Rattle.layout.proofs.Laws.Tests.{and-split, and-join, is-false, true-not-false, lt-or-ge, below-more}
 
 pub same-lengths : (a b : List ℕ) → (length a ≡ length b → ⊥) → same a b ≡ false
 same-lengths [] [] h = absurd (h refl)
@@ -311,3 +314,54 @@ module _ (f : List ℕ) (size : length f ≡ 80) where
           go : (t : Bool) → t ≡ ((t && true) && true) && true
           go true = refl
           go false = refl
+
+-- the ending of a name
+pub ending-short : (name : List ℕ) → length name < 4 → 0 ≡ ending name
+unfolding ending
+ending-short name h = rw (lt-ltb _ _ h)
+
+pub ending-word : (name : List ℕ) → 4 ≤ length name → le32 name (length name - 4) ≡ ending name
+unfolding ending
+ending-word name h = rw (le-ltb _ _ h)
+
+-- whether a block may hold a name
+pub mayHold-short : (s name : List ℕ) → length name < 4 → true ≡ mayHold s name
+unfolding mayHold
+mayHold-short s name h = rw (lt-ltb _ _ h)
+
+pub mayHold-some : (s name : List ℕ) → 4 ≤ length name → someHas s (44 + length name) (ending name) ≡ mayHold s name
+unfolding mayHold
+mayHold-some s name h = rw (le-ltb _ _ h)
+
+some-has : (s : List ℕ) (at w i : ℕ) → i < 4 → le32 s (at + 128 * i) ≡ w → someHas s at w ≡ true
+unfolding someHas
+some-has s at w i l e = go i l (eq-eqb (le32 s (at + 128 * i)) w e)
+  where
+    go : (i : ℕ) → i < 4 → eqb (le32 s (at + 128 * i)) w ≡ true → (eqb (le32 s at) w || (eqb (le32 s (at + 128)) w || (eqb (le32 s (at + 256)) w || eqb (le32 s (at + 384)) w))) ≡ true
+    go zero h t = let q : eqb (le32 s at) w ≡ true = subst (λ (x : ℕ). eqb (le32 s x) w ≡ true) (add-zero at) t in rw q
+    go (suc zero) h t = rw (t, or-true)
+    go (suc (suc zero)) h t = rw (t, or-true, or-true)
+    go (suc (suc (suc zero))) h t = rw (t, or-true, or-true, or-true)
+    go (suc (suc (suc (suc i)))) h t = absurd (omega arith)
+
+-- an entry that has a good name has its ending, so that its block may hold it
+held-ending : (s name : List ℕ) (i : ℕ) → goodName name ≡ true → 4 ≤ length name → same (nameOf s (128 * i)) name ≡ true → le32 s (44 + length name + 128 * i) ≡ ending name
+unfolding nameOf
+held-ending s name i good h t =
+    let f : List ℕ = part s (128 * i + 48) 80 in
+    let e : unpadded f ≡ name = same-eq (unpadded f) name t in
+    let few : length name ≤ 80 = goodName-length name good in
+    let at : (x j : ℕ) → j < length name → x ≡ 128 * i + 48 + j → getD s x 0 ≡ getD name j 0 =
+    λ x j l q. ap (λ (y : ℕ). getD s y 0) q ∙ sym (getD-part s (128 * i + 48) 80 j (omega arith)) ∙ unpadded-byte f j (rw e l) ∙ ap (λ (y : List ℕ). getD y j 0) e in
+    let k : ℕ = length name - 4 in
+    let a = at (44 + length name + 128 * i) k (omega arith) (omega arith) in
+    let b = at (44 + length name + 128 * i + 1) (k + 1) (omega arith) (omega arith) in
+    let c = at (44 + length name + 128 * i + 2) (k + 2) (omega arith) (omega arith) in
+    let d = at (44 + length name + 128 * i + 3) (k + 3) (omega arith) (omega arith) in
+    rw (a, b, c, d) (ending-word name h)
+
+pub mayHold-none : (s name : List ℕ) (i : ℕ) → goodName name ≡ true → false ≡ mayHold s name → i < 4 → same (nameOf s (128 * i)) name ≡ false
+mayHold-none s name i good m l = is-false _ λ t.
+    ⊎-elim (λ h. true-not-false (sym (mayHold-short s name h)) (sym m))
+    (λ h. true-not-false (some-has s (44 + length name) (ending name) i l (held-ending s name i good h t)) (mayHold-some s name h ∙ sym m))
+    (lt-or-ge (length name) 4)

@@ -1,9 +1,10 @@
--- The slots of a directory by stage 5, their names compared by a fingerprint of each.
-use Prim.Native.Nat.{ℕ, zero, suc, _+_, _*_, _%_, _≤_, _<_}
+-- The names of a directory's slots: by stage 5, compared by a fingerprint of each; in a search, by the last bytes of the name.
+use Prim.Native.Nat.{ℕ, zero, suc, _+_, _-_, _*_, _%_, _≤_, _<_}
 use mathlib.Core.Bool.{Bool, true, not, cond, _&&_, _||_}
 use mathlib.Core.List.{List}
 use mathlib.Core.Path.{_≡_}
 use lib.ListN.{length, getD}
+use lib.Dec.{eqb, ltb}
 use Rattle.layout.specs.Limits.{maxSlots}
 use Rattle.layout.specs.Lists.{interval, every, same}
 use Rattle.layout.specs.Bytes.{part}
@@ -78,3 +79,15 @@ pub record Nearest (ps : List ℕ) (p from end r : ℕ) : Type 0 where
   pub high : r ≤ end
   pub before : (i : ℕ) → from ≤ i → i < r → getD ps i 0 ≡ p → ⊥
   pub here : r < end → getD ps r 0 ≡ p
+
+-- the last four bytes of a name as a number, 0 for a shorter one
+unfoldable pub ending : List ℕ → ℕ
+ending name = cond (ltb (length name) 4) 0 (le32 name (length name - 4))
+
+-- one of the four entries of a block has w at `at`
+unfoldable pub someHas : List ℕ → ℕ → ℕ → Bool
+someHas s at w = eqb (le32 s at) w || (eqb (le32 s (at + 128)) w || (eqb (le32 s (at + 256)) w || eqb (le32 s (at + 384)) w))
+
+-- one of the four entries of a block may have the name: its ending stands in the name's field, or it is too short to have one
+unfoldable pub mayHold : List ℕ → List ℕ → Bool
+mayHold s name = ltb (length name) 4 || someHas s (44 + length name) (ending name)

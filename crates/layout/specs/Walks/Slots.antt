@@ -32,6 +32,10 @@ slotFree s e = isFree (typeOf s e)
 unfoldable pub slotFrom : (ℕ → Bool) → List ℕ → ℕ → ℕ → ℕ
 slotFrom test ds k j = lowest (λ x. test (slotAt ds x)) (interval k j)
 
+-- the same among slots that are in block b
+abbrev pub slotIn : (ℕ → Bool) → ℕ → ℕ → ℕ → ℕ
+slotIn test b k j = lowest (λ x. test (entryAt b x)) (interval k j)
+
 -- the lowest of the slots k to k + j − 1 that is `start` or more and not free, or 0
 unfoldable pub usedFrom : ℕ → List ℕ → List ℕ → ℕ → ℕ → ℕ
 usedFrom start s ds k j = lowest (λ x. leb start x && isUsed (typeOf s (slotAt ds x))) (interval k j)
