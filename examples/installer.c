@@ -234,7 +234,6 @@ static void show_text(const char *path)
            f.size > SHOWN ? "..." : "");
 }
 
-/* The purchases of all boxes that have one. */
 /* The volume's name and counts, and what its root holds, slot by slot. */
 static void show_volume(void)
 {
@@ -252,6 +251,7 @@ static void show_volume(void)
     require(e.number, "entry", "/");
 }
 
+/* The purchases of all boxes that have one. */
 static void show_purchases(void)
 {
     for (int i = 0; i < BOXES; i++) {

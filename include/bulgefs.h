@@ -8,14 +8,15 @@
  *
  * The library keeps nothing between calls: no handles, no allocation, no
  * input or output, no global state.  Calls on different buffers may run at the
- * same time.  docs/FORMAT.md has every rule; examples/installer.c shows every
- * kind of call in use.
+ * same time; two that share an image or a journal may not.  docs/FORMAT.md has
+ * every rule; examples/installer.c shows most of the calls in use.
  *
  * Buffers
  *   The caller owns every buffer and lends it for the length of one call.
  *   Buffers lent to the same call must not overlap.  A pointer may be NULL
  *   only together with length 0.  Buffers of bytes need no alignment; runs of
- *   numbers are aligned for uint32_t, and their lengths count numbers.
+ *   numbers are aligned for uint32_t, and their lengths count numbers.  The
+ *   position of bulgefs_read_next is one aligned uint64_t, and never NULL.
  *
  *   Apart from that there are no preconditions: every call accepts any bytes
  *   at all in any buffer, and any length including 0.
@@ -58,10 +59,12 @@
  * Cost
  *   Every call but format, journal start and salvage checks the image first:
  *   it reads the header, the table and all directories, and no file's bytes.
- *   That is linear in the blocks, and in the names of a directory a comparison
- *   of every two fingerprints; what the call itself does is small beside it.  A
- *   change also reads the journal's record heads.  docs/PERFORMANCE.md has
- *   figures.  No call needs more stack than BULGEFS_STACK.
+ *   That is linear in the blocks and in the names, but for names of a directory
+ *   whose fingerprints meet: these are compared with one another.  What the call
+ *   itself does is small beside it; only bulgefs_plain_check takes longer.  A
+ *   change also goes through the journal's records, their lengths and block
+ *   numbers.  docs/PERFORMANCE.md has figures.  No call needs more stack than
+ *   BULGEFS_STACK.
  *
  * Linking
  *   x86-64, System V calling convention.  The archive needs memset, the calls for
@@ -140,7 +143,7 @@ extern "C" {
  * given.  BULGEFS_IMAGE_BLOCKS of their sum, the root included, is the least n
  * that has room for them, and BULGEFS_IMAGE_SIZE(n) its bytes.
  */
-#define BULGEFS_FILE_BLOCKS(size)      (((size) + 511u) / 512u)
+#define BULGEFS_FILE_BLOCKS(size)      ((size) / 512u + ((size) % 512u != 0u))
 #define BULGEFS_TABLE_BLOCKS(n)        (((n) + 127u) / 128u)
 #define BULGEFS_IMAGE_BLOCKS(content)  ((content) + 1u + ((content) + 127u) / 127u)
 #define BULGEFS_IMAGE_SIZE(n)          (BULGEFS_BLOCK_SIZE * (n))
@@ -167,6 +170,8 @@ extern "C" {
  *   BULGEFS_JOURNAL_SIZE(1000, 1) + BULGEFS_JOURNAL_SIZE(1000, BULGEFS_WRITE_BLOCKS(200))
  *
  * BULGEFS_JOURNAL_SIZE(1, n) has room for any one change of an image of n blocks.
+ * A size is a number of the arguments' type, of 32 bits at least: hand over a
+ * size_t where it may come to 4 GiB, and hold it against BULGEFS_MAX_JOURNAL.
  */
 #define BULGEFS_RECORD_SIZE(k)         (4u + 516u * (k))
 #define BULGEFS_WRITE_BLOCKS(bytes)    (3u + ((bytes) + 1022u) / 512u + ((bytes) + 511u) / 512u)
@@ -213,12 +218,12 @@ enum bulgefs_number {
     BULGEFS_VOLUME_FULL     = 14, /* fewer free blocks than needed                     */
     BULGEFS_JOURNAL_FULL    = 15, /* the record does not fit into the journal          */
     BULGEFS_NOTHING_TO_UNDO = 16, /* undo: the journal holds no record                 */
-    BULGEFS_TOO_DEEP        = 17, /* more than 8 directories in a path; just after 9   */
+    BULGEFS_TOO_DEEP        = 17, /* more than 8 directories in a path; after 20       */
     BULGEFS_NOT_EMPTY       = 18, /* the directory to delete is not empty; after 12    */
     BULGEFS_BAD_LIST        = 19, /* the list of writes is not of the form; after 8    */
     BULGEFS_TOO_MANY_BLOCKS = 20, /* more than 8 blocks of attributes; just after 9    */
     BULGEFS_BAD_TABLE_SIZE  = 21, /* entry_count is not the number of blocks; after 9  */
-    BULGEFS_BAD_SETTINGS    = 22, /* bad serial number, amount or buffer; just after 8 */
+    BULGEFS_BAD_SETTINGS    = 22, /* bad serial number, amount or buffer; where 9 is   */
     BULGEFS_NO_REVISION     = 23, /* gets: no such revision stands; after 24           */
     BULGEFS_NOT_SETTINGS    = 24, /* the file is not one of settings; after 12         */
     BULGEFS_REVISIONS_USED  = 25, /* puts: revision numbers are used up; after 23      */
@@ -354,9 +359,10 @@ BULGEFS_CHECKED
 uint32_t bulgefs_check(const uint8_t *image, size_t image_len);
 
 /*
- * A second check, for the bench: it gives the same number as bulgefs_check on
- * every image, and finds it by walking every chain anew for each block.  Its
- * time grows with the square of the blocks (docs/PLAIN-CHECK.md).
+ * A second check, short enough to be read in an evening: it gives the same
+ * number as bulgefs_check on every image, and finds it by walking every chain
+ * anew for each block.  Its time grows with the square of the blocks, to 13
+ * seconds and more for the largest volume (docs/PLAIN-CHECK.md).
  * Refusals: 1 to 7.
  */
 BULGEFS_CHECKED
@@ -502,9 +508,9 @@ bulgefs_changed bulgefs_write(uint8_t *image, size_t image_len,
 /*
  * Appends a piece to a file: bulgefs_write at the file's end as it then stands,
  * with the same answer, image and journal.  So a file may arrive a bit at a
- * time: pieces of 0 to 4,096 bytes cut anywhere, all with one time, leave the
- * image that one write of all of them would.  Each has its own record, and
- * bulgefs_undo takes back one at a time.
+ * time: pieces of 0 to 4,096 bytes cut anywhere, all with one time and all
+ * accepted, leave the image that one write of all their bytes would if it had
+ * no limit.  Each has its own record, and bulgefs_undo takes back one at a time.
  *
  * A piece of no bytes does nothing, not even the time: it adds no record, and
  * is answered with 0 and 0, also beside a full journal.

@@ -38,6 +38,7 @@ static void sizes(void)
     expect(BULGEFS_IMAGE_BLOCKS(1u) == BULGEFS_MIN_BLOCKS, "the smallest image");
     expect(BULGEFS_IMAGE_SIZE(3u) == 1536u, "BULGEFS_IMAGE_SIZE");
     expect(BULGEFS_FILE_BLOCKS(0u) == 0 && BULGEFS_FILE_BLOCKS(513u) == 2u, "BULGEFS_FILE_BLOCKS");
+    expect(BULGEFS_FILE_BLOCKS(4294967295u) == 8388608u, "BULGEFS_FILE_BLOCKS of the longest size");
     expect(BULGEFS_MAX_FILES(1u) == 2u && BULGEFS_MAX_FILES(64u) == 254u, "BULGEFS_MAX_FILES");
     expect(BULGEFS_MAX_PATH == 729u, "BULGEFS_MAX_PATH");
     expect(BULGEFS_LIST_HEAD + BULGEFS_ITEM_SIZE(2u, 513u) == 538u, "BULGEFS_ITEM_SIZE");

@@ -13,7 +13,7 @@ static int by_path(const void *a, const void *b)
 
 static side side_of(const bytes *image)
 {
-    side s = { image, listing_read(image) };
+    side s = { image, listing_scan(image) };
     if (s.list.count) qsort(s.list.items, s.list.count, sizeof *s.list.items, by_path);
     return s;
 }
@@ -58,23 +58,32 @@ static unsigned compare(const side *a, const entry *x, const side *b, const entr
     return parts;
 }
 
-static int only_one(each_change call, void *ctx, int kind, const listed *item)
+static int only_one(each_change call, void *ctx, int kind, const side *from, const listed *item)
 {
+    entry told = view_told(from->image, item->path, &item->entry);
     change one = { kind, 0, item->path, NULL, NULL };
-    if (kind == VANISHED) one.before = &item->entry;
-    else one.after = &item->entry;
+    if (kind == VANISHED) one.before = &told;
+    else one.after = &told;
+    return call(ctx, &one);
+}
+
+static int changed(each_change call, void *ctx, const side *a, const listed *x, const side *b, const listed *y)
+{
+    unsigned parts = compare(a, &x->entry, b, &y->entry);
+    entry before, after;
+    change one = { CHANGED, parts, x->path, &before, &after };
+    if (!parts) return 0;
+    before = view_told(a->image, x->path, &x->entry);
+    after = view_told(b->image, y->path, &y->entry);
     return call(ctx, &one);
 }
 
 static int both(each_change call, void *ctx, const side *a, const listed *x, const side *b, const listed *y)
 {
-    change one = { CHANGED, 0, x->path, &x->entry, &y->entry };
-    if (view_is_directory(&x->entry) != view_is_directory(&y->entry)) {
-        int result = only_one(call, ctx, VANISHED, x);
-        return result ? result : only_one(call, ctx, APPEARED, y);
-    }
-    one.parts = compare(a, &x->entry, b, &y->entry);
-    return one.parts ? call(ctx, &one) : 0;
+    int result;
+    if (view_is_directory(&x->entry) == view_is_directory(&y->entry)) return changed(call, ctx, a, x, b, y);
+    result = only_one(call, ctx, VANISHED, a, x);
+    return result ? result : only_one(call, ctx, APPEARED, b, y);
 }
 
 static int merge(const side *a, const side *b, each_change call, void *ctx)
@@ -84,8 +93,8 @@ static int merge(const side *a, const side *b, each_change call, void *ctx)
     int result = 0;
     while ((left || right) && !result) {
         int order = !left ? 1 : !right ? -1 : strcmp(x->path, y->path);
-        if (order < 0) result = only_one(call, ctx, VANISHED, x);
-        else if (order > 0) result = only_one(call, ctx, APPEARED, y);
+        if (order < 0) result = only_one(call, ctx, VANISHED, a, x);
+        else if (order > 0) result = only_one(call, ctx, APPEARED, b, y);
         else result = both(call, ctx, a, x, b, y);
         if (order <= 0) x++, left--;
         if (order >= 0) y++, right--;

@@ -10,7 +10,7 @@ static const char *const not_proved =
 
 static void print_counts(const bytes *image)
 {
-    listing list = listing_read(image);
+    listing list = listing_scan(image);
     totals sum = listing_totals(image, &list);
     bulgefs_volume v = view_volume(image).numbers;
 
@@ -27,7 +27,7 @@ static void print_counts(const bytes *image)
 
 static void json_counts(const bytes *image)
 {
-    listing list = listing_read(image);
+    listing list = listing_scan(image);
     totals sum = listing_totals(image, &list);
     bulgefs_volume v = view_volume(image).numbers;
 

@@ -34,6 +34,8 @@ uint32_t chain_pieces(const bytes *image, uint32_t first, uint32_t blocks);
 typedef struct { char *path; entry entry; } listed;
 typedef struct { listed *items; size_t count, room; } listing;
 listing listing_read(const bytes *image);
+/* The same by view_scan. */
+listing listing_scan(const bytes *image);
 void listing_free(listing *list);
 
 /* Counts over a listing. */

@@ -1,6 +1,8 @@
 /* main.c - options, help, and the table of commands. */
+#include <fcntl.h>
 #include <signal.h>
 #include <string.h>
+#include <unistd.h>
 
 #include "tool.h"
 
@@ -80,7 +82,7 @@ static void help(void)
     for (int i = 0; i < COMMANDS; i++) printf("  %s %s\n", commands[i].name, commands[i].arguments);
     puts("\n"
          "A path is / and names with / between.  Exit status: 0 done, 1 refused or not\n"
-         "sound, 2 wrong use or an error of the system.");
+         "sound, 2 wrong use or an error of the system or the tool.");
 }
 
 static void help_command(const command *one)
@@ -131,10 +133,20 @@ static int run(int argc, char **argv)
     return run_command(argc - at, argv + at, &o);
 }
 
+/* A standard stream that is closed stays without use: otherwise a file of the volume would get its number, and words would be written into it. */
+static int hold_standard(void)
+{
+    for (int file = STDIN_FILENO; file <= STDERR_FILENO; file++) {
+        if (fcntl(file, F_GETFD) < 0 && open("/dev/null", file == STDIN_FILENO ? O_WRONLY : O_RDONLY) != file) return -1;
+    }
+    return 0;
+}
+
 int main(int argc, char **argv)
 {
     struct sigaction ignore = { .sa_handler = SIG_IGN };
     int status;
+    if (hold_standard()) return FAILED;
     /* A write above the limit for files then fails as on a full disk. */
     sigaction(SIGXFSZ, &ignore, NULL);
     status = run(argc, argv);

@@ -165,7 +165,7 @@ int command_map(int argc, char **argv, const options *o)
         return status;
     p.image = &s.image;
     p.n = view_blocks(&s.image);
-    p.list = listing_read(&s.image);
+    p.list = listing_scan(&s.image);
     p.blocks = owners_read(&s.image, &p.list);
     if (svg != NULL)
         status = write_svg(&p, svg);

@@ -1,4 +1,4 @@
-/* The tree of a sound image as a list, as the library tells it, and the owner of each of its blocks, by chains walked in plain C. */
+/* The tree of a sound image as a list, as the library tells it or in plain C, and the owner of each block, by chains walked in plain C. */
 #include <stdlib.h>
 #include <string.h>
 
@@ -30,6 +30,14 @@ listing listing_read(const bytes *image)
     listing list = { NULL, 0, 0 };
 
     view_each(image, "/", 1, listing_add, &list);
+    return list;
+}
+
+listing listing_scan(const bytes *image)
+{
+    listing list = { NULL, 0, 0 };
+
+    view_scan(image, listing_add, &list);
     return list;
 }
 

@@ -102,6 +102,7 @@ void page_head(FILE *out, const char *title)
 
 void page_end(FILE *out)
 {
-    fputs("<footer>Times are UTC. That the volume is sound is the library's proved verdict; the rest of "
-          "this page is plain reading of its bytes.</footer>\n</main>\n</body>\n</html>\n", out);
+    fputs("<footer>Times are UTC. The verdict, the counts of blocks and all entries shown, also in the journal, are the library's answers, which are "
+          "proved; chains, which entries differ, and what is drawn or summed up from all these, are plain code.</footer>\n"
+          "</main>\n</body>\n</html>\n", out);
 }

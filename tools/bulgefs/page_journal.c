@@ -169,7 +169,8 @@ static void put_line(FILE *out, const store *s, const record_list *list)
         memcpy(now.bytes, then.bytes, now.length);
     }
     if (end > 0 && number == 0)
-        fprintf(out, "<li class=\"pale\">and %" PRIu32 " older steps</li>\n", list->records[end - 1].step);
+        fprintf(out, "<li class=\"pale\">and %" PRIu32 " older %s</li>\n", list->records[end - 1].step,
+                list->records[end - 1].step == 1 ? "step" : "steps");
     fputs("</ol>\n", out);
     free(now.bytes);
     free(then.bytes);

@@ -29,7 +29,7 @@ static char *absolute(const char *path)
     char *folder, *both, *whole;
     if (path[0] == '/') return joined(path, "");
     folder = take_memory(PATH_MAX + 1);
-    if (!getcwd(folder, PATH_MAX)) folder[0] = 0;
+    if (!getcwd(folder, PATH_MAX)) exit(fail_system("the current folder"));
     both = joined(folder, "/");
     whole = joined(both, path);
     free(folder);
@@ -156,12 +156,31 @@ static int same_file(const char *a, const char *b)
     return !strcmp(a, b) || (!stat(a, &x) && !stat(b, &y) && x.st_dev == y.st_dev && x.st_ino == y.st_ino);
 }
 
-/* The journal must be a file of its own. */
+static int leads_nowhere(const char *path)
+{
+    struct stat status;
+    return !lstat(path, &status) && S_ISLNK(status.st_mode) && stat(path, &status);
+}
+
+/* A change cannot make a file of a link that leads nowhere. */
+static int is_dangling(const char *path)
+{
+    if (!leads_nowhere(path)) return 0;
+    say("%s is a link that leads nowhere", path);
+    return 1;
+}
+
+/* The journal must be a file of its own, or a name that can become one. */
 static int files_differ(const store *s)
 {
-    if (!same_file(s->journal_path, s->path) && !same_file(s->journal_path, s->steps_path)) return DONE;
-    say("%s cannot be the journal", s->journal_path);
-    return FAILED;
+    const char *own[] = { "", s->path, s->steps_path, s->lock_path, s->redo_path, s->redo_new_path };
+    if (s->mode != LOOK && (is_dangling(s->journal_path) || is_dangling(s->steps_path))) return FAILED;
+    for (size_t i = 0; i < sizeof own / sizeof *own; i++) {
+        if (!same_file(s->journal_path, own[i])) continue;
+        say("%s cannot be the journal", s->journal_path[0] ? s->journal_path : "a file without a name");
+        return FAILED;
+    }
+    return DONE;
 }
 
 static int read_files(store *s)
@@ -222,7 +241,8 @@ int store_create(store *s, const char *path, const char *journal)
 {
     int result;
     set_paths(s, path, journal, START);
-    result = files_differ(s);
+    errno = ENOENT;
+    result = path[0] ? files_differ(s) : fail_system(path);
     if (!result) result = all_missing(s);
     if (!result) result = take_lock(s);
     if (!result) result = recover(s);

@@ -32,7 +32,7 @@ int text_is_control(uint32_t code)
 {
     return code < 0x20 || (code >= 0x7F && code < 0xA0) || (code >= 0x2028 && code <= 0x202E)
         || (code >= 0x2066 && code <= 0x2069) || code == 0x200E || code == 0x200F
-        || code == 0x61C || code == 0xFEFF;
+        || code == 0x61C || code == 0xFEFF || (code >= 0xFDD0 && code <= 0xFDEF) || (code & 0xFFFE) == 0xFFFE;
 }
 
 void put_text(FILE *out, const uint8_t *text, size_t length)

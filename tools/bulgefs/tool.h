@@ -160,7 +160,8 @@ typedef int (*each_change)(void *ctx, const change *);
 /*
  * Calls for each path that differs, in the order of the paths; ends early with
  * what is not 0.  Bytes and attributes are compared as content, wherever they
- * lie; CHANGED_BLOCKS is a directory of another size.
+ * lie; CHANGED_BLOCKS is a directory of another size.  Which paths differ is
+ * found in plain C; the entries given are the library's (view_told).
  */
 int changes_each(const bytes *before, const bytes *after, each_change, void *ctx);
 /* The parts in words: "bytes, times". */
@@ -201,8 +202,17 @@ typedef int (*each_entry)(void *ctx, const char *path, const entry *);
  * Gives 0, or BULGEFS_NOT_FOUND, or what the call gave if that is not 0.
  */
 int view_each(const bytes *image, const char *path, int recursive, each_entry, void *ctx);
+/* As view_each of "/" with all below it, in plain C: the library, which checks the image for each entry, takes much longer. */
+void view_scan(const bytes *image, each_entry, void *ctx);
+/*
+ * The entry at path, where view_scan found one, as the library tells it; ends
+ * the tool with FAILED if the two differ in any field.
+ */
+entry view_told(const bytes *image, const char *path, const entry *scanned);
 /* The entry at path, which is not "/": 0 or BULGEFS_NOT_FOUND. */
 uint32_t view_find(const bytes *image, const char *path, entry *);
+/* The library's number for a path at which there is nothing: 9, 17 or 10. */
+uint32_t view_refusal(const bytes *image, const char *path);
 int view_is_directory(const entry *);
 /* The block after this one in its chain. */
 uint32_t view_next(const bytes *image, uint32_t block);

@@ -14,7 +14,7 @@ typedef struct { each_change call; void *ctx; int count; } counter;
 static int count_change(void *ctx, const change *one)
 {
     counter *c = ctx;
-    c->count++;
+    if (++c->count > 1) return 1;
     return c->call ? c->call(c->ctx, one) : 0;
 }
 

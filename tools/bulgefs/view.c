@@ -1,10 +1,13 @@
 /*
  * A sound image: its numbers, labels and entries as the library tells them
  * (bulgefs_info, bulgefs_entry), which is proved.  Chains, the block of a slot
- * and the root's own times are read here in plain C, and that is not.  Every
+ * and the root's own times are read here in plain C, and that is not.  So are
+ * all entries where a whole image is counted, drawn or compared (view_scan); a
+ * comparison shows of these only what the library tells too (view_told).  Every
  * number that is followed is held against the image's length first, so that a
  * wrong image gives wrong words and never a read outside the bytes lent.
  */
+#include <stdlib.h>
 #include <string.h>
 
 #include "look.h"
@@ -151,12 +154,16 @@ static size_t slot_offset(const folder *f, uint32_t slot)
     return BULGEFS_BLOCK_SIZE * (size_t)block + SLOT * (size_t)(slot % 4);
 }
 
-/* The entry in the lowest slot, from the given one on, that is not free; 0 if there is none. */
-static int next_entry(const folder *f, uint32_t slot, entry *e)
+/*
+ * Asks the library for the entry in the lowest slot, from the given one on, that
+ * is not free, of the directory at the first length bytes of path, none for the
+ * root; 0 if there is none.  The entry's offset is left 0.
+ */
+static int ask_entry(const bytes *image, const char *path, size_t length, uint32_t slot, entry *e)
 {
     uint8_t name[BULGEFS_MAX_NAME + 1] = { 0 };
-    const uint8_t *path = (const uint8_t *)(f->length == 0 ? "/" : f->path);
-    bulgefs_slot s = bulgefs_entry(f->image->bytes, f->image->length, path, f->length == 0 ? 1 : f->length,
+    const uint8_t *directory = (const uint8_t *)(length == 0 ? "/" : path);
+    bulgefs_slot s = bulgefs_entry(image->bytes, image->length, directory, length == 0 ? 1 : length,
                                    slot, name, BULGEFS_MAX_NAME);
 
     memset(e, 0, sizeof *e);
@@ -177,8 +184,33 @@ static int next_entry(const folder *f, uint32_t slot, entry *e)
     e->flags = s.flags;
     e->name_length = strlen((const char *)name);
     memcpy(e->name, name, sizeof name);
-    e->offset = slot_offset(f, s.slot);
     return 1;
+}
+
+/* The entry in the lowest slot, from the given one on, that is not free; 0 if there is none. */
+static int next_entry(const folder *f, uint32_t slot, entry *e)
+{
+    if (!ask_entry(f->image, f->path, f->length, slot, e))
+        return 0;
+    e->offset = slot_offset(f, e->slot);
+    return 1;
+}
+
+/* The same in plain C: the library checks the whole image for each entry that it tells. */
+static int next_plain(const folder *f, uint32_t slot, entry *e)
+{
+    uint32_t end = BULGEFS_SLOTS_PER_BLOCK * f->self.blocks - 1;
+    size_t offset;
+
+    for (; slot < end; slot++) {
+        offset = slot_offset(f, slot);
+        if (offset == 0)
+            return 0;
+        *e = view_slot(f->image, offset, slot);
+        if (e->type != 0)
+            return 1;
+    }
+    return 0;
 }
 
 static int find_name(const folder *f, const char *name, size_t length, entry *found)
@@ -215,11 +247,23 @@ uint32_t view_find(const bytes *image, const char *path, entry *found)
     return 0;
 }
 
+uint32_t view_refusal(const bytes *image, const char *path)
+{
+    size_t length = strlen(path);
+    uint32_t number;
+
+    if (length > 1 && path[length - 1] == '/')
+        length--;
+    number = bulgefs_lookup(image->bytes, image->length, (const uint8_t *)path, length).number;
+    return number == 0 ? BULGEFS_NOT_FOUND : number;
+}
+
 /* Where a visit of the tree is, and whom it tells. */
 typedef struct {
     const bytes *image;
     char path[BULGEFS_MAX_PATH + 1];
     int recursive;
+    int (*next)(const folder *, uint32_t, entry *);
     each_entry each;
     void *context;
 } visit;
@@ -231,7 +275,7 @@ static int visit_directory(visit *v, const entry *directory, size_t length, unsi
     entry e;
     int stop;
 
-    while (next_entry(&f, slot, &e)) {
+    while (v->next(&f, slot, &e)) {
         slot = e.slot + 1;
         if (length + 1 + e.name_length > BULGEFS_MAX_PATH)
             continue;
@@ -257,6 +301,7 @@ int view_each(const bytes *image, const char *path, int recursive, each_entry ea
         return BULGEFS_NOT_FOUND;
     v.image = image;
     v.recursive = recursive;
+    v.next = next_entry;
     v.each = each;
     v.context = context;
     if (path[length - 1] == '/')
@@ -266,4 +311,35 @@ int view_each(const bytes *image, const char *path, int recursive, each_entry ea
     if (view_is_file(&at))
         return each(context, v.path, &at);
     return visit_directory(&v, &at, length, 0);
+}
+
+void view_scan(const bytes *image, each_entry each, void *context)
+{
+    visit v = { image, "", 1, next_plain, each, context };
+    entry root = view_root(image);
+
+    visit_directory(&v, &root, 0, 0);
+}
+
+/* The offset is left out: the library tells none. */
+static int same_entry(const entry *a, const entry *b)
+{
+    return a->slot == b->slot && a->type == b->type && a->user == b->user && a->group == b->group
+        && a->permissions == b->permissions && a->first == b->first && a->size == b->size
+        && a->blocks == b->blocks && a->created == b->created && a->modified == b->modified
+        && a->attribute_block == b->attribute_block && a->attribute_size == b->attribute_size
+        && a->flags == b->flags && a->name_length == b->name_length
+        && memcmp(a->name, b->name, sizeof a->name) == 0;
+}
+
+entry view_told(const bytes *image, const char *path, const entry *scanned)
+{
+    entry told;
+
+    ask_entry(image, path, (size_t)(strrchr(path, '/') - path), scanned->slot, &told);
+    told.offset = scanned->offset;
+    if (same_entry(&told, scanned))
+        return told;
+    say("%s: internal error: the library tells another entry than the one read in plain C; nothing was changed", path);
+    exit(FAILED);
 }
