@@ -16,7 +16,8 @@ use Rattle.store.specs.Get.{Which, theLatest, theNumber}
 use Rattle.journal.specs.Journal.{recordsFrom, started, startRefusal}
 use Rattle.journal.specs.Run.{Look, checkImage, findFile, readFile, lookAt, readAttributesOf, getSettings, showVolume, showEntry, Call, change, undo, look, Answer, changed, undone, checked, found, filled, shown, got, described, entered, State, state}
 use Rattle.journal.specs.Replay.{replayed}
-use Rattle.write_list.specs.Runs.{ListCall, call, list, ListAnswer, answered, stopped, listRun, listAnswers, listStanding, listReplayAnswers}
+use Rattle.journal.specs.Kinds.{KindCall, call, further, KindAnswer, answered, replied, runOf, answersOf, standingOf, replayAnswersOf}
+use Rattle.write_list.specs.Runs.{lists}
 
 -- Of the item at an offset: its op, its name, its data and its length.
 abbrev pub opAt : List ℕ → ℕ → ℕ
@@ -90,8 +91,8 @@ showAt s at =
     cond (eqb (opAt s at) 16) (showVolume (dataAt s at))
     (cond (eqb (opAt s at) 17) (showEntry (nameAt s at) (be64 s (at + 9)) (dataAt s at)) (getSettings (nameAt s at) (whichAt s at) (dataAt s at)))
 
-unfoldable pub itemCall : List ℕ → ℕ → ListCall
-itemCall s at = cond (eqb (opAt s at) 15) (list (dataAt s at)) (cond (shows (opAt s at)) (call (look (showAt s at))) (call (callAt s at)))
+unfoldable pub itemCall : List ℕ → ℕ → KindCall lists
+itemCall s at = cond (eqb (opAt s at) 15) (further (dataAt s at)) (cond (shows (opAt s at)) (call (look (showAt s at))) (call (callAt s at)))
 
 -- an item that is not cut off, with a known op
 unfoldable pub itemOk : List ℕ → ℕ → Bool
@@ -101,10 +102,10 @@ itemOk s at = leb (at + itemSize s at) (length s) && within 1 lastOp (opAt s at)
 unfoldable pub itemsFrom : List ℕ → ℕ → List ℕ
 itemsFrom s at = recordsFrom (itemSize s) (length s) at (length s - at)
 
-unfoldable pub callsFrom : List ℕ → ℕ → List ListCall
+unfoldable pub callsFrom : List ℕ → ℕ → List (KindCall lists)
 callsFrom s at = map (itemCall s) (itemsFrom s at)
 
-abbrev pub callsOf : List ℕ → List ListCall
+abbrev pub callsOf : List ℕ → List (KindCall lists)
 callsOf s = callsFrom s 0
 
 -- An answer as bytes: four numbers of 32 bits, of the volume's numbers eight, of an entry sixteen, its times as two each, the high one first; then, for
@@ -132,9 +133,9 @@ encoded (got a) = numbers (a .number) (a .revision) (a .size) 0 ++ (a .buffer)
 encoded (described a) = volumeHead a ++ (a .buffer)
 encoded (entered a) = entryHead a ++ (a .buffer)
 
-unfoldable pub encodedItem : ListAnswer → List ℕ
+unfoldable pub encodedItem : KindAnswer lists → List ℕ
 encodedItem (answered a) = encoded a
-encodedItem (stopped number done) = numbers number done 0 0
+encodedItem (replied r) = numbers (r .number) (r .done) 0 0
 
 -- the length of the answer to a call, on every image and journal; of all answers to a script
 unfoldable pub answerSize : Call → ℕ
@@ -149,11 +150,11 @@ answerSize (look (getSettings serial which buffer)) = 16 + length buffer
 answerSize (look (showVolume buffer)) = 32 + length buffer
 answerSize (look (showEntry name start buffer)) = 64 + length buffer
 
-unfoldable pub itemRoom : ListCall → ℕ
+unfoldable pub itemRoom : KindCall lists → ℕ
 itemRoom (call c) = answerSize c
-itemRoom (list l) = 16
+itemRoom (further l) = 16
 
-unfoldable pub answersSize : List ListCall → ℕ
+unfoldable pub answersSize : List (KindCall lists) → ℕ
 answersSize [] = 0
 answersSize (c ∷ cs) = itemRoom c + answersSize cs
 
@@ -172,7 +173,7 @@ pub record Outcome : Type 0 where
 abbrev pub leaves : Status → List ℕ → List ℕ → List ℕ → Outcome
 leaves status image journal out = record { status = status; state = state image journal; out = out }
 
-unfoldable pub given : State → List ℕ → List ℕ → State → List ListAnswer → Outcome
+unfoldable pub given : State → List ℕ → List ℕ → State → List (KindAnswer lists) → Outcome
 given p script out last replies =
     let made : Outcome = record { status = done; state = last; out = splice out 0 (joined encodedItem replies) } in
     let fitting = cond (leb (answersSize (callsOf script)) (length out)) made (record { status = noRoom; state = p; out = out }) in
@@ -180,11 +181,11 @@ given p script out last replies =
 
 -- by the rules, call by call; and by the replay of the changes that stand, from a sound image and a journal just started
 unfoldable pub outcome : State → List ℕ → List ℕ → Outcome
-outcome p script out = given p script out (listRun p (callsOf script)) (listAnswers p (callsOf script))
+outcome p script out = given p script out (runOf p (callsOf script)) (answersOf p (callsOf script))
 
 unfoldable pub replayOutcome : State → List ℕ → List ℕ → Outcome
 replayOutcome start script out =
-    given start script out (replayed start (listStanding start [] (callsOf script))) (listReplayAnswers start [] (callsOf script))
+    given start script out (replayed start (standingOf start [] (callsOf script))) (replayAnswersOf start [] (callsOf script))
 
 pub record JustStarted (image journal : List ℕ) : Type 0 where
   pub sound : check image ≡ 0

@@ -7,7 +7,7 @@ ghost use mathlib.Core.Bool.{true, false};
 ghost use Rattle.layout.specs.Lists.{every, joined};
 ghost use Rattle.layout.specs.Bytes.{be32, splice};
 ghost use Rattle.journal.specs.Run.{undo, answer, state};
-ghost use Rattle.write_list.specs.Runs.{listRun, listAnswers};
+ghost use Rattle.journal.specs.Kinds.{runOf, answersOf};
 ghost use Rattle.journal.specs.Answers.{changedAnswer, undoneAnswer};
 ghost use Rattle.script.specs.Answers.{ranStatus};
 ghost use Rattle.store.specs.Asked.{asked};
@@ -243,7 +243,7 @@ fn make(script: &[u8], at: usize, image: &mut [u8], journal: &mut [u8], part: &m
 // Makes the calls of a script of the right form, whose answers have room.
 fn execute(script: &[u8], image: &mut [u8], journal: &mut [u8], out: &mut [u8])
     requires { ⌜ (every (itemOk (now script)) (itemsFrom (now script) 0) ≡ true) × (answersSize (callsOf (now script)) ≤ length (now out)) ⌝ }
-    ensures { λ _. ⌜ (state (now (image .exit)) (now (journal .exit)) ≡ listRun (state (now (image .entry)) (now (journal .entry))) (callsOf (now (script .entry)))) × (now (out .exit) ≡ splice (now (out .entry)) 0 (joined encodedItem (listAnswers (state (now (image .entry)) (now (journal .entry))) (callsOf (now (script .entry)))))) ⌝ }
+    ensures { λ _. ⌜ (state (now (image .exit)) (now (journal .exit)) ≡ runOf (state (now (image .entry)) (now (journal .entry))) (callsOf (now (script .entry)))) × (now (out .exit) ≡ splice (now (out .entry)) 0 (joined encodedItem (answersOf (state (now (image .entry)) (now (journal .entry))) (callsOf (now (script .entry)))))) ⌝ }
 {
     let mut at = 0;
     let mut q = 0;

@@ -7,7 +7,7 @@ use Rattle.layout.specs.Lists.{every, same}
 use Rattle.journal.specs.Journal.{started}
 use Rattle.journal.specs.Run.{State}
 use Rattle.layout.specs.Bytes.{be64}
-use Rattle.write_list.specs.Runs.{listStep, listAnswer, listRun, listAnswers}
+use Rattle.journal.specs.Kinds.{stepOf, answerOf, runOf, answersOf}
 use Rattle.script.specs.Script.{nameAt, dataAt, changeAt, callAt, itemCall, itemOk, itemsFrom, callsFrom, encoded, encodedItem, answerSize, itemRoom, answersSize, Status, done, malformed, noRoom, given, outcome}
 use Rattle.tables.proofs.Rules.{rules}
 use Rattle.tables.proofs.Samples.{formattedAs, samples}
@@ -50,5 +50,5 @@ table =
     ∷ []
 
 pub example-holds : T (every (λ row. same (row .0) (row .1)) table)
-unfolding table header script expected start samples be64 nameAt dataAt changeAt callAt itemCall itemOk itemsFrom callsFrom encoded encodedItem answerSize itemRoom answersSize listStep listAnswer listRun listAnswers code given outcome rules Rattle.script.specs.Script.numbers
+unfolding table header script expected start samples be64 nameAt dataAt changeAt callAt itemCall itemOk itemsFrom callsFrom encoded encodedItem answerSize itemRoom answersSize stepOf answerOf runOf answersOf code given outcome rules Rattle.script.specs.Script.numbers
 example-holds = tt

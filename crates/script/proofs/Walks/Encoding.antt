@@ -14,7 +14,8 @@ use Rattle.layout.specs.Looks.{ReadAnswer, Extent, VolumeAnswer, EntryAnswer, r
 use Rattle.store.specs.Get.{GetAnswer, gotAnswer, get}
 use Rattle.journal.specs.Run.{Call, Answer, State, change, undo, look, checkImage, findFile, readFile, lookAt, readAttributesOf, showVolume, showEntry, getSettings, filled, shown, got, described, entered, lookAnswer, answer, changeAnswer, changeRefusal, undoAnswer, undoRefusal}
 use Rattle.script.specs.Script.{opAt, nameAt, dataAt, numbers, volumeHead, entryHead, encoded, encodedItem, answerSize, itemRoom}
-use Rattle.write_list.specs.Runs.{ListCall, call, list, listAnswer}
+use Rattle.journal.specs.Kinds.{KindCall, call, further, answerOf}
+use Rattle.write_list.specs.Runs.{lists}
 use Rattle.script.specs.Walks.Scripts.{filledAt}
 use Rattle.layout.specs.Answers.{readAnswer, volumeAnswer, entryAnswer}
 use Rattle.layout.specs.declared.overview.VolumeInfo.{VolumeInfo}
@@ -78,10 +79,10 @@ answer-length p (look (showEntry name start buffer)) =
     let a : EntryAnswer = nextEntry (p .image) name start buffer in
     length-append (entryHead a) (a .buffer) ∙ rw (length-entryHead, entry-length (p .image) buffer name start)
 
-pub item-length : (p : State) (c : ListCall) → length (encodedItem (listAnswer p c)) ≡ itemRoom c
-unfolding encodedItem listAnswer itemRoom
+pub item-length : (p : State) (c : KindCall lists) → length (encodedItem (answerOf p c)) ≡ itemRoom c
+unfolding encodedItem answerOf itemRoom
 item-length p (call c) = answer-length p c
-item-length p (list l) = length-numbers _ _ _ _
+item-length p (further l) = length-numbers _ _ _ _
 
 -- the answers of read and look in place, as the code writes them
 pub read-encoded : (s buffer : List ℕ) (a : ReadAnswer) → length s ≡ 16 + length buffer → a .buffer ≡ buffer

@@ -13,7 +13,8 @@ use Rattle.store.specs.declared.change.Change.{Change as Kind}
 use Rattle.journal.specs.Run.{Call, Answer, State, Look, change, undo, look, step, answer, afterChange, changeAnswer, afterUndo, undoAnswer, lookAnswer, state}
 use Rattle.script.specs.Script.{opAt, nameAt, dataAt, changeAt, callAt, shows, showAt, itemCall, answerSize, numbers, encoded, encodedItem}
 use Rattle.write_list.specs.List.{Listed, listed, writeList}
-use Rattle.write_list.specs.Runs.{ListCall, list, listStep, listAnswer}
+use Rattle.journal.specs.Kinds.{KindCall, further, stepOf, answerOf}
+use Rattle.write_list.specs.Runs.{lists}
 use Rattle.script.specs.Walks.Scripts.{looks, CallDone, ItemDone}
 use Rattle.script.proofs.Walks.Scripts.{is-change, is-check, is-lookup, is-read, is-look-in-place, is-read-attributes, is-call, is-show, is-list, looks-split}
 use Rattle.script.proofs.Walks.Encoding.{numbers-alone}
@@ -68,21 +69,21 @@ look-made image journal part s at l h answered = record { after = sym (look-keep
 -- an item that is a call, and one that is a list
 pub call-item : (p : State) (s : List ℕ) (at : ℕ) (image journal part : List ℕ) → (opAt s at ≡ 15 → ⊥) → shows (opAt s at) ≡ false → CallDone p (callAt s at) image journal part
     → ItemDone p (itemCall s at) image journal part
-unfolding listStep listAnswer encodedItem
+unfolding stepOf answerOf encodedItem
 call-item p s at image journal part n h d = rw (is-call s at n h) (record { after = d .after; answered = d .answered })
 
 pub show-item : (image journal s : List ℕ) (at : ℕ) (part : List ℕ) → shows (opAt s at) ≡ true → part ≡ encoded (lookAnswer image (showAt s at))
     → ItemDone (state image journal) (itemCall s at) image journal part
-unfolding listStep listAnswer encodedItem step answer
+unfolding stepOf answerOf encodedItem step answer
 show-item image journal s at part h e = rw (is-show s at h) (record { after = refl; answered = e })
 
 pub list-item : (p : State) (s : List ℕ) (at : ℕ) (image journal part part′ bytes : List ℕ) (number done : ℕ) → opAt s at ≡ 15 → length part ≡ 16
     → bytes ≡ dataAt s at → listed (state image journal) number done ≡ writeList p bytes → part′ ≡ splice part 0 (numbers number done 0 0)
     → ItemDone p (itemCall s at) image journal part′
-unfolding listStep listAnswer encodedItem
+unfolding stepOf answerOf encodedItem
 list-item p s at image journal part part′ bytes number done e l b w written =
-    let made : ItemDone p (list bytes) image journal part′ = record {
+    let made : ItemDone p (further bytes) image journal part′ = record {
       after = ap (λ (o : Listed). o .state) w;
       answered = written ∙ numbers-alone part number done 0 0 l ∙ ap (λ (o : Listed). numbers (o .number) (o .done) 0 0) w;
     } in
-    subst (λ (c : ListCall). ItemDone p c image journal part′) (sym (is-list s at e ∙ ap list (sym b))) made
+    subst (λ (c : KindCall lists). ItemDone p c image journal part′) (sym (is-list s at e ∙ ap further (sym b))) made

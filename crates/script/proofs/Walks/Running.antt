@@ -10,24 +10,25 @@ use lib.ListN.{length, length-append}
 use Rattle.layout.specs.Lists.{every, joined}
 use Rattle.layout.specs.Bytes.{splice}
 use Rattle.journal.specs.Run.{State, state}
-use Rattle.write_list.specs.Runs.{ListCall, listStep, listAnswer, listRun, listAnswers}
+use Rattle.journal.specs.Kinds.{KindCall, stepOf, answerOf, runOf, answersOf}
+use Rattle.write_list.specs.Runs.{lists}
 use Rattle.script.specs.Script.{itemSize, itemCall, itemOk, itemsFrom, callsFrom, callsOf, encodedItem, itemRoom, answersSize, done, malformed, noRoom, Outcome, leaves, given, outcome}
 use Rattle.script.specs.Walks.Scripts.{ItemDone}
 use Rattle.layout.proofs.Laws.Bytes.{putMid-splice, length-splice, splice-nil, splice-append}
 use Rattle.script.proofs.Walks.Scripts.{Next, next, calls-none, calls-step, sizes-step}
 use Rattle.script.proofs.Walks.Encoding.{item-length}
 
-pub answers-length : (p : State) (cs : List ListCall) → length (joined encodedItem (listAnswers p cs)) ≡ answersSize cs
-unfolding listAnswers answersSize
+pub answers-length : (p : State) (cs : List (KindCall lists)) → length (joined encodedItem (answersOf p cs)) ≡ answersSize cs
+unfolding answersOf answersSize
 answers-length p [] = refl
 answers-length p (c ∷ cs) =
-    length-append (encodedItem (listAnswer p c)) (joined encodedItem (listAnswers (listStep p c) cs)) ∙ rw (item-length p c, answers-length (listStep p c) cs)
+    length-append (encodedItem (answerOf p c)) (joined encodedItem (answersOf (stepOf p c) cs)) ∙ rw (item-length p c, answers-length (stepOf p c) cs)
 
 pub record Midway (start : State) (s out₀ image journal out : List ℕ) (at q : ℕ) : Type 0 where
   pub items : every (itemOk s) (itemsFrom s at) ≡ true
   pub room : q + answersSize (callsFrom s at) ≤ length out
-  pub states : listRun start (callsOf s) ≡ listRun (state image journal) (callsFrom s at)
-  pub outs : splice out₀ 0 (joined encodedItem (listAnswers start (callsOf s))) ≡ splice out q (joined encodedItem (listAnswers (state image journal) (callsFrom s at)))
+  pub states : runOf start (callsOf s) ≡ runOf (state image journal) (callsFrom s at)
+  pub outs : splice out₀ 0 (joined encodedItem (answersOf start (callsOf s))) ≡ splice out q (joined encodedItem (answersOf (state image journal) (callsFrom s at)))
 
 pub run-start : (s image journal out : List ℕ) → every (itemOk s) (itemsFrom s 0) ≡ true → answersSize (callsOf s) ≤ length out
     → Midway (state image journal) s out image journal out 0 0
@@ -40,16 +41,16 @@ module _ (start : State) (s out₀ image journal out : List ℕ) (at q : ℕ) (i
 
   run-step : at < length s → (image′ journal′ out′ part′ : List ℕ) → ItemDone (state image journal) (itemCall s at) image′ journal′ part′
       → out′ ≡ splice out q part′ → Midway start s out₀ image′ journal′ out′ (at + itemSize s at) (q + itemRoom (itemCall s at))
-  unfolding listRun listAnswers
+  unfolding runOf answersOf
   run-step h image′ journal′ out′ part′ m e =
       let p : State = state image journal in
-      let c : ListCall = itemCall s at in
-      let rest : List ListCall = callsFrom s (at + itemSize s at) in
+      let c : KindCall lists = itemCall s at in
+      let rest : List (KindCall lists) = callsFrom s (at + itemSize s at) in
       let more : callsFrom s at ≡ c ∷ rest = calls-step s at h in
-      let answered : List ℕ = encodedItem (listAnswer p c) in
-      let later : List ℕ = joined encodedItem (listAnswers (listStep p c) rest) in
+      let answered : List ℕ = encodedItem (answerOf p c) in
+      let later : List ℕ = joined encodedItem (answersOf (stepOf p c) rest) in
       let l : length answered ≡ itemRoom c = item-length p c in
-      let k : length later ≡ answersSize rest = answers-length (listStep p c) rest in
+      let k : length later ≡ answersSize rest = answers-length (stepOf p c) rest in
       let sizes = sizes-step s at h in
       let room : q + answersSize (callsFrom s at) ≤ length out = i .room in
       let wrote : out′ ≡ splice out q answered = e ∙ ap (splice out q) (m .answered) in
@@ -57,9 +58,9 @@ module _ (start : State) (s out₀ image journal out : List ℕ) (at q : ℕ) (i
       record {
         items = next s at h (i .items) .rest;
         room = omega arith;
-        states = i .states ∙ ap (listRun p) more ∙ ap (λ (x : State). listRun x rest) (sym (m .after));
+        states = i .states ∙ ap (runOf p) more ∙ ap (λ (x : State). runOf x rest) (sym (m .after));
         outs =
-            i .outs ∙ ap (λ (cs : List ListCall). splice out q (joined encodedItem (listAnswers p cs))) more
+            i .outs ∙ ap (λ (cs : List (KindCall lists)). splice out q (joined encodedItem (answersOf p cs))) more
             ∙ sym (splice-append out q answered later (omega arith))
             ∙ rw (wrote, l, m .after);
       }
@@ -72,12 +73,12 @@ module _ (start : State) (s out₀ image journal out : List ℕ) (at q : ℕ) (i
       rw (putMid-splice out q (q + room - q) part′ l, e, f) (run-step h image′ journal′ (splice out q part′) part′ m refl)
 
   pub run-end : length s ≤ at
-      → (state image journal ≡ listRun start (callsOf s)) × (out ≡ splice out₀ 0 (joined encodedItem (listAnswers start (callsOf s))))
-  unfolding listRun listAnswers
+      → (state image journal ≡ runOf start (callsOf s)) × (out ≡ splice out₀ 0 (joined encodedItem (answersOf start (callsOf s))))
+  unfolding runOf answersOf
   run-end h =
       let e : callsFrom s at ≡ [] = calls-none s at h in (
-        sym (i .states ∙ ap (listRun (state image journal)) e),
-        sym (i .outs ∙ ap (λ (cs : List ListCall). splice out q (joined encodedItem (listAnswers (state image journal) cs))) e ∙ splice-nil out q),
+        sym (i .states ∙ ap (runOf (state image journal)) e),
+        sym (i .outs ∙ ap (λ (cs : List (KindCall lists)). splice out q (joined encodedItem (answersOf (state image journal) cs))) e ∙ splice-nil out q),
       )
 
 -- the outcome, by the two tests
@@ -92,11 +93,11 @@ module _ (s image journal out : List ℕ) where
   no-room e f = rw (e, f)
 
   pub all-run : every (itemOk s) (itemsFrom s 0) ≡ true → leb (answersSize (callsOf s)) (length out) ≡ true → (image′ journal′ out′ : List ℕ)
-      → state image′ journal′ ≡ listRun (state image journal) (callsOf s)
-      → out′ ≡ splice out 0 (joined encodedItem (listAnswers (state image journal) (callsOf s)))
+      → state image′ journal′ ≡ runOf (state image journal) (callsOf s)
+      → out′ ≡ splice out 0 (joined encodedItem (answersOf (state image journal) (callsOf s)))
       → leaves done image′ journal′ out′ ≡ outcome (state image journal) s out
   unfolding outcome given
-  all-run e f image′ journal′ out′ g h = rw (e, f) (ap (λ (p : State). made p out′) g ∙ ap (λ (o : List ℕ). made (listRun (state image journal) (callsOf s)) o) h)
+  all-run e f image′ journal′ out′ g h = rw (e, f) (ap (λ (p : State). made p out′) g ∙ ap (λ (o : List ℕ). made (runOf (state image journal) (callsOf s)) o) h)
     where
       made : State → List ℕ → Outcome
       made p o = record { status = done; state = p; out = o }

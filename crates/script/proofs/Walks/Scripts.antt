@@ -13,7 +13,7 @@ use Rattle.layout.specs.Lists.{every}
 use Rattle.layout.specs.Bytes.{be32, be64}
 use Rattle.journal.specs.Run.{Call, State, change, undo, look, checkImage, findFile, readFile, lookAt, readAttributesOf, showVolume, showEntry, getSettings, filled, lookAnswer, answer}
 use Rattle.script.specs.Script.{lastOp, opAt, nameAt, dataAt, dataLength, itemSize, changeAt, callAt, shows, whichAt, showAt, itemCall, itemOk, itemsFrom, callsFrom, answerSize, itemRoom, answersSize}
-use Rattle.write_list.specs.Runs.{call, list}
+use Rattle.journal.specs.Kinds.{call, further}
 use Rattle.script.specs.Walks.Scripts.{looks, fills, headSize, filledAt}
 use Rattle.layout.proofs.Laws.Tests.{and-split, or-split, true-not-false}
 use Rattle.layout.proofs.Laws.Bytes.{length-part}
@@ -193,7 +193,7 @@ module _ (s : List ℕ) (at : ℕ) where
       ⊎-elim (λ e. absurd (n .0 e)) (λ h. omega arith) (looks-split (opAt s at) l)
 
   -- a list, or a call, and the room for its answer
-  pub is-list : opAt s at ≡ 15 → itemCall s at ≡ list (dataAt s at)
+  pub is-list : opAt s at ≡ 15 → itemCall s at ≡ further (dataAt s at)
   unfolding itemCall
   is-list e = rw e
 

@@ -8,7 +8,8 @@ use lib.Dec.{eqb, leb}
 use Rattle.layout.specs.Bytes.{be64}
 use Rattle.layout.specs.Looks.{ReadAnswer, read, readAttributes}
 use Rattle.journal.specs.Run.{Call, State, step, answer, state}
-use Rattle.write_list.specs.Runs.{ListCall, listStep, listAnswer}
+use Rattle.journal.specs.Kinds.{KindCall, stepOf, answerOf}
+use Rattle.write_list.specs.Runs.{lists}
 use Rattle.script.specs.Script.{Fits, opAt, nameAt, dataAt, callAt, itemCall, answerSize, itemRoom, encoded, encodedItem}
 
 -- the ops of the calls that only look, and of those among them that fill a buffer
@@ -42,6 +43,6 @@ pub record CallDone (p : State) (c : Call) (image journal part : List ℕ) : Typ
   pub after : state image journal ≡ step p c
   pub answered : part ≡ encoded (answer p c)
 
-pub record ItemDone (p : State) (c : ListCall) (image journal part : List ℕ) : Type 0 where
-  pub after : state image journal ≡ listStep p c
-  pub answered : part ≡ encodedItem (listAnswer p c)
+pub record ItemDone (p : State) (c : KindCall lists) (image journal part : List ℕ) : Type 0 where
+  pub after : state image journal ≡ stepOf p c
+  pub answered : part ≡ encodedItem (answerOf p c)

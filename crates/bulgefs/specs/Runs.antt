@@ -1,0 +1,47 @@
+-- Runs of all calls (FORMAT.md, 11): the calls of `Run`, and beside them lists of writes, appends, read on, loads and stores of the table, in any order. Format, journal start
+-- and salvage are no calls of a run, which begins with what they leave. The plain check answers what the check does, and is the same look.
+use Prim.Native.Nat.{ℕ, _+_}
+use mathlib.Core.List.{List, [], _∷_}
+use Rattle.layout.specs.Looks.{ReadAnswer, read}
+use Rattle.journal.specs.Run.{look, readFile}
+use Rattle.journal.specs.Kinds.{Kind, KindRunTheorem, oneOf}
+use Rattle.write_list.specs.Runs.{lists}
+use Rattle.append.specs.Runs.{pieces}
+use Rattle.chain_table.specs.Runs.{transfers}
+
+-- Read on (FORMAT.md, 19): "the reader answers as 01's read at its place, which moves on by the count". The place is the caller's, and the next one part of the answer.
+pub record Reading : Type 0 where
+  pub path : List ℕ
+  pub position : ℕ
+  pub buffer : List ℕ
+
+pub record ReadingAnswer : Type 0 where
+  pub answer : ReadAnswer
+  pub next : ℕ
+
+abbrev pub readings : Kind
+readings = record {
+  Further = Reading;
+  Reply = ReadingAnswer;
+  after = λ p r. p;
+  reply = λ p r. let a : ReadAnswer = read (p .image) (r .path) (r .position) (r .buffer) in record { answer = a; next = r .position + a .count };
+  calls = λ p r. look (readFile (r .path) (r .position) (r .buffer)) ∷ [];
+  Fits = λ p r. Unit {0};
+}
+
+-- the kinds of further calls
+pub data FurtherKind : Type 0 where
+  list : FurtherKind
+  append : FurtherKind
+  readOn : FurtherKind
+  table : FurtherKind
+
+abbrev pub kindOf : FurtherKind → Kind
+kindOf list = lists
+kindOf append = pieces
+kindOf readOn = readings
+kindOf table = transfers
+
+-- DEMAND 3 over every run of calls; only a store of other numbers than the image's own ends one
+abbrev pub EveryRunTheorem : Type 0
+EveryRunTheorem = KindRunTheorem (oneOf kindOf)

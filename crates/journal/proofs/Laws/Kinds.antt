@@ -1,0 +1,96 @@
+-- The theorem over runs with further calls (demand 3), of any kind whose calls leave what the calls that they are leave.
+use Prim.Native.Nat.{ℕ, _≤_}
+use mathlib.Core.List.{List, [], _∷_, _++_}
+use mathlib.Core.Path.{_≡_, refl, sym, ap, subst, _∙_}
+use Rattle.layout.specs.Limits.{minJournal, maxJournal}
+use Rattle.layout.specs.Check.{check}
+use Rattle.store.specs.Change.{Change}
+use Rattle.store.proofs.Laws.Sound.{KeptSound}
+use Rattle.journal.specs.Journal.{started}
+use Rattle.journal.specs.Run.{Call, State, step, run}
+use Rattle.journal.specs.Replay.{replayed, standing}
+use Rattle.journal.specs.Kinds.{Kind, KindCall, call, further, KindAnswer, answered, stepOf, answerOf, runOf, answersOf, FitsRun, AllFit, callsOf, asCalls, standingOf, replayAnswerOf, replayAnswersOf, StandsFor, KindRunTheorem, FreeRunTheorem, oneOf}
+use Rattle.journal.proofs.Laws.Runs.{Stand, One, one-call, run-after}
+
+-- a run of two lists of calls
+run-append : (xs ys : List Call) (p : State) → run p (xs ++ ys) ≡ run (run p xs) ys
+unfolding run
+run-append [] ys p = refl
+run-append (x ∷ xs) ys p = run-append xs ys (step p x)
+
+-- several kinds as one
+pub one-of : {I : Type 0} (kinds : I → Kind) → ((i : I) → StandsFor (kinds i)) → StandsFor (oneOf kinds)
+one-of kinds stands p c f = stands (c .0) p (c .1) f
+
+module _ (K : Kind) (stands : StandsFor K) where
+  step-calls : (p : State) (c : KindCall K) → FitsRun p c → stepOf p c ≡ run p (callsOf p c)
+  unfolding stepOf callsOf FitsRun run
+  step-calls p (call c) f = refl
+  step-calls p (further c) f = stands p c f
+
+  -- on any state, a run is the same run as calls alone
+  pub calls-run : (cs : List (KindCall K)) (p : State) → AllFit p cs → runOf p cs ≡ run p (asCalls p cs)
+  unfolding runOf asCalls AllFit run
+  calls-run [] p f = refl
+  calls-run (c ∷ cs) p f =
+      calls-run cs (stepOf p c) (f .1)
+      ∙ ap (λ (q : State). run q (asCalls (stepOf p c) cs)) (step-calls p c (f .0))
+      ∙ sym (run-append (callsOf p c) (asCalls (stepOf p c) cs) p)
+
+  module _ (sound : KeptSound) (image : List ℕ) (size : ℕ) (ok : check image ≡ 0) (low : minJournal ≤ size) (high : size ≤ maxJournal) where
+    abbrev start : State
+    start = record { image = image; journal = started size }
+
+    -- the changes that stand after a call
+    abbrev next : List Change → KindCall K → List Change
+    next changes c = standing start changes (callsOf (replayed start changes) c)
+
+    -- one call: the state follows the replay, and the changes still stand
+    moves : (changes : List Change) (c : KindCall K) → Stand start changes → FitsRun (replayed start changes) c
+        → (stepOf (replayed start changes) c ≡ replayed start (next changes c)) × Stand start (next changes c)
+    moves changes c t f =
+        let r = run-after sound image size ok low high changes (callsOf (replayed start changes) c) t in
+        (step-calls (replayed start changes) c f ∙ r .0, r .1)
+
+    replies : (changes : List Change) (c : KindCall K) → Stand start changes → answerOf (replayed start changes) c ≡ replayAnswerOf start changes c
+    unfolding answerOf replayAnswerOf One
+    replies changes (call c) t = ap answered (one-call sound image size ok low high changes c t .1)
+    replies changes (further c) t = refl
+
+    states : (cs : List (KindCall K)) (changes : List Change) → Stand start changes → AllFit (replayed start changes) cs
+        → runOf (replayed start changes) cs ≡ replayed start (standingOf start changes cs)
+    unfolding runOf standingOf AllFit
+    states [] changes t f = refl
+    states (c ∷ cs) changes t f =
+        let m = moves changes c t (f .0) in
+        ap (λ (p : State). runOf p cs) (m .0) ∙ states cs (next changes c) (m .1) (subst (λ (p : State). AllFit p cs) (m .0) (f .1))
+
+    answers : (cs : List (KindCall K)) (changes : List Change) → Stand start changes → AllFit (replayed start changes) cs
+        → answersOf (replayed start changes) cs ≡ replayAnswersOf start changes cs
+    unfolding answersOf replayAnswersOf AllFit
+    answers [] changes t f = refl
+    answers (c ∷ cs) changes t f =
+        let m = moves changes c t (f .0) in
+        rw (m .0, replies changes c t)
+        (ap (λ (l : List (KindAnswer K)). replayAnswerOf start changes c ∷ l) (answers cs (next changes c) (m .1) (subst (λ (p : State). AllFit p cs) (m .0) (f .1))))
+
+-- EVERY RUN WITH FURTHER CALLS is the run as calls alone, and its replay
+pub kind-run : KeptSound → (K : Kind) → StandsFor K → KindRunTheorem K
+unfolding replayed Stand
+kind-run sound K stands image size calls ok low high f =
+    let start : State = record { image = image; journal = started size } in
+    record {
+      as-calls = calls-run K stands calls start f;
+      state = states K stands sound image size ok low high calls [] tt f;
+      answered = answers K stands sound image size ok low high calls [] tt f;
+    }
+
+all-fit : (K : Kind) → ((p : State) (c : K .Further) → K .Fits p c) → (cs : List (KindCall K)) (p : State) → AllFit p cs
+unfolding AllFit FitsRun
+all-fit K fits [] p = tt
+all-fit K fits (call c ∷ cs) p = (tt, all-fit K fits cs (stepOf p (call c)))
+all-fit K fits (further c ∷ cs) p = (fits p c, all-fit K fits cs (stepOf p (further c)))
+
+-- where no further call ends a run, nothing is asked of the calls
+pub free-run : KeptSound → (K : Kind) → StandsFor K → ((p : State) (c : K .Further) → K .Fits p c) → FreeRunTheorem K
+free-run sound K stands fits image size calls ok low high = kind-run sound K stands image size calls ok low high (all-fit K fits calls _)
