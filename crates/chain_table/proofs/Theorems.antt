@@ -1,37 +1,58 @@
--- What is promised of the table held as numbers (FORMAT.md, 12): load then store changes no byte; each question and change on the numbers gives what the
--- byte form gives, over any n.
+-- What is promised of the table held as numbers (FORMAT.md, 12): load then store changes no byte; a store stores; each question and change on the numbers
+-- gives what the byte form gives, over any n.
 use Prim.Native.Nat.{ℕ, _+_, _*_, _≤_, _<_}
+use mathlib.Core.Bool.{true}
 use mathlib.Core.List.{List}
 use mathlib.Core.Logic.{_⊎_, inl, inr}
 use mathlib.Core.Path.{_≡_, ap}
 use native.Mathlib.Decide.{ℕ-discrete}
 use native.Mathlib.Omega.{arith}
+use lib.Dec.{eqb}
 use lib.ListN.{length, getD, set}
-use Rattle.layout.specs.Lists.{lastOr}
+use Rattle.layout.specs.Lists.{has, lastOr}
 use Rattle.layout.specs.Geometry.{blockCount, tableBlocks}
-use Rattle.layout.specs.Table.{next, setNext, chain, endsAfter, occupied}
+use Rattle.layout.specs.Table.{next, setNext, chain, endsAfter, chainOk, freeBlocks, occupied}
 use Rattle.layout.specs.Walks.Chains.{allOnes, restFree}
 use Rattle.layout.proofs.Laws.Tests.{accept-refused}
-use Rattle.volume.specs.Entries.{linked, taken, freed}
+use Rattle.volume.specs.Entries.{linked, taken, grown, freed, released}
 use Rattle.volume.specs.Search.{lowestFree}
-use Rattle.chain_table.specs.Numbers.{valueIn, entriesOf, Held, linkedIn, takenIn, freedIn}
+use Rattle.chain_table.specs.Numbers.{valueIn, entriesOf, Held, linkedIn, takenIn, grownIn, freedIn, releasedIn}
 use Rattle.chain_table.specs.Transfer.{tableRefusal, loadTable, storeTable}
 use Rattle.chain_table.specs.Runs.{TableRunTheorem}
+use Rattle.layout.proofs.Laws.Lists.{in-has-eqb}
 use Rattle.layout.proofs.Laws.Values.{chain-same, ends-same, occupied-agree, ones-same, restFree-same}
-use Rattle.chain_table.proofs.Laws.Values.{lowest-same}
+use Rattle.chain_table.proofs.Laws.Values.{chain-ok-same, free-same, lowest-same}
 use Rattle.chain_table.proofs.Laws.Numbers.{held-entries}
-use Rattle.chain_table.proofs.Laws.Looks.{store-looks as looks}
+use Rattle.chain_table.proofs.Laws.Looks.{store-looks as looks, store-looks-only as looks-only}
+use Rattle.chain_table.proofs.Laws.Stores.{store-held as stores, store-others as others, store-length as long}
 use Rattle.chain_table.proofs.Laws.Runs.{every-table-run as every-run}
-use Rattle.chain_table.proofs.Laws.Changes.{held-set, held-link, held-take, held-free}
+use Rattle.chain_table.proofs.Laws.Changes.{held-set, held-link, held-take, held-free, held-grow, held-release}
 
 -- an accepted load gives the entries of the image
 pub load-held : (s xs : List ℕ) → loadTable s xs .number ≡ 0 → Held s (loadTable s xs .numbers) (blockCount s)
 unfolding loadTable
 load-held s xs e = rw e (held-entries s (blockCount s))
 
+-- A STORE STORES: accepted, it makes the numbers the entries of the image; numbers of 32 bits, as every run lent to a call has
+pub store-held : (s xs : List ℕ) → ((b : ℕ) → valueIn xs b < 0x100000000) → storeTable s xs .number ≡ 0 → Held (storeTable s xs .image) xs (blockCount s)
+unfolding storeTable
+store-held = stores
+
+-- "writes the entries below n only": every other byte stays, and the length
+pub store-others : (s xs : List ℕ) (i : ℕ) → (i < 512) ⊎ (512 + 4 * blockCount s ≤ i) → getD (storeTable s xs .image) i 0 ≡ getD s i 0
+store-others = others
+
+pub store-length : (s xs : List ℕ) → length (storeTable s xs .image) ≡ length s
+store-length = long
+
 -- a store of the image's own numbers only looks, and so does one that is refused
 pub store-looks : (s xs : List ℕ) → ((i : ℕ) → getD s i 0 < 256) → Held s xs (blockCount s) ⊎ (tableRefusal s (length xs) ≡ 0 → ⊥) → storeTable s xs .image ≡ s
 store-looks = looks
+
+-- and a store that changes no byte is one of these
+pub store-looks-only : (s xs : List ℕ) → ((b : ℕ) → valueIn xs b < 0x100000000) → storeTable s xs .image ≡ s
+    → Held s xs (blockCount s) ⊎ (tableRefusal s (length xs) ≡ 0 → ⊥)
+store-looks-only = looks-only
 
 -- a refused load leaves the numbers, with which the store is refused too
 load-refused : (s xs : List ℕ) → ((i : ℕ) → getD s i 0 < 256) → (loadTable s xs .number ≡ 0 → ⊥) → storeTable s (loadTable s xs .numbers) .image ≡ s
@@ -70,8 +91,14 @@ module _ {s xs : List ℕ} {n : ℕ} (held : Held s xs n) where
   pub ends-of-numbers : (b k : ℕ) → endsAfter (valueIn xs) n b k ≡ endsAfter (next s) n b k
   ends-of-numbers b k = ends-same (valueIn xs) (next s) n (held .same) k b
 
+  pub chain-ok-of-numbers : (b k : ℕ) → chainOk (valueIn xs) n b k ≡ chainOk (next s) n b k
+  chain-ok-of-numbers = chain-ok-same (valueIn xs) (next s) n (held .same)
+
   pub occupied-of-numbers : occupied (valueIn xs) n ≡ occupied (next s) n
   occupied-of-numbers = occupied-agree (valueIn xs) (next s) n (held .same)
+
+  pub free-blocks-of-numbers : freeBlocks (valueIn xs) n ≡ freeBlocks (next s) n
+  free-blocks-of-numbers = free-same (valueIn xs) (next s) n (held .same)
 
   pub lowest-of-numbers : (a : ℕ) → lowestFree (valueIn xs) a n ≡ lowestFree (next s) a n
   lowest-of-numbers = lowest-same (valueIn xs) (next s) n (held .same)
@@ -95,3 +122,11 @@ module _ {s xs : List ℕ} {n : ℕ} (held : Held s xs n) (whole : length s ≡ 
 
   pub free-of-numbers : (b : ℕ) → tableBlocks n < b → b < n → Held (freed s n b) (freedIn xs b) n
   free-of-numbers b = held-free b held whole low
+
+  -- the blocks of a list in turn, all in the volume
+  module _ (bs : List ℕ) (inside : (b : ℕ) → has eqb b bs ≡ true → (tableBlocks n < b) × (b < n)) where
+    pub grow-of-numbers : n ≤ 0x100000000 → (last : ℕ) → last < n → Held (grown s n last bs) (grownIn xs last bs) n
+    grow-of-numbers small last l = held-grow low small bs held whole last l (λ b i. inside b (in-has-eqb b bs i))
+
+    pub release-of-numbers : Held (released s n bs) (releasedIn xs bs) n
+    release-of-numbers = held-release low bs held whole (λ b i. inside b (in-has-eqb b bs i))

@@ -1,7 +1,7 @@
 -- The chain table held as numbers (FORMAT.md, 12: "a lent run of 32-bit numbers, one per block"). A question is asked of the values, a function from block
 -- numbers: of an image `next s`, of numbers `valueIn xs`. So the layout's definitions say what each question answers on either.
 use Prim.Native.Nat.{ℕ, zero, suc, _<_}
-use mathlib.Core.List.{List, map}
+use mathlib.Core.List.{List, [], _∷_, map}
 use mathlib.Core.Path.{_≡_}
 use lib.ListN.{length, getD, set}
 use Rattle.layout.specs.Lists.{interval, joined}
@@ -35,3 +35,12 @@ takenIn xs last b = linkedIn (set xs b 1) last b
 
 unfoldable pub freedIn : List ℕ → ℕ → List ℕ
 freedIn xs b = set xs b 0
+
+-- each block of a list in turn: taken, linked at the chain's end, and freed
+unfoldable pub grownIn : List ℕ → ℕ → List ℕ → List ℕ
+grownIn xs last [] = xs
+grownIn xs last (b ∷ bs) = grownIn (takenIn xs last b) b bs
+
+unfoldable pub releasedIn : List ℕ → List ℕ → List ℕ
+releasedIn xs [] = xs
+releasedIn xs (b ∷ bs) = releasedIn (freedIn xs b) bs

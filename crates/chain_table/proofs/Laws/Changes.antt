@@ -1,7 +1,8 @@
 -- A change of the table made in the bytes and in the numbers: the numbers stay those of the image. All rest on one entry set in both.
 use Prim.Native.Nat.{ℕ, zero, suc, _+_, _*_, _≤_, _<_}
-use mathlib.Core.List.{List}
-use mathlib.Core.Path.{_≡_, sym, _∙_}
+use mathlib.Core.List.{List, [], _∷_}
+use mathlib.Core.Logic.{inl, inr}
+use mathlib.Core.Path.{_≡_, refl, sym, _∙_}
 use native.Mathlib.Decide.{ℕ-discrete}
 use native.Mathlib.Omega.{arith}
 use lib.ListN.{length, set, length-set}
@@ -9,11 +10,12 @@ use lib.Seq.{getD-set-same, getD-set-other}
 use Rattle.layout.specs.Bytes.{zeros, splice}
 use Rattle.layout.specs.Geometry.{tableBlocks, rootBlock}
 use Rattle.layout.specs.Table.{next, setNext}
-use Rattle.volume.specs.Entries.{setOccupied, linked, taken, freed}
+use Rattle.volume.specs.Entries.{setOccupied, linked, taken, grown, freed, released}
 use Rattle.layout.proofs.Laws.Bytes.{length-zeros}
+use Rattle.layout.proofs.Laws.Lists.{In}
 use Rattle.layout.proofs.Laws.Frames.{same-below, before-next, set-next-length, set-next-at, set-next-other}
-use Rattle.volume.proofs.Laws.Table.{set-occupied-next, linked-length, cleared-length}
-use Rattle.chain_table.specs.Numbers.{valueIn, Held, linkedIn, takenIn, freedIn}
+use Rattle.volume.proofs.Laws.Table.{set-occupied-next, linked-length, cleared-length, taken-length, freed-size}
+use Rattle.chain_table.specs.Numbers.{valueIn, Held, linkedIn, takenIn, grownIn, freedIn, releasedIn}
 
 -- bytes that leave the entries below n
 pub held-still : {s s′ xs : List ℕ} {n : ℕ} → Held s xs n → ((b : ℕ) → b < n → next s′ b ≡ next s b) → Held s′ xs n
@@ -58,3 +60,21 @@ module _ {s xs : List ℕ} {n : ℕ} (b : ℕ) (held : Held s xs n) (whole : len
   held-take last l small =
       let i = size 1 in
       held-counts (held-link (ended 1 (omega arith)) (omega arith) last b l small) (omega (arith, linked-length (setNext z b 1) b last (omega arith))) _
+
+-- the blocks of a list, one after the other
+module _ {n : ℕ} (low : 3 ≤ n) where
+  pub held-release : (bs : List ℕ) {s xs : List ℕ} → Held s xs n → length s ≡ 512 * n → ((b : ℕ) → In b bs → (tableBlocks n < b) × (b < n))
+      → Held (released s n bs) (releasedIn xs bs) n
+  unfolding released releasedIn
+  held-release [] held whole inside = held
+  held-release (b ∷ bs) {s} held whole inside =
+      let i = inside b (inl refl) in
+      held-release bs (held-free b held whole low (i .0) (i .1)) (freed-size n low s b whole (i .1) (i .0) ∙ whole) (λ x h. inside x (inr h))
+
+  pub held-grow : n ≤ 0x100000000 → (bs : List ℕ) {s xs : List ℕ} → Held s xs n → length s ≡ 512 * n → (last : ℕ) → last < n
+      → ((b : ℕ) → In b bs → (tableBlocks n < b) × (b < n)) → Held (grown s n last bs) (grownIn xs last bs) n
+  unfolding grown grownIn
+  held-grow small [] held whole last l inside = held
+  held-grow small (b ∷ bs) {s} held whole last l inside =
+      let i = inside b (inl refl) in
+      held-grow small bs (held-take b held whole low (i .0) (i .1) last l (omega arith)) (taken-length n low s last b whole l (i .1)) b (i .1) (λ x h. inside x (inr h))
