@@ -18,12 +18,14 @@ mod images;
 mod journals;
 mod lent;
 mod library;
+mod plain;
 mod report;
 mod rng;
 mod suites;
 mod tester;
 mod tree;
 
+use plain::Plain;
 use report::Report;
 use rng::Rng;
 use std::process::ExitCode;
@@ -62,9 +64,12 @@ fn main() -> ExitCode {
             (false, _) => {}
         }
     }
+    let Tester { plain, report, .. } = &mut tester;
+    wait(plain, report);
     let whole = options.suite.is_none() && options.round.is_none();
     println!();
-    tester.report.table(whole);
+    report.table(whole);
+    plain.counts(report);
     println!();
     let (passed, failed) = tester.report.counts();
     println!("{passed} passed, {failed} failed");
@@ -90,11 +95,20 @@ fn run_suite(suite: &Suite, options: &Options, tester: &mut Tester) {
         tester.report.begin(suite.name, round, seed);
         (suite.run)(&mut Rng::new(seed), round, tester);
     }
-    let after = tester.report.counts();
+    line(suite.name, rounds, "rounds", before, &tester.report, begin);
+}
+
+/// Waits for the plain checks that take long.
+fn wait(plain: &mut Plain, report: &mut Report) {
+    let (begin, before) = (Instant::now(), report.counts());
+    let count = plain.finish(report);
+    line("plain", count as u64, "images", before, report, begin);
+}
+
+fn line(name: &str, count: u64, of: &str, before: (u64, u64), report: &Report, begin: Instant) {
+    let after = report.counts();
     println!(
-        "{:<8} {:>6} rounds {:>8} passed {:>6} failed {:>7.1} s",
-        suite.name,
-        rounds,
+        "{name:<8} {count:>6} {of} {:>8} passed {:>6} failed {:>7.1} s",
         after.0 - before.0,
         after.1 - before.1,
         begin.elapsed().as_secs_f64()

@@ -103,7 +103,12 @@ pub struct Report {
     failed: u64,
     hits: [[u64; NUMBERS]; ENTRIES.len()],
     met: [u64; MET.len()],
-    /// Suite and round of the case at hand, and what it is about.
+    place: Place,
+}
+
+/// Suite and round of the case at hand, and what it is about.
+#[derive(Clone, Default)]
+pub struct Place {
     suite: &'static str,
     round: u64,
     seed: u64,
@@ -117,23 +122,26 @@ impl Report {
             failed: 0,
             hits: [[0; NUMBERS]; ENTRIES.len()],
             met: [0; MET.len()],
-            suite: "",
-            round: 0,
-            seed: 0,
-            about: String::new(),
+            place: Place::default(),
         }
     }
 
     pub fn begin(&mut self, suite: &'static str, round: u64, seed: u64) {
-        self.suite = suite;
-        self.round = round;
-        self.seed = seed;
-        self.about.clear();
+        self.place = Place { suite, round, seed, about: String::new() };
     }
 
     /// Says what the following calls are about, for the message of a failure.
     pub fn about(&mut self, about: impl Into<String>) {
-        self.about = about.into();
+        self.place.about = about.into();
+    }
+
+    pub fn place(&self) -> Place {
+        self.place.clone()
+    }
+
+    /// Goes back to a place for the answer of a call that was made there.
+    pub fn back(&mut self, place: Place) {
+        self.place = place;
     }
 
     /// Counts one call of an entry point.
@@ -176,14 +184,18 @@ impl Report {
         if self.failed > SHOWN_FAILURES {
             return;
         }
-        println!(
-            "FAILED {what}: suite {} round {} (seed {:#018x}) {}",
-            self.suite, self.round, self.seed, self.about
-        );
+        let Place { suite, round, seed, about } = &self.place;
+        println!("FAILED {what}: suite {suite} round {round} (seed {seed:#018x}) {about}");
         for trouble in troubles {
             println!("       {trouble}");
         }
-        println!("       again: --suite {} --round {}", self.suite, self.round);
+        println!("       again: --suite {suite} --round {round}");
+    }
+
+    /// Counts a failure of the whole.
+    pub fn fail(&mut self, what: &str) {
+        println!("FAILED {what}");
+        self.failed += 1;
     }
 
     pub fn counts(&self) -> (u64, u64) {
@@ -227,8 +239,7 @@ impl Report {
         }
         if all {
             for what in missing {
-                println!("FAILED {what}");
-                self.failed += 1;
+                self.fail(&what);
             }
         }
     }

@@ -3,14 +3,11 @@
 use crate::ffi;
 use crate::lent::Lent;
 use crate::library::{self, Pair};
+use crate::plain::Plain;
 use crate::report::{Entry, Report};
 use reference::overview::{ENTRY_NUMBERS, VOLUME_NUMBERS};
 use reference::replay::told;
 use reference::{Answer, Append, Change, Listed, Salvaged, State, Which};
-
-/// The most steps that the plain check is run for, a second or so. In stage 6 it
-/// walks every chain once for each block.
-const PLAIN_STEPS: usize = 1 << 28;
 
 pub struct Tester {
     pub report: Report,
@@ -18,28 +15,21 @@ pub struct Tester {
     pub lister: Option<String>,
     /// The program that runs scripts, if it is to be tested.
     pub scripts: Option<String>,
+    pub plain: Plain,
     shift: usize,
-}
-
-/// How many steps stage 6 of the plain check takes at most: for each block, one
-/// for each entry of the table that is not 0.
-fn plain_steps(image: &[u8]) -> usize {
-    let n = image.len() / 512;
-    let entries = image.get(512..512 + 4 * n).unwrap_or(&[]);
-    n * entries.chunks_exact(4).filter(|entry| entry.iter().any(|&byte| byte != 0)).count()
 }
 
 fn number_of<T>(result: &Result<T, u32>) -> u32 {
     result.as_ref().err().copied().unwrap_or(0)
 }
 
-fn unequal<T: PartialEq + std::fmt::Debug>(got: T, expected: T) -> Option<String> {
+pub fn unequal<T: PartialEq + std::fmt::Debug>(got: T, expected: T) -> Option<String> {
     (got != expected).then(|| format!("got {got:?}, expected {expected:?}"))
 }
 
 impl Tester {
     pub fn new(report: Report, lister: Option<String>, scripts: Option<String>) -> Tester {
-        Tester { report, lister, scripts, shift: 0 }
+        Tester { report, lister, scripts, plain: Plain::default(), shift: 0 }
     }
 
     pub fn lend(&mut self, content: &[u8]) -> Lent {
@@ -58,14 +48,24 @@ impl Tester {
         let expected = reference::check(image);
         let troubles = [unequal(got, expected), lent.trouble("image", image)];
         self.report.call(Entry::Check, expected, troubles);
-        if (1..6).contains(&expected) || plain_steps(image) <= PLAIN_STEPS {
-            let got = library::plain_check(lent);
-            let troubles = [unequal(got, expected), lent.trouble("image", image)];
-            self.report.call(Entry::PlainCheck, expected, troubles);
+        self.plain.check(&mut self.report, lent, image, expected);
+    }
+
+    /// Both checks of an image that a call is given or has made, once, if it is
+    /// damaged.
+    pub fn check_damaged(&mut self, image: &[u8]) {
+        self.check_refused(image, reference::check(image));
+    }
+
+    /// The same where the number of a call tells whether it is.
+    fn check_refused(&mut self, image: &[u8], number: u32) {
+        if (1..=7).contains(&number) && !self.plain.knows(image) {
+            self.check(image);
         }
     }
 
     pub fn format(&mut self, image: &[u8], d: u32, time: u64, uuid: [u8; 16], volume_name: &[u8]) {
+        self.check_damaged(image);
         let mut lent = self.lend(image);
         let name = self.lend(volume_name);
         let got = library::format(&mut lent, d, time, uuid, &name);
@@ -89,6 +89,7 @@ impl Tester {
             lent.trouble("image", image),
             lent_path.trouble("path", path),
         ];
+        self.check_refused(image, number_of(&result));
         self.report.call(Entry::Lookup, number_of(&result), troubles);
     }
 
@@ -147,6 +148,7 @@ impl Tester {
             lent_path.trouble("path", path),
             lent_buffer.trouble("buffer", &after),
         ];
+        self.check_refused(image, number);
         self.report.call(entry, number, troubles);
     }
 
@@ -178,6 +180,7 @@ impl Tester {
             lent_serial.trouble("serial", serial),
             lent_buffer.trouble("buffer", &after),
         ];
+        self.check_refused(image, number);
         self.report.call(get_entry(which), number, troubles);
         number
     }
@@ -190,6 +193,7 @@ impl Tester {
         let number = number_of(&reference::lookup(image, path));
         let troubles =
             [unequal(got, expected), lent.trouble("image", image), lent_path.trouble("path", path)];
+        self.check_refused(image, number);
         self.report.call(Entry::LookInPlace, number, troubles);
     }
 
@@ -206,6 +210,7 @@ impl Tester {
             lent.trouble("image", image),
             lent_buffer.trouble("labels", &whole),
         ];
+        self.check_refused(image, number);
         self.report.call(Entry::Info, number, troubles);
     }
 
@@ -225,6 +230,7 @@ impl Tester {
             lent_path.trouble("path", path),
             lent_buffer.trouble("name", &whole),
         ];
+        self.check_refused(image, number);
         self.report.call(Entry::Entry, number, troubles);
         found as u32
     }
@@ -273,6 +279,7 @@ impl Tester {
             lent.trouble("image", image),
             lent_numbers.trouble("numbers", Lent::numbers(&after).content()),
         ];
+        self.check_refused(image, number);
         self.report.call(Entry::LoadTable, number, troubles);
     }
 
@@ -288,6 +295,7 @@ impl Tester {
             lent.trouble("image", &after),
             lent_numbers.trouble("numbers", Lent::numbers(numbers).content()),
         ];
+        self.check_damaged(&after);
         self.report.call(Entry::StoreTable, number, troubles);
         lent.content().to_vec()
     }
@@ -295,6 +303,7 @@ impl Tester {
     /// A salvage. Gives what the library made of image and report, if both
     /// sides accept them.
     pub fn salvage(&mut self, image: &[u8], report: &[u8]) -> Option<Salvaged> {
+        self.check_damaged(image);
         let (mut lent, mut lent_report) = (self.lend(image), self.lend(report));
         let got = library::salvage(&mut lent, &mut lent_report);
         let result = reference::salvage(image, report);
@@ -326,6 +335,7 @@ impl Tester {
         let after = result.as_ref().map_or(state, |a| &a.state);
         troubles.push(unequal(got, ffi::Created { number, slot, record }));
         troubles.extend(pair.troubles(after));
+        self.check_refused(&state.image, number);
         self.report.call(entry, number, troubles);
         number
     }
@@ -344,6 +354,7 @@ impl Tester {
         let after = result.as_ref().map_or(state, |a| &a.state);
         troubles.push(unequal(got, ffi::Changed { number, record }));
         troubles.extend(pair.troubles(after));
+        self.check_refused(&state.image, number);
         self.report.call(Entry::Append, number, troubles);
         number
     }
@@ -373,6 +384,7 @@ impl Tester {
         let answer = ffi::Listed { number: expected.number, done: expected.done };
         let mut troubles = vec![unequal(got, answer), lent.trouble("list", list)];
         troubles.extend(pair.troubles(&expected.state));
+        self.check_refused(&state.image, expected.number);
         self.report.call(Entry::WriteList, expected.number, troubles);
         expected
     }
@@ -391,6 +403,7 @@ impl Tester {
         let after = result.as_ref().map_or(state, |u| &u.state);
         let mut troubles = vec![unequal(got, ffi::Changed { number, record })];
         troubles.extend(pair.troubles(after));
+        self.check_damaged(&after.image);
         self.report.call(Entry::Undo, number, troubles);
         number
     }

@@ -13,6 +13,7 @@ pub fn run(rng: &mut Rng, _: u64, t: &mut Tester) {
     let program = t.lister.clone().expect("a lister was given");
     let input = any_input(rng);
     t.report.about(format!("input of {} bytes", input.len()));
+    t.check_damaged(&input);
     compare(&mut t.report, &program, &input);
 }
 

@@ -229,6 +229,10 @@ fn make(t: &mut Tester, pair: &mut Pair, replay: &mut Replay, call: &Call) {
     }
     troubles.extend(pair.troubles(replay.replayed()));
     t.report.call(entry, number, troubles);
+    if let Call::Check = call {
+        let image = &replay.replayed().image;
+        on_small_stack(|| t.plain.check(&mut t.report, &pair.image, image, number));
+    }
 }
 
 /// Makes a call on a stack of its own. One that is too small ends the program.
