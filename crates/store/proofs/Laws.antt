@@ -8,4 +8,5 @@ pub mod Sound
 pub mod Framed
 pub mod Blank
 pub mod Orders
+pub mod Shown
 pub mod Gets

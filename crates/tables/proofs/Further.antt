@@ -9,6 +9,7 @@ use Rattle.layout.specs.Bytes.{be32, bytes4, splice, block}
 use Rattle.layout.specs.Table.{next, setNext}
 use Rattle.layout.specs.Check.{check}
 use Rattle.layout.specs.Listing.{listing}
+use Rattle.volume.specs.Entries.{setOccupied}
 use Rattle.volume.specs.Format.{formatRefusal, formatted}
 use Rattle.store.specs.Change.{create, write, delete, clearFlags, named, refusal, after}
 use Rattle.journal.specs.Journal.{started, startRefusal, wellFormed, ascending}
@@ -52,8 +53,8 @@ stages =
       checks (splice s 1024 (0 ∷ []) ∷ splice s 1028 (bytes4 3) ∷ splice s 1032 (bytes4 3) ∷ splice s 1036 (bytes4 0) ∷ splice s 1036 (bytes4 65) ∷ []),
       4 ∷ 4 ∷ 4 ∷ 4 ∷ 4 ∷ [],
     )
-    -- 4: the chain too short, too long, looping, through the table, out of the image
-    ∷ (checks (setNext s 2 1 ∷ setNext s 3 6 ∷ setNext s 3 2 ∷ setNext s 2 1 ∷ setNext s 2 8 ∷ []), 4 ∷ 4 ∷ 4 ∷ 4 ∷ 4 ∷ [])
+    -- 4: the chain too short, too long, looping, through the header, out of the image
+    ∷ (checks (setNext s 2 1 ∷ setNext s 3 6 ∷ setNext s 3 2 ∷ setNext s 2 0 ∷ setNext s 2 8 ∷ []), 4 ∷ 4 ∷ 4 ∷ 4 ∷ 4 ∷ [])
     -- 5: end type; directory types 0x20, 0x5F with a size in bytes; types 0xA0, 0xFF; an attribute block and size
     ∷ (
       checks (splice s 1920 (0 ∷ []) ∷ splice s 1152 (0x20 ∷ []) ∷ splice s 1152 (0x5F ∷ []) ∷ splice s 1152 (0xA0 ∷ []) ∷ splice s 1280 (0xFF ∷ []) ∷ []),
@@ -70,6 +71,8 @@ stages =
     -- 6: a file's chain looping, too short, into the root, into another file; an orphan; a used entry past n; entries 0 and t
     ∷ (checks (setNext s 5 4 ∷ setNext s 4 1 ∷ setNext s 4 3 ∷ setNext both 6 5 ∷ []), 6 ∷ 6 ∷ 6 ∷ 6 ∷ [])
     ∷ (checks (setNext s 7 1 ∷ setNext s 8 1 ∷ setNext s 127 1 ∷ setNext s 0 0 ∷ setNext s 1 0 ∷ []), 6 ∷ 6 ∷ 6 ∷ 6 ∷ 6 ∷ [])
+    -- 6: the last block of A is B's too, and all else is right: B's own block is free again, and the counts say so
+    ∷ (check (setOccupied (setNext (splice both 1284 (bytes4 5)) 6 0) 8 6) ∷ [], 6 ∷ [])
     -- 7: the counts; and of two faults the lower number
     ∷ (checks (splice s 20 (bytes4 7) ∷ splice s 24 (bytes4 7) ∷ splice (splice s 20 (bytes4 7)) 28 (bytes4 3) ∷ []), 7 ∷ 7 ∷ 3 ∷ [])
     -- not looked at: the header from 32 on, flags, free slots, free blocks, the file's last block past its size

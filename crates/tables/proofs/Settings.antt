@@ -112,6 +112,18 @@ forms =
           ++ numbersOf (revisions (wholeFile (map (λ x. record { number = 7; bytes = [] }) (interval 0 2)))),
       [],
     )
+    -- one revision, number 1, of one byte; not of the form with version 2, a length above the size, a data length past the end, number 0
+    ∷ (numbersOf (revisions (1 ∷ 0 ∷ 0 ∷ 0 ∷ 11 ∷ 1 ∷ 0 ∷ 0 ∷ 0 ∷ 1 ∷ 9 ∷ [])), 1 ∷ [])
+    ∷ (
+      numbersOf (revisions (2 ∷ 0 ∷ 0 ∷ 0 ∷ 11 ∷ 1 ∷ 0 ∷ 0 ∷ 0 ∷ 1 ∷ 9 ∷ [])) ++ numbersOf (revisions (1 ∷ 0 ∷ 0 ∷ 0 ∷ 12 ∷ 1 ∷ 0 ∷ 0 ∷ 0 ∷ 1 ∷ 9 ∷ []))
+          ++ numbersOf (revisions (1 ∷ 0 ∷ 0 ∷ 0 ∷ 11 ∷ 2 ∷ 0 ∷ 0 ∷ 0 ∷ 1 ∷ 9 ∷ [])) ++ numbersOf (revisions (1 ∷ 0 ∷ 0 ∷ 0 ∷ 11 ∷ 1 ∷ 0 ∷ 0 ∷ 0 ∷ 0 ∷ 9 ∷ [])),
+      [],
+    )
+    -- data of 200 and of 201 bytes
+    ∷ (
+      numbersOf (revisions (1 ∷ 0 ∷ 0 ∷ 0 ∷ 210 ∷ 200 ∷ 0 ∷ 0 ∷ 0 ∷ 1 ∷ replicate 200 9)) ++ numbersOf (revisions (1 ∷ 0 ∷ 0 ∷ 0 ∷ 211 ∷ 201 ∷ 0 ∷ 0 ∷ 0 ∷ 1 ∷ replicate 201 9)),
+      1 ∷ [],
+    )
     ∷ []
 
 -- The volume's numbers with the first bytes of its UUID; the entries of the root, by the slot to begin with.

@@ -2,6 +2,7 @@
 use Prim.Native.Nat.{ℕ, _≤_}
 use mathlib.Core.List.{List, [], _∷_, _++_}
 use mathlib.Core.Path.{_≡_, refl, sym, ap, subst, _∙_}
+use lib.ListN.{length}
 use Rattle.layout.specs.Limits.{minJournal, maxJournal}
 use Rattle.layout.specs.Check.{check}
 use Rattle.store.specs.Change.{Change}
@@ -9,8 +10,10 @@ use Rattle.store.proofs.Laws.Sound.{KeptSound}
 use Rattle.journal.specs.Journal.{started}
 use Rattle.journal.specs.Run.{Call, State, step, run}
 use Rattle.journal.specs.Replay.{replayed, standing}
-use Rattle.journal.specs.Kinds.{Kind, KindCall, call, further, KindAnswer, answered, stepOf, answerOf, runOf, answersOf, FitsRun, AllFit, callsOf, asCalls, standingOf, replayAnswerOf, replayAnswersOf, StandsFor, KindRunTheorem, FreeRunTheorem, oneOf}
+use Rattle.journal.specs.Kinds.{Kind, KindCall, call, further, KindAnswer, answered, stepOf, answerOf, runOf, answersOf, FitsRun, AllFit, callsOf, asCalls, standingOf, replayAnswerOf, replayAnswersOf, StandsFor, KindRunTheorem, FreeRunTheorem, KindBackTheorem, oneOf}
+use Rattle.journal.specs.Back.{undos}
 use Rattle.journal.proofs.Laws.Runs.{Stand, One, one-call, run-after}
+use Rattle.journal.proofs.Laws.Back.{back-to-start}
 
 -- a run of two lists of calls
 run-append : (xs ys : List Call) (p : State) → run p (xs ++ ys) ≡ run (run p xs) ys
@@ -94,3 +97,11 @@ all-fit K fits (further c ∷ cs) p = (fits p c, all-fit K fits cs (stepOf p (fu
 -- where no further call ends a run, nothing is asked of the calls
 pub free-run : KeptSound → (K : Kind) → StandsFor K → ((p : State) (c : K .Further) → K .Fits p c) → FreeRunTheorem K
 free-run sound K stands fits image size calls ok low high = kind-run sound K stands image size calls ok low high (all-fit K fits calls _)
+
+-- as many undos as changes stand give the start
+pub kind-back : KeptSound → (K : Kind) → StandsFor K → KindBackTheorem K
+kind-back sound K stands image size calls ok low high f =
+    let start : State = record { image = image; journal = started size } in
+    let all : List Call = asCalls start calls in
+    let back : List Call = undos (length (standing start [] all)) in
+    ap (λ (p : State). run p back) (calls-run K stands calls start f) ∙ sym (run-append all back start) ∙ back-to-start sound image size all ok low high .whole

@@ -13,7 +13,8 @@ use Rattle.layout.specs.Lists.{within, every}
 use Rattle.layout.specs.Bytes.{be32, part}
 use Rattle.store.specs.Settings.{maxSetting, maxRevisions, maxNumber, Revision, Found, broken, held, before, recordsIn, follow, numbersOk, numbered, revisions, latestAfter, latest, added}
 use Rattle.store.specs.Get.{stands, dataOf}
-use Rattle.store.proofs.Laws.Form.{Fits, Small}
+use Rattle.store.specs.Claims.{Fits, Small}
+use Rattle.store.proofs.Laws.Form.{Short, short-each, fits-of, small-of}
 use Rattle.layout.proofs.Laws.Bytes.{length-take-most}
 use Rattle.layout.proofs.Laws.Tests.{and-split, and-join, true-not-false}
 use Rattle.layout.proofs.Laws.Lists.{In, in-append}
@@ -53,9 +54,6 @@ held-numbered (held qs) rs q =
     let w = held-cond (numbersOk qs) (held qs) rs q in
     (w .1, subst (λ (y : List Revision). numbersOk y ≡ true) (held-same qs rs (w .1)) (w .0))
 
-abbrev pub Short : List Revision → Type 0
-Short rs = (r : Revision) → In r rs → length (r .bytes) ≤ 200
-
 pub read-some : (fuel : ℕ) (xs : List ℕ) (rs : List Revision) → recordsIn fuel xs ≡ held rs → (length rs ≤ fuel) × Short rs
 unfolding recordsIn
 read-some zero xs rs q = ⊎-elim (λ z. rw (z .0) (omega arith, λ r i. absurd i)) (λ z. absurd (not-broken rs z)) (held-none (eqb (length xs) 0) broken rs q)
@@ -73,7 +71,7 @@ read-fits c rs q =
     let a = held-cond (eqb (getD c 0 0) 1 && (within 5 (length c) (be32 c 1) && every (λ x. eqb x 0) (drop (be32 c 1) c))) _ rs q in
     let b = held-numbered (recordsIn maxRevisions (part c 5 (be32 c 1 - 5))) rs (a .1) in
     let d = read-some maxRevisions (part c 5 (be32 c 1 - 5)) rs (b .0) in
-    record { few = d .0; short = d .1; numbers = b .1 }
+    fits-of rs (d .0) (d .1) (b .1)
 
 -- NUMBERS that follow one another from the one after `last` on
 module _ (x : ℕ) where
@@ -175,7 +173,7 @@ pub record Stored (rs : List Revision) : Type 0 where
   pub last : ℕ
   pub follows : follow last rs ≡ true
   pub few : length rs ≤ 16
-  pub short : (r : Revision) → In r rs → length (r .bytes) ≤ 200
+  pub short : Short rs
   pub latest-last : latest rs ≡ last + length rs
 
 pub stored-none : Stored []
@@ -190,7 +188,7 @@ stored-fits (r ∷ rs) F =
     let h = leb-true 1 (r .number) (a .0) in
     let z : suc (r .number - 1) ≡ r .number = omega arith in
     let f : follow (r .number - 1) (r ∷ rs) ≡ true = and-join (eq-eqb (r .number) (suc (r .number - 1)) (sym z)) (a .1) in
-    record { last = r .number - 1; follows = f; few = F .few; short = F .short; latest-last = latest-is (r ∷ rs) (r .number - 1) f }
+    record { last = r .number - 1; follows = f; few = F .few; short = short-each (r ∷ rs) F; latest-last = latest-is (r ∷ rs) (r .number - 1) f }
 
 -- A REVISION ADDED
 module _ (rs : List Revision) (bytes : List ℕ) (S : Stored rs) where
@@ -223,14 +221,13 @@ module _ (rs : List Revision) (bytes : List ℕ) (S : Stored rs) where
 
   pub added-fits : length bytes ≤ 200 → Fits (added rs bytes)
   added-fits short =
-      record {
-        few = omega (arith, added-length, S .few);
-        short = rw added-is (λ r i. ⊎-elim (λ j. S .short r (in-rest (length rs - 15) rs r j)) (λ j. ⊎-elim (λ e. rw e short) (λ x. absurd x) j) (in-append r left (new ∷ []) i));
-        numbers = numbers-of (added rs bytes) (S .last + (length rs - 15)) added-follows (omega (arith, added-length));
-      }
+      fits-of (added rs bytes) (omega (arith, added-length, S .few))
+      (rw added-is (λ r i. ⊎-elim (λ j. S .short r (in-rest (length rs - 15) rs r j)) (λ j. ⊎-elim (λ e. rw e short) (λ x. absurd x) j) (in-append r left (new ∷ []) i)))
+      (numbers-of (added rs bytes) (S .last + (length rs - 15)) added-follows (omega (arith, added-length)))
 
   pub added-small : latest rs < maxNumber → Small (added rs bytes)
-  added-small room r i = let h = all-low (added rs bytes) (S .last + (length rs - 15)) added-follows r i in omega (arith, added-length, S .latest-last)
+  added-small room =
+      small-of (added rs bytes) (λ r i. let h = all-low (added rs bytes) (S .last + (length rs - 15)) added-follows r i in omega (arith, added-length, S .latest-last))
 
   -- those that stand then: the new one, and of the others the last 15
   pub added-stands : (x : ℕ) → S .last + (length rs - 15) < x → x ≤ suc (latest rs) → stands x (added rs bytes) ≡ true

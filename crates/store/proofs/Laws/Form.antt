@@ -5,25 +5,36 @@ use mathlib.Core.Bool.{true}
 use mathlib.Core.List.{List, [], _∷_, _++_}
 use mathlib.Core.Logic.{inl, inr}
 use native.Mathlib.Omega.{arith}
-use borrow.Author.Tests.{ne-eqb, le-leb}
+use borrow.Author.Tests.{ne-eqb, leb-true, le-leb}
 use lib.ListN.{length, getD, take, drop, length-append}
-use lib.Dec.{eqb}
+use lib.Dec.{eqb, leb}
 use lib.Seq.{take-at, drop-at, drop-drop}
 use Rattle.layout.specs.Lists.{every, joined}
 use Rattle.layout.specs.Bytes.{be32, bytes4, zeros, part}
-use Rattle.store.specs.Settings.{maxSetting, maxRevisions, Revision, recordBytes, wholeFile, encoded, held, recordsIn, numbersOk, revisions}
+use Rattle.store.specs.Settings.{maxSetting, maxRevisions, maxNumber, Revision, recordBytes, wholeFile, encoded, held, recordsIn, numbersOk, revisions}
+use Rattle.store.specs.Claims.{Fits, Small}
 use Rattle.layout.proofs.Laws.Bytes.{length-zeros, be32-at}
 use Rattle.layout.proofs.Laws.Tests.{within-join}
-use Rattle.layout.proofs.Laws.Lists.{In}
+use Rattle.layout.proofs.Laws.Lists.{In, every-in, in-every}
 
--- revisions that a file may hold, but for their number: data and numbers that fit
-pub record Fits (rs : List Revision) : Type 0 where
-  pub few : length rs ≤ 16
-  pub short : (r : Revision) → In r rs → length (r .bytes) ≤ 200
-  pub numbers : numbersOk rs ≡ true
+-- the claims by revision, and back
+abbrev pub Short : List Revision → Type 0
+Short rs = (r : Revision) → In r rs → length (r .bytes) ≤ 200
 
-abbrev pub Small : List Revision → Type 0
-Small rs = (r : Revision) → In r rs → r .number < 0x100000000
+abbrev pub Low : List Revision → Type 0
+Low rs = (r : Revision) → In r rs → r .number < 0x100000000
+
+pub short-each : (rs : List Revision) → Fits rs → Short rs
+short-each rs F r i = leb-true (length (r .bytes)) maxSetting (every-in (λ q. leb (length (q .bytes)) maxSetting) rs r (F .short) i)
+
+pub fits-of : (rs : List Revision) → length rs ≤ 16 → Short rs → numbersOk rs ≡ true → Fits rs
+fits-of rs few short numbers = record { few = few; short = in-every (λ q. leb (length (q .bytes)) maxSetting) rs (λ r i. le-leb (length (r .bytes)) maxSetting (short r i)); numbers = numbers }
+
+low-each : (rs : List Revision) → Small rs → Low rs
+low-each rs small r i = let h = leb-true (r .number) maxNumber (every-in (λ q. leb (q .number) maxNumber) rs r small i) in omega arith
+
+pub small-of : (rs : List Revision) → Low rs → Small rs
+small-of rs low = in-every (λ q. leb (q .number) maxNumber) rs (λ r i. le-leb (r .number) maxNumber (let h = low r i in omega arith))
 
 -- WRITTEN AND READ BACK
 module _ (r : Revision) (rest : List ℕ) where
@@ -50,7 +61,7 @@ module _ (r : Revision) (rest : List ℕ) where
   unfolding recordBytes bytes4
   record-length = let l = length-append (r .bytes) rest in omega arith
 
-pub records-back : (rs : List Revision) (fuel : ℕ) → length rs ≤ fuel → ((r : Revision) → In r rs → length (r .bytes) ≤ 200) → Small rs → recordsIn fuel (joined recordBytes rs) ≡ held rs
+pub records-back : (rs : List Revision) (fuel : ℕ) → length rs ≤ fuel → Short rs → Low rs → recordsIn fuel (joined recordBytes rs) ≡ held rs
 unfolding recordsIn
 records-back [] zero h short small = refl
 records-back [] (suc fuel) h short small = refl
@@ -76,7 +87,7 @@ unfolding zeros
 zeros-zero zero = refl
 zeros-zero (suc k) = zeros-zero k
 
-pub body-length : (rs : List Revision) → ((r : Revision) → In r rs → length (r .bytes) ≤ 200) → length (joined recordBytes rs) ≤ 205 * length rs
+pub body-length : (rs : List Revision) → Short rs → length (joined recordBytes rs) ≤ 205 * length rs
 body-length [] short = omega arith
 body-length (r ∷ rs) short =
     let l = record-length r (joined recordBytes rs) in
@@ -92,7 +103,7 @@ module _ (rs : List Revision) (size : ℕ) (F : Fits rs) (small : Small rs) wher
   c = encoded rs size
 
   body-few : length body ≤ 3280
-  body-few = let f = F .few in let b = body-length rs (F .short) in omega arith
+  body-few = let f = F .few in let b = body-length rs (short-each rs F) in omega arith
 
   whole-length : length (wholeFile rs) ≡ 5 + length body
   unfolding wholeFile bytes4
@@ -130,4 +141,4 @@ module _ (rs : List Revision) (size : ℕ) (F : Fits rs) (small : Small rs) wher
       let w = whole-length in
       let m : 5 + length body - 5 ≡ length body = omega arith in
       let z : every (λ x. eqb x 0) (c-is .0) ≡ true = rw (c-is .2) (zeros-zero (size - length (wholeFile rs))) in
-      rw (c-size, c-first, within-join 5 (length c) (5 + length body) (omega arith) (omega arith), c-zeros, z, m, c-body, records-back rs maxRevisions (F .few) (F .short) small, F .numbers)
+      rw (c-size, c-first, within-join 5 (length c) (5 + length body) (omega arith) (omega arith), c-zeros, z, m, c-body, records-back rs maxRevisions (F .few) (short-each rs F) (low-each rs small), F .numbers)

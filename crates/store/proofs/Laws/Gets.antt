@@ -15,9 +15,9 @@ use Rattle.layout.specs.Paths.{entryOf}
 use Rattle.store.specs.Settings.{maxSetting, Revision, Found, broken, held, revisions, latest, added}
 use Rattle.store.specs.Put.{serialOk, pathOf, isThere, stored, heldIn, putImage, putRevision, putRefusal}
 use Rattle.store.specs.Get.{Which, theLatest, theNumber, wanted, stands, dataOf, GetAnswer, soughtRefusal, getRefusal, get}
-use Rattle.layout.proofs.Laws.Lists.{In}
 use Rattle.layout.proofs.Laws.Bytes.{length-splice}
 use Rattle.layout.proofs.Laws.Tests.{and-split, require-zero, firstOf-zero, is-false, true-not-false}
+use Rattle.store.proofs.Laws.Form.{Short, short-each}
 use Rattle.store.proofs.Laws.Added.{read-fits, Stored, added-latest, added-stands, added-low, stored-low, stored-stands, added-data, added-others}
 use Rattle.store.proofs.Laws.Put.{put-sound, put-serial, put-there, put-stored, put-stored-before, put-form}
 
@@ -51,7 +51,7 @@ got s serial which buffer A =
     rw (A .sound, A .right, A .there, q)
 
 -- a get leaves the length of its buffer
-data-short : (x : ℕ) (rs : List Revision) → ((r : Revision) → In r rs → length (r .bytes) ≤ 200) → length (dataOf x rs) ≤ 200
+data-short : (x : ℕ) (rs : List Revision) → Short rs → length (dataOf x rs) ≤ 200
 data-short x [] short = omega arith
 data-short x (r ∷ rs) short = go (eqb (r .number) x) (short r (inl refl)) (data-short x rs (λ q i. short q (inr i)))
   where
@@ -75,7 +75,7 @@ get-length s serial which buffer = go (getRefusal s serial which (length buffer)
         let A = asked s serial which (length buffer) q in
         let rs = heldIn (stored s serial) in
         let F = read-fits (content s (entryOf isFile s (pathOf serial))) rs (sym (stored-there s serial (A .there)) ∙ A .form) in
-        let h = data-short (wanted rs which) rs (F .short) in
+        let h = data-short (wanted rs which) rs (short-each rs F) in
         let long : maxSetting ≤ length buffer = leb-true _ _ (and-split (serialOk serial) _ (A .right) .1) in
         ap (λ (g : GetAnswer). length (g .buffer)) (got s serial which buffer A) ∙ length-splice buffer 0 (dataOf (wanted rs which) rs) (omega arith)
     go (suc k) q = ap length (get-refused s serial which buffer k q)

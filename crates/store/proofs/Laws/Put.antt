@@ -22,6 +22,7 @@ use Rattle.volume.specs.Change.{create, write, after}
 use Rattle.volume.specs.Views.{File, Maybe, fileOf, fileAt, folderAt, subject, made, takes, gives}
 use Rattle.store.specs.Settings.{maxSetting, maxNumber, Revision, wholeFile, encoded, Found, broken, held, revisions, latest, added}
 use Rattle.store.specs.Put.{serialOk, pathOf, isThere, stored, opened, entryAt, heldIn, rewritten, putImage, formRefusal, putRefusal}
+use Rattle.store.specs.Views.{storedIn}
 use Rattle.volume.proofs.Laws.Places.{WriteGiven, file-at-path}
 use Rattle.volume.proofs.Laws.Views.{file-shown, shown-accepted}
 use Rattle.volume.proofs.Laws.Effects.{Effect, create-effect, write-effect, content-length}
@@ -29,7 +30,7 @@ use Rattle.volume.proofs.Laws.Create.{kept-create}
 use Rattle.volume.proofs.Laws.Write.{kept-write}
 use Rattle.store.proofs.Laws.Form.{read-back}
 use Rattle.store.proofs.Laws.Added.{read-fits, Stored, stored-none, stored-fits, added-fits, added-small}
-use Rattle.store.proofs.Laws.Serials.{serial-path, serial-shallow, there-accepted, isIn, storedIn, there-view, stored-view}
+use Rattle.store.proofs.Laws.Serials.{serial-path, serial-shallow, there-accepted, isIn, there-view, stored-view}
 use Rattle.layout.proofs.Laws.Tests.{and-split, require-zero, firstOf-zero}
 
 drop-all : (l : List ℕ) (n : ℕ) → length l ≤ n → drop n l ≡ []

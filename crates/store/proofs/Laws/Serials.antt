@@ -14,9 +14,10 @@ use Rattle.layout.specs.Directory.{isFile, slash, nameByte, goodName, content}
 use Rattle.layout.specs.Check.{check}
 use Rattle.layout.specs.Paths.{cut, parts, pathOk, leading, shallow, pathSlot, entryOf, fileRefusal}
 use Rattle.volume.specs.Views.{File, Maybe, nothing, just, fileOf, fileAt}
-use Rattle.store.specs.Settings.{Found, held, revisions}
+use Rattle.store.specs.Settings.{held, revisions}
 use Rattle.store.specs.Put.{serialByte, serialOk, pathOf, isThere, stored}
 use Rattle.store.specs.Get.{Which, getRefusal, get}
+use Rattle.store.specs.Views.{storedIn}
 use Rattle.layout.proofs.Laws.Tests.{and-split, and-join, or-split, within-split, within-join, true-or-false, true-not-false}
 use Rattle.volume.proofs.Laws.Views.{file-shown, none-shown}
 
@@ -68,10 +69,6 @@ module _ (serial : List ℕ) (ok : serialOk serial ≡ true) where
 abbrev pub isIn : Maybe File → Bool
 isIn nothing = false
 isIn (just f) = true
-
-abbrev pub storedIn : Maybe File → Found
-storedIn nothing = held []
-storedIn (just f) = revisions (f .bytes)
 
 module _ (s serial : List ℕ) (ok : serialOk serial ≡ true) where
   pub there-accepted : isThere s serial ≡ true → fileRefusal s (pathOf serial) ≡ 0

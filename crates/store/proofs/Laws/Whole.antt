@@ -12,13 +12,10 @@ use lib.Seq.{drop-drop, getD-drop, getD-take}
 use Rattle.layout.specs.Lists.{within, every, joined}
 use Rattle.layout.specs.Bytes.{be32, bytes4, zeros, part}
 use Rattle.store.specs.Settings.{maxSetting, maxRevisions, Revision, recordBytes, wholeFile, encoded, broken, held, recordsIn, revisions}
+use Rattle.store.specs.Claims.{Bytes}
 use Rattle.store.proofs.Laws.Added.{not-broken, held-cond, held-none, held-before, held-numbered}
 use Rattle.layout.proofs.Laws.Tests.{and-split, within-split, lt-or-ge}
 use Rattle.layout.proofs.Laws.Bytes.{length-take-most}
-
--- bytes, as an image of the code has them
-abbrev pub Bytes : List ℕ → Type 0
-Bytes c = (i : ℕ) → getD c i 0 < 256
 
 bytes-back : (a b c d : ℕ) → a < 256 → b < 256 → c < 256 → d < 256 → bytes4 (a * 0x1000000 + b * 0x10000 + c * 0x100 + d) ≡ a ∷ b ∷ c ∷ d ∷ []
 unfolding bytes4

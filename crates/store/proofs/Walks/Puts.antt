@@ -32,7 +32,8 @@ use Rattle.layout.proofs.Laws.Bytes.{length-zeros, zeros-add}
 use Rattle.layout.proofs.Walks.Looks.{located-below}
 use Rattle.volume.proofs.Laws.Effects.{content-length}
 use Rattle.volume.proofs.Walks.Write.{blocks-for, blocks-most}
-use Rattle.store.proofs.Laws.Whole.{Bytes, bytes-drop, bytes-take, written-again}
+use Rattle.store.specs.Claims.{Bytes}
+use Rattle.store.proofs.Laws.Whole.{bytes-drop, bytes-take, written-again}
 use Rattle.volume.proofs.Laws.Fronts.{write-front}
 use Rattle.store.proofs.Walks.Rewriting.{standing-length, added-length, added-most, encoded-take}
 

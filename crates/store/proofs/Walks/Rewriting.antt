@@ -17,9 +17,10 @@ use Rattle.layout.proofs.Laws.Bytes.{length-part, part-part, part-rest, length-
 use Rattle.layout.proofs.Laws.Tests.{lt-or-ge}
 use Rattle.store.specs.Settings.{maxSetting, maxRevisions, Revision, recordBytes, wholeFile, encoded, latest, added}
 use Rattle.store.specs.Walks.Forms.{maxForm, inRoom, Summary, droppedBy, lengthAfter, revision}
+use Rattle.store.specs.Claims.{Bytes}
 use Rattle.store.proofs.Laws.Form.{body-length}
 use Rattle.store.proofs.Laws.Added.{read-some}
-use Rattle.store.proofs.Laws.Whole.{Bytes, bytes-drop, bytes-take, records-whole}
+use Rattle.store.proofs.Laws.Whole.{bytes-drop, bytes-take, records-whole}
 
 -- what a further revision drops
 pub dropped-none : (count oldest : ℕ) → count < maxRevisions → droppedBy count oldest ≡ 0
