@@ -8,7 +8,8 @@
  *
  * The library keeps nothing between calls: no handles, no allocation, no
  * input or output, no global state.  Calls on different buffers may run at the
- * same time; two that share an image or a journal may not.  docs/FORMAT.md has
+ * same time, and so may calls that only look (const image) on one image; a call
+ * that changes an image or a journal must be alone with it.  docs/FORMAT.md has
  * every rule; examples/installer.c shows most of the calls in use.
  *
  * Buffers

@@ -3,11 +3,12 @@ use mathlib.Core.Path.{refl}
 use Rattle.journal.specs.Run.{step, run}
 use Rattle.journal.specs.Kinds.{StandsFor, oneOf}
 use Rattle.journal.proofs.Laws.Kinds.{one-of}
-use Rattle.journal.proofs.Theorems.{every-kind-run, every-kind-back}
+use Rattle.journal.specs.Back.{KindBackTheorem}
+use Rattle.journal.proofs.Theorems.{every-kind-run, undone-all-kinds}
 use Rattle.write_list.proofs.Laws.Runs.{lists-stand}
 use Rattle.append.proofs.Laws.Runs.{pieces-stand}
 use Rattle.chain_table.proofs.Laws.Runs.{transfers-stand}
-use Rattle.bulgefs.specs.Runs.{FurtherKind, list, append, readOn, table, readings, kindOf, EveryRunTheorem, BackToStartTheorem}
+use Rattle.bulgefs.specs.Runs.{FurtherKind, list, append, readOn, table, readings, kindOf, EveryRunTheorem}
 
 readings-stand : StandsFor readings
 unfolding run step
@@ -23,6 +24,6 @@ kinds-stand table = transfers-stand
 pub every-run : EveryRunTheorem
 every-run = every-kind-run (oneOf kindOf) (one-of kindOf kinds-stand)
 
--- BACK TO THE START: after every such run as many undos as changes stand give image and whole journal of the start, byte for byte.
-pub back-to-start : BackToStartTheorem
-back-to-start = every-kind-back (oneOf kindOf) (one-of kindOf kinds-stand)
+-- After every such run, as many undos as changes stand give image and whole journal of the start.
+pub undone-all : KindBackTheorem (oneOf kindOf)
+undone-all = undone-all-kinds (oneOf kindOf) (one-of kindOf kinds-stand)

@@ -4,7 +4,7 @@ use Prim.Native.Nat.{ℕ, _+_}
 use mathlib.Core.List.{List, [], _∷_}
 use Rattle.layout.specs.Looks.{ReadAnswer, read}
 use Rattle.journal.specs.Run.{look, readFile}
-use Rattle.journal.specs.Kinds.{Kind, KindRunTheorem, KindBackTheorem, oneOf}
+use Rattle.journal.specs.Kinds.{Kind, KindRunTheorem, oneOf}
 use Rattle.write_list.specs.Runs.{lists}
 use Rattle.append.specs.Runs.{pieces}
 use Rattle.chain_table.specs.Runs.{transfers}
@@ -45,6 +45,3 @@ kindOf table = transfers
 -- DEMAND 3 over every run of calls; only a store of other numbers than the image's own ends one
 abbrev pub EveryRunTheorem : Type 0
 EveryRunTheorem = KindRunTheorem (oneOf kindOf)
-
-abbrev pub BackToStartTheorem : Type 0
-BackToStartTheorem = KindBackTheorem (oneOf kindOf)

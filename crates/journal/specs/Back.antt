@@ -10,6 +10,7 @@ use Rattle.store.specs.Change.{Change}
 use Rattle.journal.specs.Journal.{started}
 use Rattle.journal.specs.Run.{Call, undo, Answer, changed, undone, checked, found, filled, shown, described, entered, got, State, recordOf, changeRefusal, afterChange, answer, run, answers}
 use Rattle.journal.specs.Replay.{replayed, standing}
+use Rattle.journal.specs.Kinds.{Kind, KindCall, runOf, AllFit, standingOf}
 
 abbrev pub undos : ℕ → List Call
 undos k = replicate k undo
@@ -40,7 +41,7 @@ count k (a ∷ more) = count (countAfter k a) more
 pub record BackToStart (start : State) (calls : List Call) : Type 0 where
   pub part : (k : ℕ) → run start (calls ++ undos k) ≡ replayed start (drop k (standing start [] calls))
   pub whole : run start (calls ++ undos (length (standing start [] calls))) ≡ start
-  pub answered : answers start (calls ++ undos (length (standing start [] calls))) ≡ answers start calls ++ takenBack start (standing start [] calls)
+  pub answered : answers (run start calls) (undos (length (standing start [] calls))) ≡ takenBack start (standing start [] calls)
   pub refused : answer (run start (calls ++ undos (length (standing start [] calls)))) undo ≡ undone 16 0
   pub counted : count 0 (answers start calls) ≡ length (standing start [] calls)
 
@@ -48,6 +49,19 @@ abbrev pub BackTheorem : Type 0
 BackTheorem =
     (image : List ℕ) (size : ℕ) (calls : List Call) → check image ≡ 0 → minJournal ≤ size → size ≤ maxJournal
     → BackToStart (record { image = image; journal = started size }) calls
+
+-- The same after a run with further calls, of which none ends it: what stands is what the replay has.
+pub record KindBackToStart {K : Kind} (start : State) (calls : List (KindCall K)) : Type 0 where
+  pub part : (k : ℕ) → run (runOf start calls) (undos k) ≡ replayed start (drop k (standingOf start [] calls))
+  pub whole : run (runOf start calls) (undos (length (standingOf start [] calls))) ≡ start
+  pub answered : answers (runOf start calls) (undos (length (standingOf start [] calls))) ≡ takenBack start (standingOf start [] calls)
+  pub refused : answer (run (runOf start calls) (undos (length (standingOf start [] calls)))) undo ≡ undone 16 0
+
+abbrev pub KindBackTheorem : Kind → Type 0
+KindBackTheorem K =
+    (image : List ℕ) (size : ℕ) (calls : List (KindCall K)) → check image ≡ 0 → minJournal ≤ size → size ≤ maxJournal
+    → let start : State = record { image = image; journal = started size } in
+    AllFit start calls → KindBackToStart start calls
 
 -- changes in order, each accepted on the state that those before it left
 unfoldable pub AllAccepted : State → List Change → Type 0

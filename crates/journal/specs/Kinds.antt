@@ -3,14 +3,12 @@
 use Prim.Native.Nat.{ℕ, _≤_}
 use mathlib.Core.List.{List, [], _∷_, _++_}
 use mathlib.Core.Path.{_≡_}
-use lib.ListN.{length}
 use Rattle.layout.specs.Limits.{minJournal, maxJournal}
 use Rattle.layout.specs.Check.{check}
 use Rattle.store.specs.Change.{Change}
 use Rattle.journal.specs.Journal.{started}
 use Rattle.journal.specs.Run.{Call, Answer, State, step, answer, run}
 use Rattle.journal.specs.Replay.{replayed, standing, replayAnswer}
-use Rattle.journal.specs.Back.{undos}
 
 -- What a further call brings and what it answers; by the rules, the state after it and its answer; the calls that it is; and when it does not end the run.
 pub record Kind : Type 1 where
@@ -100,13 +98,6 @@ abbrev pub FreeRunTheorem : Kind → Type 0
 FreeRunTheorem K =
     (image : List ℕ) (size : ℕ) (calls : List (KindCall K)) → check image ≡ 0 → minJournal ≤ size → size ≤ maxJournal
     → MatchesKindReplay {K = K} (record { image = image; journal = started size }) calls
-
--- BACK TO THE START after such a run: as many undos as changes stand after the run as calls alone give image and whole journal of the start
-abbrev pub KindBackTheorem : Kind → Type 0
-KindBackTheorem K =
-    (image : List ℕ) (size : ℕ) (calls : List (KindCall K)) → check image ≡ 0 → minJournal ≤ size → size ≤ maxJournal
-    → let start : State = record { image = image; journal = started size } in
-    AllFit start calls → run (runOf start calls) (undos (length (standing start [] (asCalls start calls)))) ≡ start
 
 -- Several kinds as one: a further call is one of any of them, with the name of its kind.
 abbrev pub oneOf : {I : Type 0} → (I → Kind) → Kind

@@ -10,24 +10,18 @@ use Rattle.layout.specs.Check.{check}
 use Rattle.store.specs.Change.{Change}
 use Rattle.store.proofs.Laws.Sound.{KeptSound}
 use Rattle.journal.specs.Journal.{started}
-use Rattle.journal.specs.Run.{Look, checkImage, findFile, readFile, lookAt, readAttributesOf, showVolume, showEntry, getSettings, Call, change, undo, look, Answer, undone, State, changeRefusal, changeAnswer, lookAnswer, answer, run, answers}
+use Rattle.journal.specs.Run.{Look, checkImage, findFile, readFile, lookAt, readAttributesOf, showVolume, showEntry, getSettings, Call, change, undo, look, Answer, undone, State, recordOf, changeRefusal, changeAnswer, lookAnswer, answer, run, answers}
 use Rattle.journal.specs.Replay.{replayed, standingAfter, replayAnswer, standing, replayAnswers, MatchesReplay}
 use Rattle.journal.specs.Back.{undos, takenBack, countAfter, count, BackTheorem, AllAccepted}
 use Rattle.journal.proofs.Laws.Undo.{undone-none}
-use Rattle.journal.proofs.Laws.Runs.{run-theorem}
+use Rattle.journal.proofs.Laws.Runs.{Stand, One, one-call, run-stands, run-theorem}
 
 module _ (start : State) where
-  -- the replay of two lists of calls: what stands, and the answers
-  standing-append : (cs : List Change) (xs ys : List Call) → standing start cs (xs ++ ys) ≡ standing start (standing start cs xs) ys
+  -- what stands after two lists of calls
+  pub standing-append : (cs : List Change) (xs ys : List Call) → standing start cs (xs ++ ys) ≡ standing start (standing start cs xs) ys
   unfolding standing
   standing-append cs [] ys = refl
   standing-append cs (x ∷ xs) ys = standing-append (standingAfter start cs x) xs ys
-
-  answers-append : (cs : List Change) (xs ys : List Call)
-      → replayAnswers start cs (xs ++ ys) ≡ replayAnswers start cs xs ++ replayAnswers start (standing start cs xs) ys
-  unfolding standing replayAnswers
-  answers-append cs [] ys = refl
-  answers-append cs (x ∷ xs) ys = ap (λ (l : List Answer). replayAnswer start cs x ∷ l) (answers-append (standingAfter start cs x) xs ys)
 
   -- k undos take the last k changes off the list; there may be fewer
   standing-undos : (k : ℕ) (cs : List Change) → standing start cs (undos k) ≡ drop k cs
@@ -35,11 +29,6 @@ module _ (start : State) where
   standing-undos zero cs = refl
   standing-undos (suc k) [] = standing-undos k [] ∙ drop-nil k
   standing-undos (suc k) (c ∷ cs) = standing-undos k cs
-
-  answers-undos : (cs : List Change) → replayAnswers start cs (undos (length cs)) ≡ takenBack start cs
-  unfolding replayAnswers replayAnswer standingAfter takenBack
-  answers-undos [] = refl
-  answers-undos (c ∷ cs) = ap (λ (l : List Answer). replayAnswer start (c ∷ cs) undo ∷ l) (answers-undos cs)
 
   -- a call moves the count as it moves the list
   count-change : (cs : List Change) (c : Change) → countAfter (length cs) (replayAnswer start cs (change c)) ≡ length (standingAfter start cs (change c))
@@ -92,6 +81,14 @@ module _ (sound : KeptSound) (image : List ℕ) (size : ℕ) (ok : check image �
   matches : (calls : List Call) → MatchesReplay begun calls
   matches calls = run-theorem sound image size calls ok low high
 
+  -- what undos answer after changes that stand
+  answers-undos : (cs : List Change) → Stand begun cs → answers (replayed begun cs) (undos (length cs)) ≡ takenBack begun cs
+  unfolding answers takenBack One replayAnswer standingAfter
+  answers-undos [] t = refl
+  answers-undos (c ∷ cs) t =
+      let o = one-call sound image size ok low high (c ∷ cs) undo t in
+      rw (o .0, o .1) (ap (λ (l : List Answer). undone 0 (length (recordOf (replayed begun cs) c)) ∷ l) (answers-undos cs (o .2)))
+
   -- the parts of the theorem, of a run and the changes that stand after it
   module _ (calls : List Call) where
     abbrev stood : List Change
@@ -104,12 +101,9 @@ module _ (sound : KeptSound) (image : List ℕ) (size : ℕ) (ok : check image �
     unfolding replayed
     whole = part (length stood) ∙ ap (replayed begun) (drop-length stood)
 
-    answered : answers begun (calls ++ undos (length stood)) ≡ answers begun calls ++ takenBack begun stood
+    answered : answers (run begun calls) (undos (length stood)) ≡ takenBack begun stood
     answered =
-        matches (calls ++ undos (length stood)) .answered
-        ∙ answers-append begun [] calls (undos (length stood))
-        ∙ ap (λ (l : List Answer). replayAnswers begun [] calls ++ l) (answers-undos begun stood)
-        ∙ ap (λ (l : List Answer). l ++ takenBack begun stood) (sym (matches calls .answered))
+        ap (λ (p : State). answers p (undos (length stood))) (matches calls .state) ∙ answers-undos stood (run-stands sound image size calls ok low high)
 
     refused : answer (run begun (calls ++ undos (length stood))) undo ≡ undone 16 0
     unfolding answer

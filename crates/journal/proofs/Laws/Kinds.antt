@@ -1,22 +1,22 @@
 -- The theorem over runs with further calls (demand 3), of any kind whose calls leave what the calls that they are leave.
 use Prim.Native.Nat.{ℕ, _≤_}
 use mathlib.Core.List.{List, [], _∷_, _++_}
-use mathlib.Core.Path.{_≡_, refl, sym, ap, subst, _∙_}
 use lib.ListN.{length}
+use mathlib.Core.Path.{_≡_, refl, sym, ap, subst, _∙_}
 use Rattle.layout.specs.Limits.{minJournal, maxJournal}
 use Rattle.layout.specs.Check.{check}
 use Rattle.store.specs.Change.{Change}
 use Rattle.store.proofs.Laws.Sound.{KeptSound}
 use Rattle.journal.specs.Journal.{started}
-use Rattle.journal.specs.Run.{Call, State, step, run}
+use Rattle.journal.specs.Run.{Call, undo, State, step, answer, run, answers as run-answers}
 use Rattle.journal.specs.Replay.{replayed, standing}
-use Rattle.journal.specs.Kinds.{Kind, KindCall, call, further, KindAnswer, answered, stepOf, answerOf, runOf, answersOf, FitsRun, AllFit, callsOf, asCalls, standingOf, replayAnswerOf, replayAnswersOf, StandsFor, KindRunTheorem, FreeRunTheorem, KindBackTheorem, oneOf}
-use Rattle.journal.specs.Back.{undos}
+use Rattle.journal.specs.Kinds.{Kind, KindCall, call, further, KindAnswer, answered, stepOf, answerOf, runOf, answersOf, FitsRun, AllFit, callsOf, asCalls, standingOf, replayAnswerOf, replayAnswersOf, StandsFor, KindRunTheorem, FreeRunTheorem, oneOf}
+use Rattle.journal.specs.Back.{undos, KindBackTheorem}
 use Rattle.journal.proofs.Laws.Runs.{Stand, One, one-call, run-after}
-use Rattle.journal.proofs.Laws.Back.{back-to-start}
+use Rattle.journal.proofs.Laws.Back.{standing-append, back-to-start}
 
 -- a run of two lists of calls
-run-append : (xs ys : List Call) (p : State) → run p (xs ++ ys) ≡ run (run p xs) ys
+pub run-append : (xs ys : List Call) (p : State) → run p (xs ++ ys) ≡ run (run p xs) ys
 unfolding run
 run-append [] ys p = refl
 run-append (x ∷ xs) ys p = run-append xs ys (step p x)
@@ -60,6 +60,18 @@ module _ (K : Kind) (stands : StandsFor K) where
     replies changes (call c) t = ap answered (one-call sound image size ok low high changes c t .1)
     replies changes (further c) t = refl
 
+    -- what stands is what stands of the same run as calls alone
+    pub standing-calls : (cs : List (KindCall K)) (changes : List Change) → Stand start changes → AllFit (replayed start changes) cs
+        → standingOf start changes cs ≡ standing start changes (asCalls (replayed start changes) cs)
+    unfolding standingOf standing asCalls AllFit
+    standing-calls [] changes t f = refl
+    standing-calls (c ∷ cs) changes t f =
+        let m = moves changes c t (f .0) in
+        let p = replayed start changes in
+        standing-calls cs (next changes c) (m .1) (subst (λ (q : State). AllFit q cs) (m .0) (f .1))
+        ∙ ap (λ (q : State). standing start (next changes c) (asCalls q cs)) (sym (m .0))
+        ∙ sym (standing-append start changes (callsOf p c) (asCalls (stepOf p c) cs))
+
     states : (cs : List (KindCall K)) (changes : List Change) → Stand start changes → AllFit (replayed start changes) cs
         → runOf (replayed start changes) cs ≡ replayed start (standingOf start changes cs)
     unfolding runOf standingOf AllFit
@@ -98,10 +110,19 @@ all-fit K fits (further c ∷ cs) p = (fits p c, all-fit K fits cs (stepOf p (fu
 pub free-run : KeptSound → (K : Kind) → StandsFor K → ((p : State) (c : K .Further) → K .Fits p c) → FreeRunTheorem K
 free-run sound K stands fits image size calls ok low high = kind-run sound K stands image size calls ok low high (all-fit K fits calls _)
 
--- as many undos as changes stand give the start
+-- undos after such a run are undos after the run as calls alone
 pub kind-back : KeptSound → (K : Kind) → StandsFor K → KindBackTheorem K
+unfolding replayed Stand
 kind-back sound K stands image size calls ok low high f =
     let start : State = record { image = image; journal = started size } in
-    let all : List Call = asCalls start calls in
-    let back : List Call = undos (length (standing start [] all)) in
-    ap (λ (p : State). run p back) (calls-run K stands calls start f) ∙ sym (run-append all back start) ∙ back-to-start sound image size all ok low high .whole
+    let cs = asCalls start calls in
+    let b = back-to-start sound image size cs ok low high in
+    let e : standingOf start [] calls ≡ standing start [] cs = standing-calls K stands sound image size ok low high calls [] tt f in
+    let go : (k : ℕ) → run (runOf start calls) (undos k) ≡ run start (cs ++ undos k) =
+    λ k. ap (λ (p : State). run p (undos k)) (calls-run K stands calls start f) ∙ sym (run-append cs (undos k) start) in
+    record {
+      part = λ k. rw e (go k ∙ b .part k);
+      whole = rw e (go (length (standing start [] cs)) ∙ b .whole);
+      answered = rw e (ap (λ (p : State). run-answers p (undos (length (standing start [] cs)))) (calls-run K stands calls start f) ∙ b .answered);
+      refused = rw e (ap (λ (p : State). answer p undo) (go (length (standing start [] cs))) ∙ b .refused);
+    }
