@@ -8,8 +8,8 @@ use Rattle.layout.specs.Check.{check}
 use Rattle.store.specs.Change.{Change, delete, setAttributes, clearAttributes, named, refusal, after}
 use Rattle.journal.specs.Journal.{used, started, ascending}
 use Rattle.journal.specs.Run.{change, readAttributesOf, step, answer, lookAnswer}
-use Rattle.tables.proofs.Rules.{rules}
-use Rattle.tables.proofs.Samples.{AsExpected, formattedAs, pattern, inRoot, fileA, createFile, writeA, numbers, samples}
+use Rattle.samples.proofs.Rules.{rules}
+use Rattle.samples.proofs.Samples.{AsExpected, formattedAs, pattern, inRoot, fileA, createFile, writeA, numbers, samples}
 
 set : ℕ → Change
 set count = setAttributes fileA (pattern count)

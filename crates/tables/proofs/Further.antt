@@ -14,8 +14,8 @@ use Rattle.volume.specs.Format.{formatRefusal, formatted}
 use Rattle.store.specs.Change.{create, write, delete, clearFlags, named, refusal, after}
 use Rattle.journal.specs.Journal.{started, startRefusal, wellFormed, ascending}
 use Rattle.journal.specs.Run.{Look, change, undo, look, checkImage, findFile, readFile, lookAt, State, step, answer, changeRefusal, undoRefusal}
-use Rattle.tables.proofs.Rules.{rules}
-use Rattle.tables.proofs.Samples.{AsExpected, blank, label, formattedAs, pattern, inRoot, fileA, createFile, writeA, numbers, samples}
+use Rattle.samples.proofs.Rules.{rules}
+use Rattle.samples.proofs.Samples.{AsExpected, blank, label, formattedAs, pattern, inRoot, fileA, createFile, writeA, numbers, samples}
 
 bit : Bool → ℕ
 bit true = 1

@@ -9,8 +9,8 @@ use Rattle.layout.specs.Looks.{lookup, read}
 use Rattle.volume.specs.Delete.{allBlocks}
 use Rattle.store.specs.Change.{Change, create, write, delete, createDirectory, deleteDirectory, refusal, after}
 use Rattle.journal.specs.Run.{found, filled}
-use Rattle.tables.proofs.Rules.{rules}
-use Rattle.tables.proofs.Samples.{AsExpected, formattedAs, pattern, inRoot, fileA, createFile, writeA, numbers, samples}
+use Rattle.samples.proofs.Rules.{rules}
+use Rattle.samples.proofs.Samples.{AsExpected, formattedAs, pattern, inRoot, fileA, createFile, writeA, numbers, samples}
 
 -- n = 5, d = 1: root at block 2 with two slots, blocks 3 and 4 free
 empty : List ℕ

@@ -12,8 +12,8 @@ use Rattle.store.specs.Get.{theLatest, theNumber, getRefusal, get}
 use Rattle.store.specs.Change.{Change, put, write, createDirectory, named, refusal, after}
 use Rattle.journal.specs.Journal.{used, started, ascending}
 use Rattle.journal.specs.Run.{change, getSettings, showVolume, showEntry, State, step, answer, lookAnswer}
-use Rattle.tables.proofs.Rules.{rules}
-use Rattle.tables.proofs.Samples.{AsExpected, formattedAs, pattern, inRoot, fileA, createFile, writeA, numbers, samples}
+use Rattle.samples.proofs.Rules.{rules}
+use Rattle.samples.proofs.Samples.{AsExpected, formattedAs, pattern, inRoot, fileA, createFile, writeA, numbers, samples}
 
 -- opens the store's definitions, as rules does those below it
 unfoldable storeRules : Unit {0}

@@ -12,8 +12,8 @@ use Rattle.layout.specs.Listing.{listing}
 use Rattle.store.specs.Change.{Change, create, write, delete, createDirectory, deleteDirectory, named, refusal, after}
 use Rattle.journal.specs.Journal.{started, ascending}
 use Rattle.journal.specs.Run.{change, undo, look, findFile, State, step, answer}
-use Rattle.tables.proofs.Rules.{rules}
-use Rattle.tables.proofs.Samples.{AsExpected, formattedAs, pattern, numbers, samples}
+use Rattle.samples.proofs.Rules.{rules}
+use Rattle.samples.proofs.Samples.{AsExpected, formattedAs, pattern, numbers, samples}
 
 -- the path of one-byte names, and the changes on it
 way : List ℕ → List ℕ

@@ -14,8 +14,8 @@ use Rattle.volume.specs.Format.{formatRefusal}
 use Rattle.store.specs.Change.{named}
 use Rattle.journal.specs.Journal.{used, started, ascending}
 use Rattle.journal.specs.Run.{change, undo, State, step, answer}
-use Rattle.tables.proofs.Rules.{rules}
-use Rattle.tables.proofs.Samples.{blank, label, formattedAs, createFile, writeA, numbers, samples}
+use Rattle.samples.proofs.Rules.{rules}
+use Rattle.samples.proofs.Samples.{blank, label, formattedAs, createFile, writeA, numbers, samples}
 
 -- each row: what the definitions give, and what document 01 says
 pub workedNumbers : List (List ℕ × List ℕ)

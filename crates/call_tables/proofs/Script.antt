@@ -9,8 +9,8 @@ use Rattle.journal.specs.Run.{State}
 use Rattle.layout.specs.Bytes.{be64}
 use Rattle.journal.specs.Kinds.{stepOf, answerOf, runOf, answersOf}
 use Rattle.script.specs.Script.{nameAt, dataAt, changeAt, callAt, itemCall, itemOk, itemsFrom, callsFrom, encoded, encodedItem, answerSize, itemRoom, answersSize, Status, done, malformed, noRoom, given, outcome}
-use Rattle.tables.proofs.Rules.{rules}
-use Rattle.tables.proofs.Samples.{formattedAs, samples}
+use Rattle.samples.proofs.Rules.{rules}
+use Rattle.samples.proofs.Samples.{formattedAs, samples}
 
 -- a header: op and the four bytes after it; low bytes of offset and time, and of the two lengths; the other bytes are 0
 header : List ℕ → ℕ → ℕ → ℕ → ℕ → List ℕ

@@ -1,0 +1,5 @@
+pub mod Lists
+pub mod Pieces
+pub mod Numbers
+pub mod Salvage
+pub mod Script
