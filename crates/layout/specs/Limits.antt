@@ -8,7 +8,10 @@ minBlocks = 3
 abbrev pub maxBlocks : ℕ
 maxBlocks = 65536
 
--- a volume of at most this many blocks is checked and changed with marks of its own size (no limit of the papers)
+-- a volume of at most this many blocks is checked and changed with marks of its own size, and checked with fewer still (no limits of the papers)
+abbrev pub tinyBlocks : ℕ
+tinyBlocks = 512
+
 abbrev pub smallBlocks : ℕ
 smallBlocks = 4096
 

@@ -2,7 +2,7 @@
 ghost use Prim.Native.Nat.{_+_, _-_, _*_, _/_, _≤_, _<_};
 ghost use mathlib.Core.Path.{_≡_};
 ghost use lib.ListN.{length};
-ghost use Rattle.layout.specs.Limits.{maxBlocks, smallBlocks};
+ghost use Rattle.layout.specs.Limits.{maxBlocks, smallBlocks, tinyBlocks};
 ghost use Rattle.layout.specs.Bytes.{zeros};
 ghost use Rattle.layout.specs.Geometry.{tableBlocks};
 ghost use Rattle.layout.specs.Table.{next};
@@ -13,6 +13,7 @@ ghost use Rattle.layout.specs.Walks.Stages.{visited, walkRoot, headerOk,
 use super::limits::MAX_BLOCKS;
 use super::limits::MIN_BLOCKS;
 use super::limits::SMALL_BLOCKS;
+use super::limits::TINY_BLOCKS;
 use super::number::get32;
 
 // Stage 1: the length.
@@ -107,6 +108,13 @@ fn tables(image: &[u8], t: usize, n: usize, dirs: &[u8], marks: &mut [u8]) -> u3
     0
 }
 
+// A mark for each block of a tiny volume, all 0.
+fn fewest_marks() -> [u8; TINY_BLOCKS]
+    ensures { λ r. ⌜ r ≡ zeros tinyBlocks ⌝ }
+{
+    [0u8; TINY_BLOCKS]
+}
+
 // Stages 4 to 7, with two marks for each entry of the table, none marked.
 fn body(image: &[u8], n: usize, dirs: &mut [u8], marks: &mut [u8]) -> u32
     requires { ⌜ (Shape (now image) n) × (128 * tableBlocks n ≤ length (now dirs)) × (now dirs ≡ zeros (length (now dirs)))
@@ -119,6 +127,16 @@ fn body(image: &[u8], n: usize, dirs: &mut [u8], marks: &mut [u8]) -> u32
         return why;
     }
     tables(image, t, n, dirs, marks)
+}
+
+// The same of a tiny volume.
+fn tiny_body(image: &[u8], n: usize) -> u32
+    requires { ⌜ (Shape (now image) n) × (n ≤ tinyBlocks) ⌝ }
+    ensures { λ r. ⌜ r ≡ bodyStage (now (image .entry)) ⌝ }
+{
+    let mut dirs = fewest_marks();
+    let mut marks = fewest_marks();
+    body(image, n, &mut dirs, &mut marks)
 }
 
 // The same of a small volume.
@@ -150,6 +168,9 @@ pub fn check(image: &[u8]) -> u32
         return h;
     }
     let n = image.len() / 512;
+    if n <= TINY_BLOCKS {
+        return tiny_body(image, n);
+    }
     if n <= SMALL_BLOCKS {
         return small_body(image, n);
     }

@@ -5,7 +5,9 @@ pub const MIN_BLOCKS: usize = 3;
 
 pub const MAX_BLOCKS: usize = 65536;
 
-// A volume of at most so many blocks has marks of that size: clearing more would cost it more than all else.
+// A volume of at most so many blocks has marks of that size: clearing more would cost it more than all else. A tiny one is only checked with these.
+pub const TINY_BLOCKS: usize = 512;
+
 pub const SMALL_BLOCKS: usize = 4096;
 
 // A directory has 1 to 64 blocks.
