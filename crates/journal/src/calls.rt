@@ -7,6 +7,7 @@ ghost use Rattle.journal.specs.Walks.Changes.{Inspects, Ready, readyRefu
 ghost use Rattle.journal.specs.Answers.{changedAnswer, undoneAnswer, ChangeNumbered, UndoNumbered};
 use store::change::Change;
 use volume::change::Change as VolumeChange;
+use volume::create::Given;
 
 // What undo gives: the length of the record taken back, or the number of the refusal.
 pub enum Undone {
@@ -140,7 +141,7 @@ pub fn create(
     ensures state { λ _. ⌜ state (now (image .exit)) (now (journal .exit)) ≡ afterChange (state (now (image .entry)) (now (journal .entry))) (create (now (path .entry)) kind user group permissions flags time) ⌝ }
     ensures numbered { λ r. ⌜ ChangeNumbered r ⌝ }
 {
-    let what = VolumeChange::Create {
+    let given = Given {
         kind: kind,
         user: user,
         group: group,
@@ -148,6 +149,7 @@ pub fn create(
         flags: flags,
         time: time,
     };
+    let what = VolumeChange::Create(given);
     change(image, journal, Change::Volume(what), path, b"")
 }
 
@@ -203,14 +205,17 @@ pub fn create_directory(
     ensures state { λ _. ⌜ state (now (image .exit)) (now (journal .exit)) ≡ afterChange (state (now (image .entry)) (now (journal .entry))) (createDirectory (now (path .entry)) kind user group permissions flags time blocks) ⌝ }
     ensures numbered { λ r. ⌜ ChangeNumbered r ⌝ }
 {
-    let what = VolumeChange::CreateDirectory {
+    let given = Given {
         kind: kind,
         user: user,
         group: group,
         permissions: permissions,
         flags: flags,
-        blocks: blocks,
         time: time,
+    };
+    let what = VolumeChange::CreateDirectory {
+        given: given,
+        blocks: blocks,
     };
     change(image, journal, Change::Volume(what), path, b"")
 }

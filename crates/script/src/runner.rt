@@ -20,6 +20,7 @@ use super::items::name_of;
 use layout::number::get64;
 use store::change::Change;
 use volume::change::Change as VolumeChange;
+use volume::create::Given;
 
 // The numbers of a change's answer.
 fn changed_numbers(c: journal::calls::Changed) -> Numbers
@@ -67,14 +68,15 @@ fn file_of(script: &[u8], at: usize, time: u64) -> Change
     ensures { λ r. ⌜ asked r (nameAt (now (script .entry)) at) (dataAt (now (script .entry)) at)
         ≡ create (nameAt (now (script .entry)) at) (getD (now (script .entry)) (at + 1) 0) (getD (now (script .entry)) (at + 2) 0) (getD (now (script .entry)) (at + 3) 0) (getD (now (script .entry)) (at + 4) 0) (be32 (now (script .entry)) (at + 5)) time ⌝ }
 {
-    Change::Volume(VolumeChange::Create {
+    let given = Given {
         kind: script[at + 1],
         user: script[at + 2],
         group: script[at + 3],
         permissions: script[at + 4],
         flags: layout::number::get32(script, at + 5),
         time: time,
-    })
+    };
+    Change::Volume(VolumeChange::Create(given))
 }
 
 // The directory that the item at `at` asks to create.
@@ -83,14 +85,17 @@ fn directory_of(script: &[u8], at: usize, time: u64) -> Change
     ensures { λ r. ⌜ asked r (nameAt (now (script .entry)) at) (dataAt (now (script .entry)) at)
         ≡ createDirectory (nameAt (now (script .entry)) at) (getD (now (script .entry)) (at + 1) 0) (getD (now (script .entry)) (at + 2) 0) (getD (now (script .entry)) (at + 3) 0) (getD (now (script .entry)) (at + 4) 0) (be32 (now (script .entry)) (at + 5)) time (be32 (now (script .entry)) (at + 13)) ⌝ }
 {
-    Change::Volume(VolumeChange::CreateDirectory {
+    let given = Given {
         kind: script[at + 1],
         user: script[at + 2],
         group: script[at + 3],
         permissions: script[at + 4],
         flags: layout::number::get32(script, at + 5),
-        blocks: layout::number::get32(script, at + 13),
         time: time,
+    };
+    Change::Volume(VolumeChange::CreateDirectory {
+        given: given,
+        blocks: layout::number::get32(script, at + 13),
     })
 }
 

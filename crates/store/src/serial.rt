@@ -13,6 +13,7 @@ ghost use Rattle.volume.specs.Create.{placeRefusal, createImage};
 ghost use Rattle.volume.specs.Walks.Places.{Vacant, Searched};
 ghost use Rattle.store.specs.Put.{serialByte, serialOk, pathOf};
 use layout::file::File;
+use volume::create::Given;
 
 // The most bytes of a serial number.
 const MAX_SERIAL: usize = 16;
@@ -96,5 +97,13 @@ pub fn create_file(image: &mut [u8], serial: &[u8], found: File, time: u64)
     let path = path_of(serial);
     let a = 0;
     let e = serial.len() + 1;
-    volume::create::create_at(image, found, &path[a..e], 0x60, 0, 0, 0, 0, time);
+    let given = Given {
+        kind: 0x60,
+        user: 0,
+        group: 0,
+        permissions: 0,
+        flags: 0,
+        time: time,
+    };
+    volume::create::create_at(image, found, &path[a..e], given);
 }

@@ -6,10 +6,10 @@ use Rattle.volume.specs.declared.change.Change.the-variants as kinds
 use Rattle.volume.specs.Change as rules
 
 abbrev pub asked : Change → (path bytes : List ℕ) → rules.Change
-asked (kinds.Create type user group permissions flags time) path bytes = rules.create path type user group permissions flags time
+asked (kinds.Create given) path bytes = rules.create path (given .kind) (given .user) (given .group) (given .permissions) (given .flags) (given .time)
 asked (kinds.Write offset time) path bytes = rules.write path offset bytes time
 asked kinds.Delete path bytes = rules.delete path
-asked (kinds.CreateDirectory type user group permissions flags blocks time) path bytes = rules.createDirectory path type user group permissions flags time blocks
+asked (kinds.CreateDirectory given blocks) path bytes = rules.createDirectory path (given .kind) (given .user) (given .group) (given .permissions) (given .flags) (given .time) blocks
 asked kinds.DeleteDirectory path bytes = rules.deleteDirectory path
 asked kinds.SetAttributes path bytes = rules.setAttributes path bytes
 asked kinds.ClearAttributes path bytes = rules.clearAttributes path

@@ -11,6 +11,7 @@ ghost use Rattle.volume.specs.Walks.Marks.{marked};
 ghost use Rattle.volume.specs.Walks.Targets.{Target, Prepared, answered};
 use super::attributes::clear_attributes;
 use super::attributes::set_attributes;
+use super::create::Given;
 use super::create::create_at;
 use super::create_directory::create_directory;
 use super::delete::drop_entry;
@@ -20,28 +21,10 @@ use layout::file::File;
 
 // The kind of a change, with its numbers.
 pub enum Change {
-    Create {
-        kind: u8,
-        user: u8,
-        group: u8,
-        permissions: u8,
-        flags: u32,
-        time: u64,
-    },
-    Write {
-        offset: usize,
-        time: u64,
-    },
+    Create(Given),
+    Write { offset: usize, time: u64 },
     Delete,
-    CreateDirectory {
-        kind: u8,
-        user: u8,
-        group: u8,
-        permissions: u8,
-        flags: u32,
-        blocks: u32,
-        time: u64,
-    },
+    CreateDirectory { given: Given, blocks: u32 },
     DeleteDirectory,
     SetAttributes,
     ClearAttributes,
@@ -54,11 +37,11 @@ pub fn refusal(image: &[u8], what: Change, path: &[u8], bytes: &[u8]) -> File
     ensures { λ r. ⌜ Prepared (now (image .entry)) (asked what (now (path .entry)) (now (bytes .entry))) (r .number) (r .slot) (r .block) (r .first) (r .size) (r .blocks) ⌝ }
 {
     match what {
-        Change::Create { kind, flags, .. } => super::create::create_refusal(
+        Change::Create(given) => super::create::create_refusal(
             image,
             path,
-            kind,
-            flags,
+            given.kind,
+            given.flags,
         ),
         Change::Write { offset, .. } => super::write::write_refusal(
             image,
@@ -67,12 +50,15 @@ pub fn refusal(image: &[u8], what: Change, path: &[u8], bytes: &[u8]) -> File
             bytes.len(),
         ),
         Change::Delete => layout::file::open_file(image, path),
-        Change::CreateDirectory {
-            kind,
-            flags,
-            blocks,
-            ..
-        } => { super::create_directory::create_directory_refusal(image, path, kind, flags, blocks) }
+        Change::CreateDirectory { given, blocks } => {
+            super::create_directory::create_directory_refusal(
+                image,
+                path,
+                given.kind,
+                given.flags,
+                blocks,
+            )
+        }
         Change::DeleteDirectory => super::delete_directory::delete_directory_refusal(image, path),
         Change::SetAttributes => super::attributes::set_attributes_refusal(
             image,
@@ -97,7 +83,7 @@ pub fn mark_named(
     ensures { λ _. ⌜ now (marks .exit) ≡ marked (now (marks .entry)) (named (now (image .entry)) (asked what (now (path .entry)) (now (bytes .entry)))) ⌝ }
 {
     match what {
-        Change::Create { .. } => super::marks::mark(marks, found.block),
+        Change::Create(_) => super::marks::mark(marks, found.block),
         Change::Write { offset, .. } => super::write::write_at_named(
             image,
             found,
@@ -127,49 +113,13 @@ fn apply(image: &mut [u8], what: Change, path: &[u8], bytes: &[u8], found: File)
     ensures { λ _. ⌜ now (image .exit) ≡ after (now (image .entry)) (asked what (now (path .entry)) (now (bytes .entry))) ⌝ }
 {
     match what {
-        Change::Create {
-            kind,
-            user,
-            group,
-            permissions,
-            flags,
-            time,
-        } => {
-            create_at(
-                image,
-                found,
-                path,
-                kind,
-                user,
-                group,
-                permissions,
-                flags,
-                time,
-            );
+        Change::Create(given) => {
+            create_at(image, found, path, given);
         }
         Change::Write { offset, time } => write_at(image, found, offset, bytes, time),
         Change::Delete => drop_entry(image, found),
-        Change::CreateDirectory {
-            kind,
-            user,
-            group,
-            permissions,
-            flags,
-            blocks,
-            time,
-        } => {
-            create_directory(
-                image,
-                found,
-                path,
-                kind,
-                user,
-                group,
-                permissions,
-                flags,
-                time,
-                blocks,
-            );
+        Change::CreateDirectory { given, blocks } => {
+            create_directory(image, found, path, given, blocks);
         }
         Change::DeleteDirectory => drop_entry(image, found),
         Change::SetAttributes => set_attributes(image, found, bytes),
@@ -184,7 +134,7 @@ fn slot_of(what: Change, slot: usize) -> u32
     ensures { λ r. ⌜ r ≡ answered what slot ⌝ }
 {
     match what {
-        Change::Create { .. } => slot as u32,
+        Change::Create(_) => slot as u32,
         Change::Write { .. } => 0,
         Change::Delete => 0,
         Change::CreateDirectory { .. } => slot as u32,

@@ -8,6 +8,16 @@ ghost use Rattle.volume.specs.Walks.Places.{Vacant, Searched};
 use super::slot::Fields;
 use layout::file::File;
 
+// The fields that a new entry is given.
+pub struct Given {
+    pub kind: u8,
+    pub user: u8,
+    pub group: u8,
+    pub permissions: u8,
+    pub flags: u32,
+    pub time: u64,
+}
+
 // The place of a new file, or the refusal of create.
 pub fn create_refusal(image: &[u8], path: &[u8], kind: u8, flags: u32) -> File
     requires { ⌜ check (now image) ≡ 0 ⌝ }
@@ -24,31 +34,21 @@ pub fn create_refusal(image: &[u8], path: &[u8], kind: u8, flags: u32) -> File
 }
 
 // Creates a file at the place found for it; gives its slot.
-pub fn create_at(
-    image: &mut [u8],
-    found: File,
-    path: &[u8],
-    kind: u8,
-    user: u8,
-    group: u8,
-    permissions: u8,
-    flags: u32,
-    time: u64,
-) -> u32
+pub fn create_at(image: &mut [u8], found: File, path: &[u8], given: Given) -> u32
     requires { ⌜ (check (now image) ≡ 0) × (pathOk (now path) ≡ true) × (Vacant (now image) (now path) (found .first) (found .slot) (found .block)) ⌝ }
     ensures slot { λ r. ⌜ r ≡ createSlot (now (image .entry)) (now (path .entry)) ⌝ }
-    ensures bytes { λ r. ⌜ now (image .exit) ≡ createImage (now (image .entry)) (now (path .entry)) kind user group permissions flags time ⌝ }
+    ensures bytes { λ r. ⌜ now (image .exit) ≡ createImage (now (image .entry)) (now (path .entry)) (given .kind) (given .user) (given .group) (given .permissions) (given .flags) (given .time) ⌝ }
 {
     let f = Fields {
-        kind: kind,
-        user: user,
-        group: group,
-        permissions: permissions,
+        kind: given.kind,
+        user: given.user,
+        group: given.group,
+        permissions: given.permissions,
         first: 0,
         size: 0,
         blocks: 0,
-        time: time,
-        flags: flags,
+        time: given.time,
+        flags: given.flags,
     };
     super::slot::put_slot(
         image,

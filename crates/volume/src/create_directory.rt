@@ -16,6 +16,7 @@ ghost use Rattle.volume.specs.Create.{createSlot};
 ghost use Rattle.volume.specs.Directories.{createDirectoryRefusal, newDirectoryBlocks, createDirectoryImage};
 ghost use Rattle.volume.specs.Walks.Marks.{marked};
 ghost use Rattle.volume.specs.Walks.Places.{Vacant, Searched};
+use super::create::Given;
 use super::slot::Fields;
 use layout::file::File;
 use layout::limits::MAX_DIRECTORY;
@@ -127,35 +128,24 @@ fn put_directory(
 }
 
 // Creates a directory of d blocks, its entry at the place found for it; gives its slot.
-pub fn create_directory(
-    image: &mut [u8],
-    found: File,
-    path: &[u8],
-    kind: u8,
-    user: u8,
-    group: u8,
-    permissions: u8,
-    flags: u32,
-    time: u64,
-    d: u32,
-) -> u32
-    requires { ⌜ (check (now image) ≡ 0) × (createDirectoryRefusal (now image) (now path) kind flags d ≡ 0) × (Vacant (now image) (now path) (found .first) (found .slot) (found .block)) ⌝ }
+pub fn create_directory(image: &mut [u8], found: File, path: &[u8], given: Given, d: u32) -> u32
+    requires { ⌜ (check (now image) ≡ 0) × (createDirectoryRefusal (now image) (now path) (given .kind) (given .flags) d ≡ 0) × (Vacant (now image) (now path) (found .first) (found .slot) (found .block)) ⌝ }
     ensures slot { λ r. ⌜ r ≡ createSlot (now (image .entry)) (now (path .entry)) ⌝ }
-    ensures bytes { λ r. ⌜ now (image .exit) ≡ createDirectoryImage (now (image .entry)) (now (path .entry)) kind user group permissions flags time d ⌝ }
+    ensures bytes { λ r. ⌜ now (image .exit) ≡ createDirectoryImage (now (image .entry)) (now (path .entry)) (given .kind) (given .user) (given .group) (given .permissions) (given .flags) (given .time) d ⌝ }
 {
     let t = take_blocks(image, d as usize);
     let name = layout::path::last_part(path);
-    put_directory(image, t.first, t.last, found.first, d, time, name);
+    put_directory(image, t.first, t.last, found.first, d, given.time, name);
     let f = Fields {
-        kind: kind,
-        user: user,
-        group: group,
-        permissions: permissions,
+        kind: given.kind,
+        user: given.user,
+        group: given.group,
+        permissions: given.permissions,
         first: t.first as u32,
         size: 0,
         blocks: d,
-        time: time,
-        flags: flags,
+        time: given.time,
+        flags: given.flags,
     };
     super::slot::put_slot(image, found.block, found.slot, f, name);
     found.slot as u32

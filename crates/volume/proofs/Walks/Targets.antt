@@ -11,10 +11,10 @@ use Rattle.volume.specs.Walks.Targets.{Target, answered}
 module _ (s path bytes : List ℕ) (slot block first size blocks : ℕ) where
   pub target-low : (what : code.Change) → Target s (asked what path bytes) slot block first size blocks → slot < 256
   unfolding Target
-  target-low (kinds.Create type user group permissions flags time) t = t .low
+  target-low (kinds.Create given) t = t .low
   target-low (kinds.Write offset time) t = t .low
   target-low kinds.Delete t = t .low
-  target-low (kinds.CreateDirectory type user group permissions flags d time) t = t .low
+  target-low (kinds.CreateDirectory given d) t = t .low
   target-low kinds.DeleteDirectory t = t .low
   target-low kinds.SetAttributes t = t .low
   target-low kinds.ClearAttributes t = t .low
@@ -22,10 +22,10 @@ module _ (s path bytes : List ℕ) (slot block first size blocks : ℕ) where
 
   pub target-slot : (what : code.Change) → Target s (asked what path bytes) slot block first size blocks → answered what slot ≡ slotGiven s (asked what path bytes)
   unfolding Target answered slotGiven
-  target-slot (kinds.Create type user group permissions flags time) t = t .lowest
+  target-slot (kinds.Create given) t = t .lowest
   target-slot (kinds.Write offset time) t = refl
   target-slot kinds.Delete t = refl
-  target-slot (kinds.CreateDirectory type user group permissions flags d time) t = t .lowest
+  target-slot (kinds.CreateDirectory given d) t = t .lowest
   target-slot kinds.DeleteDirectory t = refl
   target-slot kinds.SetAttributes t = refl
   target-slot kinds.ClearAttributes t = refl

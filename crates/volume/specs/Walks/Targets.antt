@@ -33,10 +33,10 @@ pub record Prepared (s : List ℕ) (c : Change) (number slot block first size bl
 
 -- the slot that a change of the code answers, if `slot` is that of what it is about
 unfoldable pub answered : code.Change → ℕ → ℕ
-answered (kinds.Create type user group permissions flags time) slot = slot
+answered (kinds.Create given) slot = slot
 answered (kinds.Write offset time) slot = 0
 answered kinds.Delete slot = 0
-answered (kinds.CreateDirectory type user group permissions flags blocks time) slot = slot
+answered (kinds.CreateDirectory given blocks) slot = slot
 answered kinds.DeleteDirectory slot = 0
 answered kinds.SetAttributes slot = 0
 answered kinds.ClearAttributes slot = 0

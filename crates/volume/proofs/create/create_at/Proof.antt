@@ -23,7 +23,7 @@ returns : tie.Need-returns
 returns c =
     let a = c .before .before .before .before .before .before .before .before .args in
     let v = c .before .before .before .before .before .before .before .before .pre .2 in
-    (v .lowest, c .before .before .before .put-slot .ensures ∙ create-written v (a .kind) (a .user) (a .group) (a .permissions) (a .flags) (a .time) _ (c .before .before .before .before .last-part .ensures))
+    (v .lowest, c .before .before .before .put-slot .ensures ∙ create-written v (a .given .kind) (a .given .user) (a .given .group) (a .given .permissions) (a .given .flags) (a .given .time) _ (c .before .before .before .before .last-part .ensures))
 
 pub create-at-spec : {M : Type 1} → statement M
 create-at-spec =
