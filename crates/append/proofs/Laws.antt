@@ -3,7 +3,6 @@ pub mod Turns
 pub mod Runs
 pub mod Grows
 pub mod Writes
-pub mod Rests
 pub mod Ends
 pub mod Twice
 pub mod Pieces

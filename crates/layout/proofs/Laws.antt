@@ -1,8 +1,10 @@
 -- THE LAWS that the proofs of this crate and of the crates above cite, by what they speak of.
 pub mod Tests
 pub mod Lists
+pub mod Rests
 pub mod Joins
 pub mod Bytes
+pub mod Splices
 pub mod Frames
 pub mod Names
 pub mod Chains

@@ -4,7 +4,6 @@ pub mod Notes
 pub mod Entries
 pub mod Frame
 pub mod Data
-pub mod Splices
 pub mod Puts
 pub mod Fronts
 pub mod Growth

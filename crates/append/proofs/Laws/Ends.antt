@@ -18,6 +18,7 @@ use Rattle.layout.specs.Paths.{home, pathSlot, entryOf, fileRefusal}
 use Rattle.volume.specs.Entries.{grown}
 use Rattle.volume.specs.Write.{needed, newBlocks, writeAt}
 use Rattle.layout.proofs.Laws.Lists.{In, in-right, last-in}
+use Rattle.layout.proofs.Laws.Rests.{select-rest}
 use Rattle.layout.proofs.Laws.Tests.{lt-or-gt}
 use Rattle.layout.proofs.Laws.Chains.{chainOk-split, chain-distinct}
 use Rattle.layout.proofs.Laws.Visits.{dirBlocks}
@@ -32,7 +33,6 @@ use Rattle.volume.proofs.Laws.Table.{grown-next}
 use Rattle.volume.proofs.Laws.Blank.{grown-free}
 use Rattle.volume.proofs.Laws.Views.{own-slot, own-entry}
 use Rattle.volume.proofs.Laws.Write.{Written, written-file, written-slot, written-sound, written-table}
-use Rattle.append.proofs.Laws.Rests.{select-rest}
 
 -- a sound image, on which a path leads to the file whose entry is at e
 pub record Stands (s path : List ℕ) (e : ℕ) : Type 0 where

@@ -6,7 +6,6 @@ use mathlib.Core.Logic.{_⊎_, inl, inr, ⊎-elim}
 use native.Mathlib.Omega.{arith}
 use lib.ListN.{length, take, drop}
 use Rattle.layout.specs.Bytes.{be32, bytes4, zeros, splice}
-use Rattle.layout.specs.Lists.{lastOr}
 use Rattle.layout.specs.Geometry.{tableBlocks, rootBlock}
 use Rattle.layout.specs.Table.{setNext}
 use Rattle.volume.specs.Entries.{setOccupied, linked, taken, grown}
@@ -16,17 +15,8 @@ use Rattle.layout.proofs.Laws.Lists.{In}
 use Rattle.layout.proofs.Laws.Frames.{same-be32, same-beside, set-next-length}
 use Rattle.layout.proofs.Laws.Bytes.{splice-nil, length-zeros, length-take-most}
 use Rattle.volume.proofs.Laws.Table.{cleared-length, taken-length, linked-length}
-use Rattle.volume.proofs.Laws.Splices.{splice-commutes}
+use Rattle.layout.proofs.Laws.Splices.{splice-commutes}
 use Rattle.volume.proofs.Laws.Puts.{run-length}
-
-pub last-append : (xs ys : List ℕ) (a : ℕ) → lastOr a (xs ++ ys) ≡ lastOr (lastOr a xs) ys
-last-append [] ys a = refl
-last-append (x ∷ xs) ys a = last-append xs ys x
-
-pub grown-append : (n : ℕ) (xs ys s : List ℕ) (a : ℕ) → grown s n a (xs ++ ys) ≡ grown (grown s n a xs) n (lastOr a xs) ys
-unfolding grown
-grown-append n [] ys s a = refl
-grown-append n (x ∷ xs) ys s a = grown-append n xs ys (taken s n a x) x
 
 module _ (n : ℕ) (n₁ : 3 ≤ n) where
   -- bytes behind the table

@@ -12,13 +12,14 @@ use Rattle.layout.specs.Lists.{lastOr, distinct}
 use Rattle.layout.specs.Geometry.{tableBlocks, rootBlock}
 use Rattle.volume.specs.Entries.{grown}
 use Rattle.volume.specs.Write.{put, setFile}
-use Rattle.layout.proofs.Laws.Lists.{In, in-left, in-right, last-in, distinct-apart}
+use Rattle.layout.proofs.Laws.Lists.{In, in-left, in-right, last-in, last-append, distinct-apart}
 use Rattle.layout.proofs.Laws.Tests.{eqb-self}
 use Rattle.layout.proofs.Laws.Bytes.{length-splice, length-bytes8}
 use Rattle.volume.proofs.Laws.Frame.{grown-length, put-length}
 use borrow.Author.Tests.{eqb-true}
+use Rattle.volume.proofs.Laws.Table.{grown-append}
 use Rattle.volume.proofs.Laws.Puts.{put-fits, put-joined, put-commutes, set-file-again}
-use Rattle.append.proofs.Laws.Grows.{last-append, grown-append, grown-commutes, grown-put}
+use Rattle.append.proofs.Laws.Grows.{grown-commutes, grown-put}
 
 -- what a write leaves, by the blocks that the file has and those that it takes
 abbrev pub wrote : List ℕ → ℕ → (old new : List ℕ) → ℕ → List ℕ → ℕ → ℕ → ℕ → List ℕ

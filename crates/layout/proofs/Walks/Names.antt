@@ -2,7 +2,7 @@
 use Prim.Native.Nat.{ℕ, zero, suc, _+_, _-_, _*_, _≤_, _<_, max}
 use mathlib.Core.Bool.{Bool, true, false, cond, _&&_, _||_, and-true, and-false, or-true, false≢true}
 use mathlib.Core.Logic.{⊎-elim}
-use mathlib.Core.List.{List, [], _∷_}
+use mathlib.Core.List.{List, [], _∷_, _++_}
 use mathlib.Core.Path.{_≡_, refl, sym, ap, _∙_, subst}
 use native.Mathlib.Nat.{add-zero, le-of-suc-le-suc, not-suc-le-zero, suc-ne-zero, eq-or-lt-of-le}
 use native.Mathlib.Numerals.{add-one}
@@ -42,6 +42,25 @@ same-more a b i w d w′ ha hb ed ew = rw (drop-cons a i 0 ha, drop-cons b i 0 h
         let q : w ≡ w′ = omega arith in
         rw q
     go false e = rw (ne-eqb w′ 0 (λ z. omega arith)) (and-false (eqb w 0))
+
+-- all of some bytes, of two runs, of none
+pub allZero-every : (xs : List ℕ) → allZero xs ≡ every (λ x. eqb x 0) xs
+unfolding allZero
+allZero-every [] = refl
+allZero-every (x ∷ xs) = ap (λ (t : Bool). eqb x 0 && t) (allZero-every xs)
+
+pub allZero-append : (xs ys : List ℕ) → allZero (xs ++ ys) ≡ allZero xs && allZero ys
+unfolding allZero
+allZero-append [] ys = refl
+allZero-append (x ∷ xs) ys = ap (λ (t : Bool). eqb x 0 && t) (allZero-append xs ys) ∙ assoc (eqb x 0) (allZero xs) (allZero ys)
+  where
+    assoc : (a b c : Bool) → (a && (b && c)) ≡ ((a && b) && c)
+    assoc true b c = refl
+    assoc false b c = refl
+
+pub allZero-none : allZero [] ≡ true
+unfolding allZero
+allZero-none = refl
 
 pub allZero-end : (s : List ℕ) (w : ℕ) → eqb w 0 ≡ eqb w 0 && allZero (drop (length s) s)
 unfolding allZero

@@ -15,12 +15,12 @@ use Rattle.layout.specs.Table.{next, chain, chainOk}
 use Rattle.layout.specs.Directory.{slotAt, typeOf, firstBlock, blocksOf, attributeBlock, attributeSize, isFile, isDirectory, nameOf, fileBlocks, attributeBlocks}
 use Rattle.layout.specs.Check.{slotOk, newName, fileChains, owned}
 use Rattle.layout.proofs.Laws.Tests.{eqb-self}
-use Rattle.layout.proofs.Laws.Lists.{In, in-left, in-right, joined-same, distinct-apart}
+use Rattle.layout.proofs.Laws.Lists.{In, in-left, in-right, joined-same, distinct-apart, every-append}
 use Rattle.layout.proofs.Laws.Joins.{in-interval, interval-in, in-select, select-has, select-agree, join-append, to-join}
 use Rattle.layout.proofs.Laws.Frames.{Same}
 use Rattle.layout.proofs.Laws.Entries.{same-type, same-field, same-name, same-slot}
 use Rattle.layout.proofs.Laws.Slots.{newName-split, newName-join}
-use Rattle.salvage.proofs.Laws.Walked.{owned-stays, oks-stay, every-append}
+use Rattle.salvage.proofs.Laws.Walked.{owned-stays, oks-stay}
 use Rattle.salvage.proofs.Laws.Places.{Place, slot-high}
 
 -- the chains of slot k, and those of the slots 1 to m

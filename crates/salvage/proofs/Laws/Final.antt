@@ -13,8 +13,8 @@ use Rattle.layout.specs.Directory.{slotAt, typeOf}
 use Rattle.layout.specs.Check.{stage7}
 use Rattle.layout.proofs.Laws.Lists.{In, every-in}
 use Rattle.layout.proofs.Laws.Frames.{Same, same-then, same-inner, same-byte}
+use Rattle.layout.proofs.Laws.Chains.{inVolume-split}
 use Rattle.salvage.specs.Salvage.{endAt, endPut, oneAt, freeAt, inTurn, tablePut, countsPut}
-use Rattle.salvage.proofs.Laws.Walked.{inVolume-split}
 use Rattle.salvage.proofs.Laws.Places.{Place, slot-low, slot-beside, slots-apart}
 use Rattle.salvage.proofs.Laws.Done.{Done, stays, claimed-root}
 use Rattle.salvage.proofs.Laws.Puts.{end-length, end-same, end-type, end-next, Ones, ones-put, Frees, frees-put, counts-length, counts-same, counts-next, counts-right}

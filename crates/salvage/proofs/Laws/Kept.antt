@@ -20,10 +20,9 @@ use Rattle.layout.proofs.Laws.Lists.{In, every-in, has-eqb-in, in-has-eqb, join
 use Rattle.layout.proofs.Laws.Bytes.{length-zeros, getD-zeros, length-block, getD-part}
 use Rattle.layout.proofs.Laws.Frames.{Same, same-then, same-byte, same-part}
 use Rattle.layout.proofs.Laws.Entries.{same-type, same-field}
-use Rattle.layout.proofs.Laws.Chains.{nth}
+use Rattle.layout.proofs.Laws.Chains.{nth, inVolume-split}
 use Rattle.layout.proofs.Laws.Trees.{in-directory, length-directory, slotAt-is}
 use Rattle.salvage.specs.Salvage.{slotsDone, salvageImage, salvageCodes, endAt, endRight}
-use Rattle.salvage.proofs.Laws.Walked.{inVolume-split}
 use Rattle.salvage.proofs.Laws.Places.{Place, slot-low, slot-high, slot-beside}
 use Rattle.salvage.proofs.Laws.Done.{file-claimed, file-not-root, claimed-root}
 use Rattle.salvage.proofs.Laws.Steps.{Whole, Moved}

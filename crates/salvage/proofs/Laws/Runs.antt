@@ -15,8 +15,9 @@ use Rattle.layout.specs.Directory.{slotAt, typeOf, firstBlock, blocksOf, attrib
 use Rattle.layout.proofs.Laws.Lists.{In, in-left, in-right, every-in}
 use Rattle.layout.proofs.Laws.Frames.{Same, same-then}
 use Rattle.layout.proofs.Laws.Entries.{same-type, same-field}
+use Rattle.layout.proofs.Laws.Chains.{inVolume-split}
 use Rattle.salvage.specs.Salvage.{Progress, takeSlot, takeSlots}
-use Rattle.salvage.proofs.Laws.Walked.{inVolume-split, chain-stays}
+use Rattle.salvage.proofs.Laws.Walked.{chain-stays}
 use Rattle.salvage.proofs.Laws.Places.{Place, slot-low, slot-high, slots-apart, slot-beside}
 use Rattle.salvage.proofs.Laws.Done.{Done, claimed-root, file-claimed}
 use Rattle.salvage.proofs.Laws.Steps.{Whole, Moved, Stepped, slot-stepped}

@@ -16,7 +16,7 @@ use Rattle.layout.specs.Directory.{slotAt, typeOf, firstBlock, sizeOf, blocksOf
 use Rattle.layout.specs.Check.{attributesOk, fileOk, slotOk, newName, fileChains, owned}
 use Rattle.volume.specs.Attributes.{setAttributeFields}
 use Rattle.layout.proofs.Laws.Tests.{and-split, and-join, true-not-false}
-use Rattle.layout.proofs.Laws.Lists.{In, in-left, in-right, in-append, every-in}
+use Rattle.layout.proofs.Laws.Lists.{In, in-left, in-right, in-append, every-in, every-append}
 use Rattle.layout.proofs.Laws.Bytes.{length-zeros, getD-zeros, length-splice, splice-first}
 use Rattle.layout.proofs.Laws.Frames.{Same, same-then, same-inner, same-beside, same-be32, same-byte, same-part}
 use Rattle.layout.proofs.Laws.Entries.{same-type, same-field, same-name, same-slot}
@@ -24,9 +24,10 @@ use Rattle.layout.proofs.Laws.Slots.{newName-split, newName-join}
 use Rattle.layout.proofs.Laws.Sound.{slotOk-split}
 use Rattle.layout.proofs.Laws.Files.{attributesOk-join}
 use Rattle.layout.proofs.Laws.Owners.{file-slot-ok, slot-ok-file}
+use Rattle.layout.proofs.Laws.Chains.{inVolume-split}
 use Rattle.volume.proofs.Laws.Fields.{fields-length, fields-same, fields-first, fields-size}
 use Rattle.salvage.specs.Salvage.{Progress, claimable, ends, ended, takeFile, zeroEntry, skip, takeSlot}
-use Rattle.salvage.proofs.Laws.Walked.{by-cond, chain-stays, last-of, walked, Claimable, claimable-split, claimed-distinct, every-append, inVolume-split, ended-length, ended-same, ended-other, ended-out, ended-last}
+use Rattle.salvage.proofs.Laws.Walked.{by-cond, chain-stays, last-of, walked, Claimable, claimable-split, claimed-distinct, ended-length, ended-same, ended-other, ended-out, ended-last}
 use Rattle.salvage.proofs.Laws.Places.{Place, slot-low, slot-high, slots-apart}
 use Rattle.salvage.proofs.Laws.Done.{chainsAt, Done, stays, one-more}
 

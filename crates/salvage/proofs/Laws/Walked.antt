@@ -1,21 +1,22 @@
 -- Chains whose blocks keep their values, and a chain that was walked and ended.
-use Prim.Native.Nat.{ℕ, zero, suc, _+_, _*_, _≤_, _<_}
+use Prim.Native.Nat.{ℕ, zero, suc, _+_, _*_, _≤_}
 use mathlib.Core.Bool.{Bool, true, false, not, _&&_, cond}
 use mathlib.Core.List.{List, [], _∷_, _++_}
 use mathlib.Core.Logic.{_⊎_, inl, inr, ⊎-elim, _≢_}
 use mathlib.Core.Path.{_≡_, refl, sym, ap, _∙_, subst}
 use native.Mathlib.Omega.{arith}
-use lib.Dec.{eqb, ltb}
+use lib.Dec.{eqb}
 use lib.ListN.{length}
-use borrow.Author.Tests.{eq-eqb, eqb-true, not-true, ltb-true}
+use borrow.Author.Tests.{eq-eqb, eqb-true, not-true}
 use Rattle.layout.specs.Lists.{every, has, distinct, lastOr}
-use Rattle.layout.specs.Geometry.{tableBlocks, rootBlock, inVolume}
+use Rattle.layout.specs.Geometry.{rootBlock, inVolume}
 use Rattle.layout.specs.Table.{next, chain, endsAfter, chainOk}
 use Rattle.layout.specs.Check.{owned}
 use Rattle.layout.proofs.Laws.Tests.{and-split, and-join, or-split, is-false, true-not-false}
 use Rattle.layout.proofs.Laws.Lists.{In, in-left, in-right, last-in, every-in, in-every, has-eqb-in, in-has-eqb, head-apart, tail-distinct, distinct-append}
 use Rattle.layout.proofs.Laws.Tests.{eqb-self}
 use Rattle.layout.proofs.Laws.Frames.{Same, set-next-length, set-next-same, set-next-at, set-next-other}
+use Rattle.layout.proofs.Laws.Chains.{inVolume-split}
 use Rattle.salvage.specs.Salvage.{claimable, ends, ended}
 
 -- by cases of a test
@@ -110,14 +111,6 @@ module _ (n : ℕ) (cs bs : List ℕ) where
 
   pub claimed-distinct : distinct eqb cs ≡ true → Claimable n cs bs → distinct eqb (cs ++ bs) ≡ true
   claimed-distinct d C = distinct-append eqb eqb-true eqb-self cs bs d (C .once) (C .fresh)
-
-pub every-append : {A : Type 0} (q : A → Bool) (xs ys : List A) → every q xs ≡ true → every q ys ≡ true → every q (xs ++ ys) ≡ true
-every-append q [] ys a b = b
-every-append q (x ∷ xs) ys a b = let w = and-split (q x) (every q xs) a in and-join (w .0) (every-append q xs ys (w .1) b)
-
-pub inVolume-split : (n b : ℕ) → inVolume n b ≡ true → (tableBlocks n < b) × (b < n)
-unfolding inVolume
-inVolume-split n b e = let w = and-split (ltb (tableBlocks n) b) (ltb b n) e in (ltb-true _ _ (w .0), ltb-true _ _ (w .1))
 
 -- the last value set to 1 if it isn't
 module _ (n : ℕ) (s bs : List ℕ) (len : length s ≡ 512 * n) (i : every (inVolume n) bs ≡ true) where

@@ -15,13 +15,13 @@ use Rattle.layout.specs.Geometry.{tableBlocks, inVolume}
 use Rattle.layout.specs.Table.{next, chain}
 use Rattle.layout.specs.Walks.Shapes.{ChainBelow}
 use Rattle.layout.proofs.Laws.Tests.{and-join, eqb-self, is-false, true-not-false}
-use Rattle.layout.proofs.Laws.Lists.{In, in-elim, in-append, in-left, in-right, every-in, has-eqb-in, in-has-eqb, false-has, distinct-append}
-use Rattle.layout.proofs.Laws.Chains.{nth, nth-suc, chain-none, chain-suc, chain-snoc, length-chain, getD-chain, in-chain, chain-in, last-some}
+use Rattle.layout.proofs.Laws.Lists.{In, in-elim, in-append, in-left, in-right, every-in, has-eqb-in, in-has-eqb, false-has, distinct-append, every-append}
+use Rattle.layout.proofs.Laws.Chains.{nth, nth-suc, chain-none, chain-suc, chain-snoc, length-chain, getD-chain, in-chain, chain-in, last-some, inVolume-split}
 use Rattle.layout.proofs.Walks.Marks.{marked-more}
 use Rattle.layout.proofs.Walks.Shapes.{run-rest}
 use Rattle.salvage.specs.Salvage.{claimable, ends}
 use Rattle.salvage.specs.Walks.{MarksOf, Walked, Claimed, unmarked}
-use Rattle.salvage.proofs.Laws.Walked.{Claimable, claimable-split, claimable-join, every-append, inVolume-split}
+use Rattle.salvage.proofs.Laws.Walked.{Claimable, claimable-split, claimable-join}
 use Rattle.salvage.proofs.Laws.Places.{index-apart}
 
 marks-more : (m cs : List ℕ) (b : ℕ) → b < length m → MarksOf m cs → MarksOf (set m b 1) (cs ++ (b ∷ []))

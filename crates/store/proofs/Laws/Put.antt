@@ -1,16 +1,16 @@
 -- AN ACCEPTED PUT: the image after it is sound; what every path shows then; the revisions that its file holds.
-use Prim.Native.Nat.{ℕ, zero, suc, _-_, _≤_, _<_}
+use Prim.Native.Nat.{ℕ, _-_, _≤_, _<_}
 use mathlib.Core.Path.{_≡_, refl, sym, ap, _∙_}
 use mathlib.Core.Bool.{Bool, true, false, _&&_, cond}
-use mathlib.Core.List.{List, [], _∷_, append-nil}
+use mathlib.Core.List.{List, []}
 use mathlib.Core.Logic.{_≢_}
 use native.Mathlib.Omega.{arith}
 use borrow.Author.Tests.{leb-true, ltb-true}
-use lib.ListN.{length, drop, length-append}
+use lib.ListN.{length, length-append}
 use lib.Dec.{leb, ltb}
-use lib.Seq.{drop-nil}
-use Rattle.layout.specs.Bytes.{be32, splice, zeros}
+use Rattle.layout.specs.Bytes.{be32, zeros}
 use Rattle.layout.proofs.Laws.Bytes.{length-zeros}
+use Rattle.layout.proofs.Laws.Splices.{splice-whole}
 use Rattle.layout.specs.Geometry.{blockCount}
 use Rattle.layout.specs.Table.{next, freeBlocks}
 use Rattle.layout.specs.Directory.{sizeOf, isFile, content}
@@ -33,15 +33,10 @@ use Rattle.store.proofs.Laws.Added.{read-fits, Stored, stored-none, sto
 use Rattle.store.proofs.Laws.Serials.{serial-path, serial-shallow, there-accepted, isIn, there-view, stored-view}
 use Rattle.layout.proofs.Laws.Tests.{and-split, require-zero, firstOf-zero}
 
-drop-all : (l : List ℕ) (n : ℕ) → length l ≤ n → drop n l ≡ []
-drop-all [] n h = drop-nil n
-drop-all (x ∷ l) zero h = absurd (omega arith)
-drop-all (x ∷ l) (suc n) h = drop-all l n (omega arith)
-
--- bytes written at 0 over no more than themselves
-splice-over : (c p : List ℕ) → length c ≤ length p → splice c 0 p ≡ p
-unfolding splice
-splice-over c p h = rw (drop-all c (length p) h) (append-nil p)
+-- a file that a put accepts holds revisions, and a number is left for one more
+pub form-held : (x : Found) → formRefusal x ≡ 0 → (x ≡ held (heldIn x)) × (latest (heldIn x) < maxNumber)
+form-held broken q = absurd (omega arith)
+form-held (held ys) q = (refl, ltb-true _ _ (require-zero (ltb (latest ys) maxNumber) 24 _ q .0))
 
 module _ (s serial : List ℕ) (time : ℕ) (bytes : List ℕ) (ok : check s ≡ 0) (r : putRefusal s serial time bytes ≡ 0) where
   abbrev path : List ℕ
@@ -152,7 +147,7 @@ module _ (s serial : List ℕ) (time : ℕ) (bytes : List ℕ) (ok : check s ≡
   unfolding putImage entryAt after subject made fileOf
   put-shown =
       ap storedIn (put-effect .own) ∙ ap (λ (x : Maybe File). storedIn (made (write path 0 whole time) x)) (file-shown t path opened-accepted)
-      ∙ ap revisions (splice-over (content t (entryOf isFile t path)) whole enough)
+      ∙ ap revisions (splice-whole (content t (entryOf isFile t path)) whole enough)
 
   pub put-there : isThere (putImage s serial time bytes) serial ≡ true
   unfolding putImage entryAt after subject made
@@ -160,10 +155,6 @@ module _ (s serial : List ℕ) (time : ℕ) (bytes : List ℕ) (ok : check s ≡
       there-view (putImage s serial time bytes) serial put-serial ∙ ap isIn (put-effect .own) ∙ ap (λ (x : Maybe File). isIn (made (write path 0 whole time) x)) (file-shown t path opened-accepted)
 
   -- what stood before
-  form-held : (x : Found) → formRefusal x ≡ 0 → (x ≡ held (heldIn x)) × (latest (heldIn x) < maxNumber)
-  form-held broken q = absurd (omega arith)
-  form-held (held ys) q = (refl, ltb-true _ _ (require-zero (ltb (latest ys) maxNumber) 24 _ q .0))
-
   stood : Stored rs × (latest rs < maxNumber) × (stored s serial ≡ held rs)
   stood = go (isThere s serial) refl
     where

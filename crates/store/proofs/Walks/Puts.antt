@@ -6,9 +6,9 @@ use mathlib.Core.List.{List, [], _∷_, _++_}
 use mathlib.Core.Logic.{_⊎_, inl, inr, ⊎-elim}
 use native.Mathlib.Omega.{arith}
 use native.Mathlib.Numerals.{add-one}
-use borrow.Author.Tests.{leb-true, le-leb, lt-ltb, le-ltb, ltb-true}
+use borrow.Author.Tests.{leb-true, le-leb, lt-ltb, le-ltb}
 use lib.ListN.{length, getD, take, drop, length-append, length-take, List·getD-append}
-use lib.Dec.{leb, ltb}
+use lib.Dec.{leb}
 use lib.Seq.{take-all, drop-at, drop-append-add, getD-append-add}
 use Rattle.layout.specs.Lists.{lastOr, joined}
 use Rattle.layout.specs.Bytes.{bytes4, part, block, zeros}
@@ -23,7 +23,7 @@ use Rattle.layout.specs.Walks.Slots.{entryAt}
 use Rattle.volume.specs.Write.{newSize, needed, newBlocks, written, writeAt, changedEntries, writeNamed, writeAtRefusal}
 use Rattle.volume.specs.Entries.{entriesNamed}
 use Rattle.volume.specs.Walks.Targets as targets
-use Rattle.store.specs.Settings.{maxSetting, maxNumber, Revision, recordBytes, wholeFile, encoded, Found, broken, held, revisions, latest, added}
+use Rattle.store.specs.Settings.{maxSetting, maxNumber, Revision, recordBytes, wholeFile, encoded, held, revisions, latest, added}
 use Rattle.store.specs.Put.{heldIn, formRefusal}
 use Rattle.store.specs.Walks.Forms.{maxForm, bytesOf, inRoom, Summary, Parsed, lengthAfter}
 use Rattle.store.specs.Walks.Puts.{heldAt, rewrittenAt, moreRefusal, Weighed}
@@ -33,6 +33,7 @@ use Rattle.layout.proofs.Walks.Looks.{located-below}
 use Rattle.volume.proofs.Laws.Effects.{content-length}
 use Rattle.volume.proofs.Walks.Write.{blocks-for, blocks-most}
 use Rattle.store.specs.Claims.{Bytes}
+use Rattle.store.proofs.Laws.Put.{form-held}
 use Rattle.store.proofs.Laws.Whole.{bytes-drop, bytes-take, written-again}
 use Rattle.volume.proofs.Laws.Fronts.{write-front}
 use Rattle.store.proofs.Walks.Rewriting.{standing-length, added-length, added-most, encoded-take}
@@ -49,11 +50,6 @@ bytes-blocks s (b ∷ bs) small i = bytes-append (block s b) (joined (block s) b
 content-bytes : (s : List ℕ) (e : ℕ) → Bytes s → Bytes (content s e)
 unfolding content
 content-bytes s e small = bytes-take (sizeOf s e) (joined (block s) (fileBlocks s e)) (bytes-blocks s (fileBlocks s e) small)
-
--- what accepting a file gives
-form-held : (x : Found) → formRefusal x ≡ 0 → (x ≡ held (heldIn x)) × (latest (heldIn x) < maxNumber)
-form-held broken q = absurd (omega arith)
-form-held (held ys) q = (refl, ltb-true _ _ (require-zero (ltb (latest ys) maxNumber) 24 _ q .0))
 
 length-encoded : (rs : List Revision) (size : ℕ) → length (encoded rs size) ≡ max size (length (wholeFile rs))
 unfolding encoded

@@ -20,7 +20,7 @@ use Rattle.store.specs.Settings.{maxRevisions, Found, broken, held, reco
 use Rattle.store.specs.Walks.Forms.{maxForm, bytesOf, heldBy, inRoom, formIn, Counted, Summary, Parsed, Placed}
 use Rattle.store.proofs.Laws.Added.{not-broken}
 use Rattle.store.proofs.Walks.Records.{records-most}
-use Rattle.store.proofs.Walks.Zeros.{allZero-every}
+use Rattle.layout.proofs.Walks.Names.{allZero-every}
 
 pub parsed-wrong : (found : Found) (room : List ℕ) (ok : Bool) (used count last oldest : ℕ) → ok ≡ false → found ≡ broken → Parsed found room ok used count last oldest
 parsed-wrong found room ok used count last oldest e h = record { right = λ t. absurd (true-not-false t e); wrong = λ f. h }

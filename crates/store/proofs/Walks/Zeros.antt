@@ -1,38 +1,19 @@
 -- Zeros along a chain: the turns of `zero_along`.
 use Prim.Native.Nat.{ℕ, suc, _+_, _-_, _*_, _≤_, _<_}
-use mathlib.Core.Path.{_≡_, refl, ap, _∙_}
-use mathlib.Core.Bool.{Bool, true, false, _&&_}
-use mathlib.Core.List.{List, [], _∷_, _++_}
+use mathlib.Core.Path.{_≡_, ap, _∙_}
+use mathlib.Core.Bool.{true, false, _&&_}
+use mathlib.Core.List.{List, _++_}
 use mathlib.Core.Logic.{_⊎_, inl, inr, ⊎-elim}
 use native.Mathlib.Omega.{arith}
 use lib.ListN.{length, take, drop}
-use lib.Dec.{eqb}
 use lib.Seq.{drop-append-add}
-use Rattle.layout.specs.Lists.{every}
 use Rattle.layout.specs.Bytes.{part}
 use Rattle.layout.specs.Table.{next}
 use Rattle.layout.specs.Walks.Entries.{allZero}
 use Rattle.layout.proofs.Laws.Bytes.{length-part, part-part}
 use Rattle.layout.proofs.Laws.Chains.{nth}
+use Rattle.layout.proofs.Walks.Names.{allZero-append, allZero-none}
 use Rattle.layout.proofs.Walks.Content.{chainBytes, chainBytes-next, part-append}
-
-pub allZero-every : (xs : List ℕ) → allZero xs ≡ every (λ x. eqb x 0) xs
-unfolding allZero
-allZero-every [] = refl
-allZero-every (x ∷ xs) = ap (λ (t : Bool). eqb x 0 && t) (allZero-every xs)
-
-allZero-append : (xs ys : List ℕ) → allZero (xs ++ ys) ≡ allZero xs && allZero ys
-unfolding allZero
-allZero-append [] ys = refl
-allZero-append (x ∷ xs) ys = ap (λ (t : Bool). eqb x 0 && t) (allZero-append xs ys) ∙ assoc (eqb x 0) (allZero xs) (allZero ys)
-  where
-    assoc : (a b c : Bool) → (a && (b && c)) ≡ ((a && b) && c)
-    assoc true b c = refl
-    assoc false b c = refl
-
-allZero-none : allZero [] ≡ true
-unfolding allZero
-allZero-none = refl
 
 -- a run along a chain: behind its first block, and with a part of that block
 module _ (img : List ℕ) (n b left o rest : ℕ) (size : length img ≡ 512 * n) (some : 0 < left) (w : b < n) where

@@ -19,7 +19,8 @@ use Rattle.volume.specs.Entries.{grown}
 use Rattle.volume.specs.Write.{newSize, needed, newBlocks, put, setFile, writeAt}
 use Rattle.layout.proofs.Laws.Tests.{lt-or-ge}
 use Rattle.layout.proofs.Laws.Lists.{In}
-use Rattle.layout.proofs.Laws.Bytes.{length-block, getD-part, length-take-most, splice-nil, splice-ext, getD-splice-after}
+use Rattle.layout.proofs.Laws.Bytes.{length-block, getD-part, length-take-most, splice-nil, getD-splice-after}
+use Rattle.layout.proofs.Laws.Splices.{splice-same}
 use Rattle.layout.proofs.Laws.Chains.{chainOk-split, chain-distinct}
 use Rattle.layout.proofs.Laws.Sound.{Sound, Entry, sound}
 use Rattle.layout.proofs.Laws.Slots.{slot-entry}
@@ -29,10 +30,6 @@ use Rattle.volume.proofs.Laws.Frame.{put-length}
 use Rattle.volume.proofs.Laws.Data.{joined-put}
 use Rattle.volume.proofs.Laws.Places.{At, file-at-path}
 use Rattle.volume.proofs.Laws.Puts.{put-joined}
-
--- a run that stands in its place already
-pub splice-same : (s : List ℕ) (at : ℕ) (p : List ℕ) → at + length p ≤ length s → ((i : ℕ) → i < length p → getD s (at + i) 0 ≡ getD p i 0) → splice s at p ≡ s
-splice-same s at p fit same = sym (splice-ext s s at p fit refl (λ i g. refl) same (λ i g. refl))
 
 -- data that stands along the blocks already
 pub put-own : (bs s : List ℕ) (o : ℕ) (y : List ℕ) → ((q : ℕ) → In q bs → 512 * q + 512 ≤ length s) → o + length y ≤ 512 * length bs

@@ -11,7 +11,7 @@ use Rattle.volume.specs.Write.{put, setFile}
 use Rattle.layout.proofs.Laws.Tests.{lt-or-ge}
 use Rattle.layout.proofs.Laws.Lists.{In}
 use Rattle.layout.proofs.Laws.Bytes.{length-splice, splice-nil, splice-append, length-bytes8, length-take-most}
-use Rattle.volume.proofs.Laws.Splices.{splice-commutes, splice-over}
+use Rattle.layout.proofs.Laws.Splices.{splice-commutes, splice-over}
 
 put-none : (bs s : List ℕ) (o : ℕ) → put s bs o [] ≡ s
 unfolding put

@@ -1,4 +1,4 @@
--- The free blocks that are left when the first of them are taken.
+-- What passes a test, without the first that do: the free blocks that are left when the first of them are taken.
 use Prim.Native.Nat.{ℕ, zero, suc, _+_, _≤_, _<_}
 use mathlib.Core.Path.{_≡_, refl, sym, ap, _∙_}
 use mathlib.Core.Bool.{Bool, true, false}
