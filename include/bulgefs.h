@@ -363,7 +363,7 @@ uint32_t bulgefs_check(const uint8_t *image, size_t image_len);
  * A second check, short enough to be read in an evening: it gives the same
  * number as bulgefs_check on every image, and finds it by walking every chain
  * anew for each block.  Its time grows with the square of the blocks, to 13
- * seconds for the largest volume if files fill it, and to many minutes if
+ * seconds for the largest volume if files fill it, and to ten minutes if
  * directories do (docs/PLAIN-CHECK.md).
  * Refusals: 1 to 7.
  */
