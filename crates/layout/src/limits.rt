@@ -5,7 +5,8 @@ pub const MIN_BLOCKS: usize = 3;
 
 pub const MAX_BLOCKS: usize = 65536;
 
-// A volume of at most so many blocks has marks of that size: clearing more would cost it more than all else. A tiny one is only checked with these.
+// A volume of at most so many blocks has marks of that size: clearing more would cost it more than all else. The check knows both sizes, what changes an
+// image the second alone.
 pub const TINY_BLOCKS: usize = 512;
 
 pub const SMALL_BLOCKS: usize = 4096;
