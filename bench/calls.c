@@ -38,8 +38,8 @@ enum {
 
 static const char *const names[KINDS] = {
     "check", "lookup", "read of 100 bytes", "read on", "look in place", "info", "entry", "load table",
-    "store table", "write of 100 bytes in place", "undo of it", "write that takes a block",
-    "undo of it, a block back", "append that takes a block", "list of one write",
+    "store table", "write of 100 bytes in place", "undo of a change in place",
+    "write that takes a block", "undo of it, a block back", "append that takes a block", "list of one write",
     "delete of two blocks", "undo of it, two blocks back", "create", "create directory",
     "delete directory", "set attributes", "read attributes", "clear attributes", "clear flags",
     "first put of settings", "put of settings", "get of the latest", "salvage of a sound volume"};
