@@ -703,6 +703,37 @@ bulgefs_got bulgefs_get_latest_settings(const uint8_t *image, size_t image_len,
                                         uint8_t *buffer, size_t buffer_len);
 
 /*
+ * The same three in a directory: "/" for the root, or the path of a directory as
+ * "/a/b", handed over without a terminating zero.  The file is the one of the
+ * serial number in that directory.  With "/" they are the calls above.  A
+ * directory of d blocks has room for 4 * d - 2 serial numbers, at most 254: for
+ * more boxes, take more directories.
+ * Refusals: those of the calls above, of that directory in the place of the root.
+ * BULGEFS_BAD_SETTINGS also for a directory that is neither "/" nor of the form
+ * of a path; after it BULGEFS_TOO_DEEP (more than 8 directories in it), then
+ * BULGEFS_NOT_FOUND where no such directory is there, of a put too.
+ */
+BULGEFS_CHECKED
+bulgefs_put bulgefs_put_settings_in(uint8_t *image, size_t image_len,
+                                    uint8_t *journal, size_t journal_len,
+                                    const uint8_t *directory, size_t directory_len,
+                                    const uint8_t *serial, size_t serial_len,
+                                    const uint8_t *data, size_t data_len,
+                                    uint64_t time);
+
+BULGEFS_CHECKED
+bulgefs_got bulgefs_get_settings_in(const uint8_t *image, size_t image_len,
+                                    const uint8_t *directory, size_t directory_len,
+                                    const uint8_t *serial, size_t serial_len,
+                                    uint32_t revision, uint8_t *buffer, size_t buffer_len);
+
+BULGEFS_CHECKED
+bulgefs_got bulgefs_get_latest_settings_in(const uint8_t *image, size_t image_len,
+                                           const uint8_t *directory, size_t directory_len,
+                                           const uint8_t *serial, size_t serial_len,
+                                           uint8_t *buffer, size_t buffer_len);
+
+/*
  * Takes the last change back: puts the blocks of the journal's last record
  * into the image and removes the record.  Image and journal are then, byte
  * for byte, what they were before that change; if the journal had bytes other

@@ -28,7 +28,7 @@ fn append_nothing(image: &[u8], path: &[u8], offset: usize, time: u64) -> Change
         offset: offset,
         time: time,
     };
-    let number = store::change::refusal(image, Change::Volume(what), path, b"").number;
+    let number = store::change::refusal(image, Change::Volume(what), b"/", path, b"").number;
     if number != 0 {
         return Changed::Refused(number);
     }

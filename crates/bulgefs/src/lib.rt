@@ -5,8 +5,8 @@ ghost use mathlib.Core.Path.{_≡_};
 ghost use Rattle.layout.specs.Check.{check};
 ghost use Rattle.layout.specs.Looks.{LookupAnswer, ReadAnswer, Extent, lookup, read, extentOf, readAttributes, volumeInfo, nextEntry};
 ghost use Rattle.layout.specs.Answers.{volumeAnswer, entryAnswer};
-ghost use Rattle.store.specs.Change.{Change as ChangeAsked, create, write, delete, createDirectory, deleteDirectory, setAttributes, clearAttributes, clearFlags, put, slotGiven};
-ghost use Rattle.store.specs.Get.{theLatest, theNumber, gotAnswer, get};
+ghost use Rattle.store.specs.Change.{Change as ChangeAsked, create, write, delete, createDirectory, deleteDirectory, setAttributes, clearAttributes, clearFlags, putIn, put, slotGiven};
+ghost use Rattle.store.specs.Get.{theLatest, theNumber, gotAnswer, getIn, get};
 ghost use Rattle.volume.specs.Format.{formatRefusal, formatted};
 ghost use Rattle.chain_table.specs.Transfer.{loadTable, storeTable};
 ghost use Rattle.append.specs.Append.{afterAppend, appendAnswer};
@@ -410,6 +410,47 @@ pub extern "C" fn bulgefs_get_latest_settings(
     ensures { λ r. ⌜ gotAnswer (r .number) (r .revision) (r .length) (now (buffer .exit)) ≡ get (now (image .entry)) (now (serial .entry)) theLatest (now (buffer .entry)) ⌝ }
 {
     store::get::get_latest(image, serial, buffer)
+}
+
+// The same calls in a directory, `/` for the root.
+#[no_mangle]
+pub extern "C" fn bulgefs_put_settings_in(
+    image: &mut [u8],
+    journal: &mut [u8],
+    directory: &[u8],
+    serial: &[u8],
+    bytes: &[u8],
+    time: u64,
+) -> Created
+    ensures answer { λ r. ⌜ changed (r .number) (r .slot) (r .size) ≡ changeAnswer (state (now (image .entry)) (now (journal .entry))) (putIn (now (directory .entry)) (now (serial .entry)) time (now (bytes .entry))) ⌝ }
+    ensures state { λ _. ⌜ state (now (image .exit)) (now (journal .exit)) ≡ afterChange (state (now (image .entry)) (now (journal .entry))) (putIn (now (directory .entry)) (now (serial .entry)) time (now (bytes .entry))) ⌝ }
+{
+    with_slot(journal::calls::put_settings_in(image, journal, directory, serial, bytes, time))
+}
+
+#[no_mangle]
+pub extern "C" fn bulgefs_get_settings_in(
+    image: &[u8],
+    directory: &[u8],
+    serial: &[u8],
+    revision: u32,
+    buffer: &mut [u8],
+) -> store::get::Got
+    ensures { λ r. ⌜ gotAnswer (r .number) (r .revision) (r .length) (now (buffer .exit)) ≡ getIn (now (image .entry)) (now (directory .entry)) (now (serial .entry)) (theNumber revision) (now (buffer .entry)) ⌝ }
+{
+    store::get::get_in(image, directory, serial, revision, buffer)
+}
+
+#[no_mangle]
+pub extern "C" fn bulgefs_get_latest_settings_in(
+    image: &[u8],
+    directory: &[u8],
+    serial: &[u8],
+    buffer: &mut [u8],
+) -> store::get::Got
+    ensures { λ r. ⌜ gotAnswer (r .number) (r .revision) (r .length) (now (buffer .exit)) ≡ getIn (now (image .entry)) (now (directory .entry)) (now (serial .entry)) theLatest (now (buffer .entry)) ⌝ }
+{
+    store::get::get_latest_in(image, directory, serial, buffer)
 }
 
 #[no_mangle]

@@ -1,7 +1,7 @@
 // The calls that are lent a journal. Each checks the image and scans the journal once.
 ghost use mathlib.Core.Path.{_≡_};
-ghost use Rattle.store.specs.Change.{create, write, delete, createDirectory, deleteDirectory, setAttributes, clearAttributes, clearFlags, put};
-ghost use Rattle.store.specs.Asked.{asked};
+ghost use Rattle.store.specs.Change.{create, write, delete, createDirectory, deleteDirectory, setAttributes, clearAttributes, clearFlags, putIn, put};
+ghost use Rattle.store.specs.Asked.{askedIn, asked};
 ghost use Rattle.journal.specs.Run.{afterUndo, undoAnswer, afterChange, changeAnswer, state};
 ghost use Rattle.journal.specs.Walks.Changes.{Inspects, Ready, readyRefusal};
 ghost use Rattle.journal.specs.Answers.{changedAnswer, undoneAnswer, ChangeNumbered, UndoNumbered};
@@ -77,7 +77,58 @@ pub fn undo(image: &mut [u8], journal: &mut [u8]) -> Undone
     Undone::Done(size)
 }
 
-// A change on a sound image and a well-formed journal: its own refusals first, then its record, then the change itself.
+// A change on a sound image and a well-formed journal: its own refusals first, then its record, then the change itself. A put is in the directory beside its
+// path; the others look at their path alone.
+fn change_ready_in(
+    image: &mut [u8],
+    journal: &mut [u8],
+    what: Change,
+    directory: &[u8],
+    path: &[u8],
+    bytes: &[u8],
+) -> Changed
+    requires { ⌜ Ready (now image) (now journal) ⌝ }
+    ensures answer { λ r. ⌜ changedAnswer r ≡ changeAnswer (state (now (image .entry)) (now (journal .entry))) (askedIn what (now (directory .entry)) (now (path .entry)) (now (bytes .entry))) ⌝ }
+    ensures state { λ _. ⌜ state (now (image .exit)) (now (journal .exit)) ≡ afterChange (state (now (image .entry)) (now (journal .entry))) (askedIn what (now (directory .entry)) (now (path .entry)) (now (bytes .entry))) ⌝ }
+    ensures numbered { λ r. ⌜ ChangeNumbered r ⌝ }
+{
+    let found = store::change::refusal(image, what, directory, path, bytes);
+    let refusal = found.number;
+    if refusal != 0 {
+        return Changed::Refused(refusal);
+    }
+    let size = super::naming::record_change(image, journal, what, directory, path, bytes, found);
+    if size == 0 {
+        return Changed::Refused(15);
+    }
+    let slot = store::change::make(image, what, directory, path, bytes, found);
+    Changed::Done {
+        slot: slot,
+        size: size,
+    }
+}
+
+// Any change: the refusals 1 to 8 first.
+fn change_in(
+    image: &mut [u8],
+    journal: &mut [u8],
+    what: Change,
+    directory: &[u8],
+    path: &[u8],
+    bytes: &[u8],
+) -> Changed
+    ensures answer { λ r. ⌜ changedAnswer r ≡ changeAnswer (state (now (image .entry)) (now (journal .entry))) (askedIn what (now (directory .entry)) (now (path .entry)) (now (bytes .entry))) ⌝ }
+    ensures state { λ _. ⌜ state (now (image .exit)) (now (journal .exit)) ≡ afterChange (state (now (image .entry)) (now (journal .entry))) (askedIn what (now (directory .entry)) (now (path .entry)) (now (bytes .entry))) ⌝ }
+    ensures numbered { λ r. ⌜ ChangeNumbered r ⌝ }
+{
+    let unready = ready_refusal(image, journal);
+    if unready != 0 {
+        return Changed::Refused(unready);
+    }
+    change_ready_in(image, journal, what, directory, path, bytes)
+}
+
+// A change with no directory beside its path, on a sound image and a well-formed journal.
 pub fn change_ready(
     image: &mut [u8],
     journal: &mut [u8],
@@ -90,23 +141,10 @@ pub fn change_ready(
     ensures state { λ _. ⌜ state (now (image .exit)) (now (journal .exit)) ≡ afterChange (state (now (image .entry)) (now (journal .entry))) (asked what (now (path .entry)) (now (bytes .entry))) ⌝ }
     ensures numbered { λ r. ⌜ ChangeNumbered r ⌝ }
 {
-    let found = store::change::refusal(image, what, path, bytes);
-    let refusal = found.number;
-    if refusal != 0 {
-        return Changed::Refused(refusal);
-    }
-    let size = super::naming::record_change(image, journal, what, path, bytes, found);
-    if size == 0 {
-        return Changed::Refused(15);
-    }
-    let slot = store::change::make(image, what, path, bytes, found);
-    Changed::Done {
-        slot: slot,
-        size: size,
-    }
+    change_ready_in(image, journal, what, b"/", path, bytes)
 }
 
-// Any change: the refusals 1 to 8 first.
+// The same on any bytes.
 pub fn change(
     image: &mut [u8],
     journal: &mut [u8],
@@ -118,11 +156,7 @@ pub fn change(
     ensures state { λ _. ⌜ state (now (image .exit)) (now (journal .exit)) ≡ afterChange (state (now (image .entry)) (now (journal .entry))) (asked what (now (path .entry)) (now (bytes .entry))) ⌝ }
     ensures numbered { λ r. ⌜ ChangeNumbered r ⌝ }
 {
-    let unready = ready_refusal(image, journal);
-    if unready != 0 {
-        return Changed::Refused(unready);
-    }
-    change_ready(image, journal, what, path, bytes)
+    change_in(image, journal, what, b"/", path, bytes)
 }
 
 // Create: a new empty file, in the lowest free slot.
@@ -280,7 +314,30 @@ pub fn clear_flags(image: &mut [u8], journal: &mut [u8], path: &[u8]) -> Changed
     )
 }
 
-// Put settings: adds a revision to the settings of a serial number; the slot of its answer is the revision's number.
+// Put settings in a directory: adds a revision to the settings of a serial number; the slot of its answer is the revision's number.
+pub fn put_settings_in(
+    image: &mut [u8],
+    journal: &mut [u8],
+    directory: &[u8],
+    serial: &[u8],
+    bytes: &[u8],
+    time: u64,
+) -> Changed
+    ensures answer { λ r. ⌜ changedAnswer r ≡ changeAnswer (state (now (image .entry)) (now (journal .entry))) (putIn (now (directory .entry)) (now (serial .entry)) time (now (bytes .entry))) ⌝ }
+    ensures state { λ _. ⌜ state (now (image .exit)) (now (journal .exit)) ≡ afterChange (state (now (image .entry)) (now (journal .entry))) (putIn (now (directory .entry)) (now (serial .entry)) time (now (bytes .entry))) ⌝ }
+    ensures numbered { λ r. ⌜ ChangeNumbered r ⌝ }
+{
+    change_in(
+        image,
+        journal,
+        Change::Put { time: time },
+        directory,
+        serial,
+        bytes,
+    )
+}
+
+// Put settings in the root: adds a revision to the settings of a serial number; the slot of its answer is the revision's number.
 pub fn put_settings(
     image: &mut [u8],
     journal: &mut [u8],

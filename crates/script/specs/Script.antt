@@ -14,7 +14,7 @@ use Rattle.layout.specs.Looks.{VolumeAnswer, EntryAnswer}
 use Rattle.store.specs.Change.{Change, create, write, delete, createDirectory, deleteDirectory, setAttributes, clearAttributes, clearFlags, put}
 use Rattle.store.specs.Get.{Which, theLatest, theNumber}
 use Rattle.journal.specs.Journal.{recordsFrom, started, startRefusal}
-use Rattle.journal.specs.Run.{Look, checkImage, findFile, readFile, lookAt, readAttributesOf, getSettings, showVolume, showEntry, Call, change, undo, look, Answer, changed, undone, checked, found, filled, shown, got, described, entered, State, state}
+use Rattle.journal.specs.Run.{Look, checkImage, findFile, readFile, lookAt, readAttributesOf, getSettingsIn, getSettings, showVolume, showEntry, Call, change, undo, look, Answer, changed, undone, checked, found, filled, shown, got, described, entered, State, state}
 use Rattle.journal.specs.Replay.{replayed}
 use Rattle.journal.specs.Kinds.{KindCall, call, further, KindAnswer, answered, replied, runOf, answersOf, standingOf, replayAnswersOf}
 use Rattle.write_list.specs.Runs.{lists}
@@ -146,7 +146,7 @@ answerSize (look (findFile name)) = 16
 answerSize (look (readFile name offset buffer)) = 16 + length buffer
 answerSize (look (lookAt name i)) = 16 + 512
 answerSize (look (readAttributesOf name buffer)) = 16 + length buffer
-answerSize (look (getSettings serial which buffer)) = 16 + length buffer
+answerSize (look (getSettingsIn directory serial which buffer)) = 16 + length buffer
 answerSize (look (showVolume buffer)) = 32 + length buffer
 answerSize (look (showEntry name start buffer)) = 64 + length buffer
 

@@ -3,6 +3,7 @@ pub mod Form
 pub mod Added
 pub mod Whole
 pub mod Serials
+pub mod Addresses
 pub mod Put
 pub mod Sound
 pub mod Framed

@@ -4,21 +4,26 @@
 -- it. The proofs are in Laws.
 use Prim.Native.Nat.{ℕ, suc, _+_, _/_, _≤_, _<_}
 use mathlib.Core.Path.{_≡_, refl, sym, ap, _∙_}
-use mathlib.Core.Bool.{true, false}
-use mathlib.Core.List.{List}
+use mathlib.Core.Bool.{Bool, true, false, _&&_, cond}
+use mathlib.Core.List.{List, _∷_}
 use mathlib.Core.Logic.{_≢_}
-use lib.ListN.{length, getD, drop}
-use lib.Dec.{eqb}
+use lib.ListN.{length, getD}
+use lib.Dec.{eqb, leb}
 use Rattle.layout.specs.Lists.{has}
+use Rattle.layout.specs.Refusals.{require, firstOf}
+use Rattle.layout.specs.Directory.{slash}
 use Rattle.layout.specs.Bytes.{be32, splice}
 use Rattle.layout.specs.Geometry.{blockCount}
+use Rattle.layout.specs.Table.{next, freeBlocks}
+use Rattle.volume.specs.Create.{placeRefusal}
+use Rattle.volume.specs.Write.{needed}
 use Rattle.layout.specs.Check.{check}
-use Rattle.layout.specs.Looks.{lookup, read, lookInPlace, readAttributes}
+use Rattle.layout.specs.Looks.{lookup, read, lookInPlace, readAttributes, isRootPath}
 use Rattle.volume.specs.Claims.{Blanked}
 use Rattle.volume.specs.Views.{File, just, fileAt, folderAt, SameFiles, NoNewFlags}
 use Rattle.store.specs.Settings.{maxSetting, Revision, encoded, held, revisions}
-use Rattle.store.specs.Put.{pathOf, putImage, putRevision, putRefusal}
-use Rattle.store.specs.Get.{Which, theLatest, theNumber, getRefusal, get}
+use Rattle.store.specs.Put.{serialOk, root, front, pathOf, addressRefusal, isThere, stored, opened, entryAt, rewritten, formRefusal, putImage, putRevision, putRefusal}
+use Rattle.store.specs.Get.{Which, theLatest, theNumber, soughtRefusal, getRefusal, getIn}
 use Rattle.store.specs.Change.{Change, clearFlags, refusal, after, named, subject}
 use Rattle.store.specs.Views.{made, madeFolder, takes, gives, givesFolder}
 use Rattle.store.specs.Claims.{Fits, Small, Bytes}
@@ -31,7 +36,7 @@ use Rattle.store.proofs.Laws.Blank.{blank}
 use Rattle.store.proofs.Laws.Orders as orders
 use Rattle.store.proofs.Laws.Shown as shows
 use Rattle.store.proofs.Laws.Serials.{answer-same}
-use Rattle.store.proofs.Laws.Put as put
+use Rattle.store.proofs.Laws.Addresses as addresses
 use Rattle.store.proofs.Laws.Gets as gets
 
 -- A sound image s.
@@ -108,45 +113,70 @@ pub written-again : (c : List ℕ) (rs : List Revision) → Bytes c → revision
 written-again = whole.written-again
 
 -- PUT AND GET. An accepted put on a sound image: s′ is the image after it, and m the number that it answers.
-module _ (s serial : List ℕ) (time : ℕ) (bytes : List ℕ) (ok : check s ≡ 0) (r : putRefusal s serial time bytes ≡ 0) where
+module _ (s directory serial : List ℕ) (time : ℕ) (bytes : List ℕ) (ok : check s ≡ 0) (r : putRefusal s directory serial time bytes ≡ 0) where
   abbrev s′ : List ℕ
-  s′ = putImage s serial time bytes
+  s′ = putImage s directory serial time bytes
 
   abbrev m : ℕ
-  m = putRevision s serial
+  m = putRevision s directory serial
 
   -- The number is 1 where get found no file, and else one more than that of the latest.
-  pub first-number : (size : ℕ) → getRefusal s serial theLatest size ≡ 10 → m ≡ 1
-  first-number = gets.first-number s serial ok
+  pub first-number : (size : ℕ) → getRefusal s directory serial theLatest size ≡ 10 → m ≡ 1
+  first-number = gets.first-number s directory serial ok
 
-  pub next-number : (buffer : List ℕ) → getRefusal s serial theLatest (length buffer) ≡ 0 → m ≡ suc (get s serial theLatest buffer .revision)
-  next-number = gets.next-number s serial
+  pub next-number : (buffer : List ℕ) → getRefusal s directory serial theLatest (length buffer) ≡ 0 → m ≡ suc (getIn s directory serial theLatest buffer .revision)
+  next-number = gets.next-number s directory serial
 
   -- The latest is then what was put, also when asked for by its number.
-  pub get-latest : (buffer : List ℕ) → maxSetting ≤ length buffer → get s′ serial theLatest buffer ≡ record { number = 0; revision = m; size = length bytes; buffer = splice buffer 0 bytes }
-  get-latest = gets.new-asked s serial time bytes ok r theLatest (gets.latest-asked s serial time bytes ok r)
+  pub get-latest : (buffer : List ℕ) → maxSetting ≤ length buffer → getIn s′ directory serial theLatest buffer ≡ record { number = 0; revision = m; size = length bytes; buffer = splice buffer 0 bytes }
+  get-latest = gets.new-asked s directory serial time bytes ok r theLatest (gets.latest-asked s directory serial time bytes ok r)
 
-  pub get-new : (buffer : List ℕ) → maxSetting ≤ length buffer → get s′ serial (theNumber m) buffer ≡ record { number = 0; revision = m; size = length bytes; buffer = splice buffer 0 bytes }
+  pub get-new : (buffer : List ℕ) → maxSetting ≤ length buffer → getIn s′ directory serial (theNumber m) buffer ≡ record { number = 0; revision = m; size = length bytes; buffer = splice buffer 0 bytes }
   unfolding putRevision
-  get-new = gets.new-asked s serial time bytes ok r (theNumber m) refl
+  get-new = gets.new-asked s directory serial time bytes ok r (theNumber m) refl
 
   -- A revision that stood, of the fifteen numbers before it, gives what it gave; older ones are dropped; and no other comes.
-  pub get-standing : (x : ℕ) (buffer : List ℕ) → getRefusal s serial (theNumber x) (length buffer) ≡ 0 → m < x + 16
-      → get s′ serial (theNumber x) buffer ≡ get s serial (theNumber x) buffer
-  get-standing = gets.still-given s serial time bytes ok r
+  pub get-standing : (x : ℕ) (buffer : List ℕ) → getRefusal s directory serial (theNumber x) (length buffer) ≡ 0 → m < x + 16
+      → getIn s′ directory serial (theNumber x) buffer ≡ getIn s directory serial (theNumber x) buffer
+  get-standing = gets.still-given s directory serial time bytes ok r
 
-  pub get-dropped : (x : ℕ) (buffer : List ℕ) → maxSetting ≤ length buffer → x + 16 ≤ m → get s′ serial (theNumber x) buffer ≡ record { number = 23; revision = 0; size = 0; buffer = buffer }
-  get-dropped = gets.dropped s serial time bytes ok r
+  pub get-dropped : (x : ℕ) (buffer : List ℕ) → maxSetting ≤ length buffer → x + 16 ≤ m → getIn s′ directory serial (theNumber x) buffer ≡ record { number = 23; revision = 0; size = 0; buffer = buffer }
+  get-dropped = gets.dropped s directory serial time bytes ok r
 
-  pub get-none : (x : ℕ) (buffer : List ℕ) → maxSetting ≤ length buffer → getRefusal s serial (theNumber x) (length buffer) ≢ 0 → x ≢ m
-      → get s′ serial (theNumber x) buffer ≡ record { number = 23; revision = 0; size = 0; buffer = buffer }
-  get-none = gets.none-comes s serial time bytes ok r
+  pub get-none : (x : ℕ) (buffer : List ℕ) → maxSetting ≤ length buffer → getRefusal s directory serial (theNumber x) (length buffer) ≢ 0 → x ≢ m
+      → getIn s′ directory serial (theNumber x) buffer ≡ record { number = 23; revision = 0; size = 0; buffer = buffer }
+  get-none = gets.none-comes s directory serial time bytes ok r
 
-  -- Every answer about another serial number stays.
-  pub get-others : (other : List ℕ) → other ≢ serial → (which : Which) (buffer : List ℕ) → get s′ other which buffer ≡ get s other which buffer
-  get-others other ne = answer-same s s′ other (put.put-sound s serial time bytes ok r ∙ sym ok) (put.put-others s serial time bytes ok r (pathOf other) (λ q. ne (ap (drop 1) q)))
+  -- Every answer about another directory or another serial number stays.
+  pub get-others : (folder other : List ℕ) → (folder ≡ directory → other ≢ serial) → (which : Which) (buffer : List ℕ) → getIn s′ folder other which buffer ≡ getIn s folder other which buffer
+  get-others = gets.others s directory serial time bytes ok r
 
 -- Every answer stays after a change that is about another path.
-pub get-stays : (s : List ℕ) (c : Change) (serial : List ℕ) → check s ≡ 0 → refusal s c ≡ 0 → pathOf serial ≢ subject c
-    → (which : Which) (buffer : List ℕ) → get (after s c) serial which buffer ≡ get s serial which buffer
-get-stays s c serial ok r ne = answer-same s (after s c) serial (kept s c ok r ∙ sym ok) (shows.others s c ok r (pathOf serial) ne)
+pub get-stays : (s : List ℕ) (c : Change) (directory serial : List ℕ) → check s ≡ 0 → refusal s c ≡ 0 → pathOf directory serial ≢ subject c
+    → (which : Which) (buffer : List ℕ) → getIn (after s c) directory serial which buffer ≡ getIn s directory serial which buffer
+get-stays s c directory serial ok r ne = answer-same s (after s c) directory serial (kept s c ok r ∙ sym ok) (shows.others s c ok r (pathOf directory serial) ne)
+
+-- IN THE ROOT, L10: the path is `/` and the serial number, and of the refusals of directory and serial number only L10's 22 is left, so that every definition
+-- with the root for its directory is L10's.
+pub root-path : (serial : List ℕ) → pathOf root serial ≡ slash ∷ serial
+unfolding pathOf front isRootPath
+root-path serial = refl
+
+pub root-address : (serial : List ℕ) (fits : Bool) → addressRefusal root serial fits ≡ require (serialOk serial && fits) 22 0
+root-address = addresses.root-address
+
+-- The refusals of a put and of a get in the root are so L10's, word for word.
+pub root-put : (s serial : List ℕ) (time : ℕ) (bytes : List ℕ)
+    → let t = opened s root serial time in
+    let form = formRefusal (stored s root serial) in
+    let place = placeRefusal s (slash ∷ serial) in
+    let room = require (leb (needed t (entryAt s root serial time) 0 (length (rewritten s root serial time bytes))) (length (freeBlocks (next t) (blockCount t)))) 14 0 in
+    putRefusal s root serial time bytes ≡ require (serialOk serial && leb (length bytes) maxSetting) 22 (firstOf (cond (isThere s root serial) form place) room)
+unfolding putRefusal pathOf front isRootPath
+root-put s serial time bytes = addresses.root-rest serial (leb (length bytes) maxSetting) _
+
+pub root-get : (s serial : List ℕ) (which : Which) (size : ℕ)
+    → getRefusal s root serial which size
+    ≡ firstOf (check s) (require (serialOk serial && leb maxSetting size) 22 (require (isThere s root serial) 10 (soughtRefusal (stored s root serial) which)))
+unfolding getRefusal
+root-get s serial which size = ap (firstOf (check s)) (addresses.root-rest serial (leb maxSetting size) _)

@@ -4,11 +4,11 @@ use Prim.Native.Nat.{ℕ}
 use mathlib.Core.List.{List}
 use Rattle.volume.specs.Change as volume
 use Rattle.volume.specs.Views as views
-use Rattle.store.specs.Put.{pathOf, putRefusal, putImage, putNamed, putRevision}
+use Rattle.store.specs.Put.{root, pathOf, putRefusal, putImage, putNamed, putRevision}
 
 pub data Change : Type 0 where
   plain : volume.Change → Change
-  put : (serial : List ℕ) (time : ℕ) (bytes : List ℕ) → Change
+  putIn : (directory serial : List ℕ) (time : ℕ) (bytes : List ℕ) → Change
 
 -- the volume's changes by their own names
 abbrev pub create : (path : List ℕ) (type user group permissions flags time : ℕ) → Change
@@ -35,26 +35,30 @@ clearAttributes path = plain (volume.clearAttributes path)
 abbrev pub clearFlags : (path : List ℕ) → Change
 clearFlags path = plain (volume.clearFlags path)
 
+-- L10: a put in the root
+abbrev pub put : (serial : List ℕ) (time : ℕ) (bytes : List ℕ) → Change
+put serial time bytes = putIn root serial time bytes
+
 -- the refusal by the numbers 9 to 26, or 0
 unfoldable pub refusal : List ℕ → Change → ℕ
 refusal s (plain c) = volume.refusal s c
-refusal s (put serial time bytes) = putRefusal s serial time bytes
+refusal s (putIn directory serial time bytes) = putRefusal s directory serial time bytes
 
 -- of an accepted change: the image after it, its named blocks (in any order), and the number that it answers: the slot of create (of a directory too), the
 -- revision of put
 unfoldable pub after : List ℕ → Change → List ℕ
 after s (plain c) = volume.after s c
-after s (put serial time bytes) = putImage s serial time bytes
+after s (putIn directory serial time bytes) = putImage s directory serial time bytes
 
 unfoldable pub named : List ℕ → Change → List ℕ
 named s (plain c) = volume.named s c
-named s (put serial time bytes) = putNamed s serial time bytes
+named s (putIn directory serial time bytes) = putNamed s directory serial time bytes
 
 unfoldable pub slotGiven : List ℕ → Change → ℕ
 slotGiven s (plain c) = volume.slotGiven s c
-slotGiven s (put serial time bytes) = putRevision s serial
+slotGiven s (putIn directory serial time bytes) = putRevision s directory serial
 
 -- the path that a change is about
 unfoldable pub subject : Change → List ℕ
 subject (plain c) = views.subject c
-subject (put serial time bytes) = pathOf serial
+subject (putIn directory serial time bytes) = pathOf directory serial

@@ -1,14 +1,14 @@
 -- Get (FORMAT.md, 20): "get gives the latest or a named revision into a buffer of 200 bytes or more, and leaves the rest". On any image.
 use Prim.Native.Nat.{ℕ}
 use mathlib.Core.List.{List, [], _∷_}
-use mathlib.Core.Bool.{Bool, true, false, _&&_, cond}
+use mathlib.Core.Bool.{Bool, true, false, cond}
 use lib.ListN.{length}
 use lib.Dec.{eqb, leb}
 use Rattle.layout.specs.Refusals.{require, firstOf, accept}
 use Rattle.layout.specs.Bytes.{splice}
 use Rattle.layout.specs.Check.{check}
 use Rattle.store.specs.Settings.{maxSetting, Revision, Found, broken, held, latest}
-use Rattle.store.specs.Put.{serialOk, isThere, stored, heldIn}
+use Rattle.store.specs.Put.{root, addressRefusal, isThere, stored, heldIn}
 
 pub data Which : Type 0 where
   theLatest : Which
@@ -43,19 +43,23 @@ abbrev pub soughtRefusal : Found → Which → ℕ
 soughtRefusal broken which = 24
 soughtRefusal (held rs) which = require (stands (wanted rs which) rs) 23 0
 
--- 1 to 7; 22 "bad serial .. or get buffer below 200", in the place of 9; "Get gives 10 where the root holds no file of that name", so before 24 and 23, which
--- come after 12
-unfoldable pub getRefusal : List ℕ → List ℕ → Which → ℕ → ℕ
-getRefusal s serial which size =
+-- 1 to 7; 22 "bad serial .. or get buffer below 200", in the place of 9, and 17; 10 "where no directory is there", and "where the root holds no file of that
+-- name", or the directory; so before 24 and 23, which come after 12
+unfoldable pub getRefusal : List ℕ → List ℕ → List ℕ → Which → ℕ → ℕ
+getRefusal s directory serial which size =
     firstOf (check s)
-    (require (serialOk serial && leb maxSetting size) 22
-    (require (isThere s serial) 10
-    (soughtRefusal (stored s serial) which)))
+    (firstOf (addressRefusal directory serial (leb maxSetting size))
+    (require (isThere s directory serial) 10
+    (soughtRefusal (stored s directory serial) which)))
 
-unfoldable pub get : List ℕ → List ℕ → Which → List ℕ → GetAnswer
-get s serial which buffer =
-    let number = getRefusal s serial which (length buffer) in
-    let rs = heldIn (stored s serial) in
+unfoldable pub getIn : List ℕ → List ℕ → List ℕ → Which → List ℕ → GetAnswer
+getIn s directory serial which buffer =
+    let number = getRefusal s directory serial which (length buffer) in
+    let rs = heldIn (stored s directory serial) in
     let x = wanted rs which in
     let found : GetAnswer = record { number = 0; revision = x; size = length (dataOf x rs); buffer = splice buffer 0 (dataOf x rs) } in
     accept number found (record { number = number; revision = 0; size = 0; buffer = buffer })
+
+-- L10: in the root
+abbrev pub get : List ℕ → List ℕ → Which → List ℕ → GetAnswer
+get s serial which buffer = getIn s root serial which buffer

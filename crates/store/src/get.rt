@@ -6,7 +6,7 @@ ghost use lib.ListN.{length};
 ghost use Rattle.layout.specs.Geometry.{blockCount};
 ghost use Rattle.layout.specs.Walks.Shapes.{ChainBelow};
 ghost use Rattle.store.specs.Settings.{maxSetting, revisions};
-ghost use Rattle.store.specs.Get.{theLatest, theNumber, gotAnswer, get};
+ghost use Rattle.store.specs.Get.{theLatest, theNumber, gotAnswer, getIn, get};
 ghost use Rattle.store.specs.Walks.Forms.{maxForm, bytesOf, which, sought};
 use super::form::MAX_SETTING;
 use layout::file::File;
@@ -75,20 +75,25 @@ fn get_from(
 }
 
 // Get of the last revision or of the one named.
-fn get_either(image: &[u8], serial: &[u8], newest: bool, revision: u32, buffer: &mut [u8]) -> Got
-    ensures { λ r. ⌜ gotAnswer (r .number) (r .revision) (r .length) (now (buffer .exit)) ≡ get (now (image .entry)) (now (serial .entry)) (which newest revision) (now (buffer .entry)) ⌝ }
+fn get_either(
+    image: &[u8],
+    directory: &[u8],
+    serial: &[u8],
+    newest: bool,
+    revision: u32,
+    buffer: &mut [u8],
+) -> Got
+    ensures { λ r. ⌜ gotAnswer (r .number) (r .revision) (r .length) (now (buffer .exit)) ≡ getIn (now (image .entry)) (now (directory .entry)) (now (serial .entry)) (which newest revision) (now (buffer .entry)) ⌝ }
 {
     let refusal = layout::check::check(image);
     if refusal != 0 {
         return refused(refusal);
     }
-    if !super::serial::serial_ok(serial) {
-        return refused(22);
+    let form = super::serial::address_refusal(directory, serial, MAX_SETTING <= buffer.len());
+    if form != 0 {
+        return refused(form);
     }
-    if buffer.len() < MAX_SETTING {
-        return refused(22);
-    }
-    let found = super::serial::open_file(image, serial);
+    let found = super::serial::open_file(image, directory, serial);
     if found.number != 0 {
         return refused(10);
     }
@@ -96,16 +101,36 @@ fn get_either(image: &[u8], serial: &[u8], newest: bool, revision: u32, buffer: 
     get_from(image, found, newest, revision, buffer, &mut room)
 }
 
-// Get: fills the first bytes of the buffer with the data of a revision.
+// Get from a directory: fills the first bytes of the buffer with the data of a revision.
+pub fn get_in(
+    image: &[u8],
+    directory: &[u8],
+    serial: &[u8],
+    revision: u32,
+    buffer: &mut [u8],
+) -> Got
+    ensures { λ r. ⌜ gotAnswer (r .number) (r .revision) (r .length) (now (buffer .exit)) ≡ getIn (now (image .entry)) (now (directory .entry)) (now (serial .entry)) (theNumber revision) (now (buffer .entry)) ⌝ }
+{
+    get_either(image, directory, serial, false, revision, buffer)
+}
+
+// The same with the latest revision.
+pub fn get_latest_in(image: &[u8], directory: &[u8], serial: &[u8], buffer: &mut [u8]) -> Got
+    ensures { λ r. ⌜ gotAnswer (r .number) (r .revision) (r .length) (now (buffer .exit)) ≡ getIn (now (image .entry)) (now (directory .entry)) (now (serial .entry)) theLatest (now (buffer .entry)) ⌝ }
+{
+    get_either(image, directory, serial, true, 0, buffer)
+}
+
+// Get from the root.
 pub fn get(image: &[u8], serial: &[u8], revision: u32, buffer: &mut [u8]) -> Got
     ensures { λ r. ⌜ gotAnswer (r .number) (r .revision) (r .length) (now (buffer .exit)) ≡ get (now (image .entry)) (now (serial .entry)) (theNumber revision) (now (buffer .entry)) ⌝ }
 {
-    get_either(image, serial, false, revision, buffer)
+    get_in(image, b"/", serial, revision, buffer)
 }
 
 // The same with the latest revision.
 pub fn get_latest(image: &[u8], serial: &[u8], buffer: &mut [u8]) -> Got
     ensures { λ r. ⌜ gotAnswer (r .number) (r .revision) (r .length) (now (buffer .exit)) ≡ get (now (image .entry)) (now (serial .entry)) theLatest (now (buffer .entry)) ⌝ }
 {
-    get_either(image, serial, true, 0, buffer)
+    get_latest_in(image, b"/", serial, buffer)
 }

@@ -1,6 +1,5 @@
-// Put, on an image that the caller has checked. Its three functions, as those of the volume's changes, are given the whole put: serial number, data and time.
+// Put, on an image that the caller has checked. Its three functions, as those of the volume's changes, are given the whole put: directory, serial number, data and time.
 ghost use mathlib.Core.Path.{_≡_};
-ghost use mathlib.Core.Bool.{true};
 ghost use mathlib.Core.List.{[]};
 ghost use Prim.Native.Nat.{suc, _+_, _≤_, max};
 ghost use lib.ListN.{length};
@@ -13,7 +12,8 @@ ghost use Rattle.volume.specs.Walks.Marks.{marked};
 ghost use Rattle.volume.specs.Walks.Places.{Searched};
 ghost use Rattle.volume.specs.Walks.Targets.{Standing};
 ghost use Rattle.store.specs.Settings.{maxSetting, encoded, latest, added};
-ghost use Rattle.store.specs.Put.{serialOk, pathOf, putRefusal, putImage, putNamed, putRevision};
+ghost use Rattle.store.specs.Put.{pathOf, putRefusal, putImage, putNamed, putRevision};
+ghost use Rattle.store.specs.Walks.Addresses.{Addressed};
 ghost use Rattle.store.specs.Walks.Forms.{maxForm};
 ghost use Rattle.store.specs.Walks.Puts.{heldAt, rewrittenAt, moreRefusal, firstRefusal, Weighed, PutTarget, PutPrepared};
 use super::form::MAX_SETTING;
@@ -83,13 +83,13 @@ fn more_refusal(image: &[u8], found: File, bytes: &[u8]) -> u32
     volume::write::write_at_refusal(image, found, 0, w.size)
 }
 
-// The refusal of a put that makes its file, 11, 13 or 14, or 0 and its place.
-fn first_refusal(image: &[u8], serial: &[u8]) -> File
-    requires { ⌜ (check (now image) ≡ 0) × (serialOk (now serial) ≡ true) ⌝ }
-    ensures place { λ r. ⌜ Searched (now (image .entry)) (pathOf (now (serial .entry))) (firstRefusal (now (image .entry)) (pathOf (now (serial .entry)))) (r .number) (r .first) (r .slot) (r .block) ⌝ }
+// The refusal of a put that makes its file, 10, 11, 13 or 14, or 0 and its place.
+fn first_refusal(image: &[u8], directory: &[u8], serial: &[u8]) -> File
+    requires { ⌜ (check (now image) ≡ 0) × (Addressed (now directory) (now serial)) ⌝ }
+    ensures place { λ r. ⌜ Searched (now (image .entry)) (pathOf (now (directory .entry)) (now (serial .entry))) (firstRefusal (now (image .entry)) (pathOf (now (directory .entry)) (now (serial .entry)))) (r .number) (r .first) (r .slot) (r .block) ⌝ }
     ensures empty { λ r. ⌜ r .size ≡ 0 ⌝ }
 {
-    let p = super::serial::find_place(image, serial);
+    let p = super::serial::find_place(image, directory, serial);
     let number = p.number;
     if number != 0 {
         return layout::file::refused(number);
@@ -108,19 +108,17 @@ fn first_refusal(image: &[u8], serial: &[u8]) -> File
 }
 
 // The refusal of a put, or 0; and where its entry is, or goes.
-pub fn put_refusal(image: &[u8], serial: &[u8], bytes: &[u8], time: u64) -> File
+pub fn put_refusal(image: &[u8], directory: &[u8], serial: &[u8], bytes: &[u8], time: u64) -> File
     requires { ⌜ check (now image) ≡ 0 ⌝ }
-    ensures { λ r. ⌜ PutPrepared (now (image .entry)) (now (serial .entry)) time (now (bytes .entry)) (r .number) (r .slot) (r .block) (r .first) (r .size) (r .blocks) ⌝ }
+    ensures { λ r. ⌜ PutPrepared (now (image .entry)) (now (directory .entry)) (now (serial .entry)) time (now (bytes .entry)) (r .number) (r .slot) (r .block) (r .first) (r .size) (r .blocks) ⌝ }
 {
-    if !super::serial::serial_ok(serial) {
-        return layout::file::refused(22);
+    let form = super::serial::address_refusal(directory, serial, bytes.len() <= MAX_SETTING);
+    if form != 0 {
+        return layout::file::refused(form);
     }
-    if MAX_SETTING < bytes.len() {
-        return layout::file::refused(22);
-    }
-    let f = super::serial::open_file(image, serial);
+    let f = super::serial::open_file(image, directory, serial);
     if f.number != 0 {
-        return first_refusal(image, serial);
+        return first_refusal(image, directory, serial);
     }
     let number = more_refusal(image, f, bytes);
     if number != 0 {
@@ -146,14 +144,15 @@ fn more_named(image: &[u8], found: File, bytes: &[u8], marks: &mut [u8])
 // Marks the blocks that an accepted put names. What was found has size 0 if it is a place, since a file of the form has bytes; a first put fills one block.
 pub fn put_named(
     image: &[u8],
+    directory: &[u8],
     serial: &[u8],
     bytes: &[u8],
     time: u64,
     found: File,
     marks: &mut [u8],
 )
-    requires { ⌜ (check (now image) ≡ 0) × (putRefusal (now image) (now serial) time (now bytes) ≡ 0) × (PutTarget (now image) (now serial) (found .slot) (found .block) (found .first) (found .size) (found .blocks)) × (blockCount (now image) ≤ length (now marks)) ⌝ }
-    ensures { λ _. ⌜ now (marks .exit) ≡ marked (now (marks .entry)) (putNamed (now (image .entry)) (now (serial .entry)) time (now (bytes .entry))) ⌝ }
+    requires { ⌜ (check (now image) ≡ 0) × (putRefusal (now image) (now directory) (now serial) time (now bytes) ≡ 0) × (PutTarget (now image) (now directory) (now serial) (found .slot) (found .block) (found .first) (found .size) (found .blocks)) × (blockCount (now image) ≤ length (now marks)) ⌝ }
+    ensures { λ _. ⌜ now (marks .exit) ≡ marked (now (marks .entry)) (putNamed (now (image .entry)) (now (directory .entry)) (now (serial .entry)) time (now (bytes .entry))) ⌝ }
 {
     if found.size == 0 {
         let n = image.len() / 512;
@@ -218,13 +217,20 @@ fn put_first(image: &mut [u8], found: File, bytes: &[u8], time: u64)
 }
 
 // Makes an accepted put; gives the new revision's number.
-pub fn put(image: &mut [u8], serial: &[u8], bytes: &[u8], time: u64, found: File) -> u32
-    requires { ⌜ (check (now image) ≡ 0) × (putRefusal (now image) (now serial) time (now bytes) ≡ 0) × (PutTarget (now image) (now serial) (found .slot) (found .block) (found .first) (found .size) (found .blocks)) ⌝ }
-    ensures revision { λ r. ⌜ r ≡ putRevision (now (image .entry)) (now (serial .entry)) ⌝ }
-    ensures bytes { λ _. ⌜ now (image .exit) ≡ putImage (now (image .entry)) (now (serial .entry)) time (now (bytes .entry)) ⌝ }
+pub fn put(
+    image: &mut [u8],
+    directory: &[u8],
+    serial: &[u8],
+    bytes: &[u8],
+    time: u64,
+    found: File,
+) -> u32
+    requires { ⌜ (check (now image) ≡ 0) × (putRefusal (now image) (now directory) (now serial) time (now bytes) ≡ 0) × (PutTarget (now image) (now directory) (now serial) (found .slot) (found .block) (found .first) (found .size) (found .blocks)) ⌝ }
+    ensures revision { λ r. ⌜ r ≡ putRevision (now (image .entry)) (now (directory .entry)) (now (serial .entry)) ⌝ }
+    ensures bytes { λ _. ⌜ now (image .exit) ≡ putImage (now (image .entry)) (now (directory .entry)) (now (serial .entry)) time (now (bytes .entry)) ⌝ }
 {
     if found.size == 0 {
-        super::serial::create_file(image, serial, found, time);
+        super::serial::create_file(image, directory, serial, found, time);
         put_first(image, found, bytes, time);
         return 1;
     }

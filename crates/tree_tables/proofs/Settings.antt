@@ -1,23 +1,23 @@
--- Settings with a past (L10), and the looks at a volume and its entries: records, files, answers and refusals worked out by hand, and computed from the
+-- Settings with a past (L10, N3), and the looks at a volume and its entries: records, files, answers and refusals worked out by hand, and computed from the
 -- definitions.
 use Prim.Native.Nat.{ℕ, _-_, _*_}
 use mathlib.Core.List.{List, [], _∷_, _++_, map}
 use lib.ListN.{length, drop, replicate}
-use Rattle.layout.specs.Lists.{interval}
+use Rattle.layout.specs.Lists.{interval, joined}
 use Rattle.layout.specs.Bytes.{be32, part}
 use Rattle.layout.specs.Check.{check}
 use Rattle.store.specs.Settings.{Revision, Found, broken, held, recordBytes, wholeFile, encoded, recordsIn, revisions, latest, added}
-use Rattle.store.specs.Put.{serialOk, isThere, stored, opened, entryAt, rewritten, putImage, putNamed, putRevision, putRefusal}
-use Rattle.store.specs.Get.{theLatest, theNumber, getRefusal, get}
-use Rattle.store.specs.Change.{Change, put, write, createDirectory, named, refusal, after}
+use Rattle.store.specs.Put.{serialOk, root, directoryOk, front, pathOf, addressRefusal, isThere, stored, opened, entryAt, rewritten, putImage, putNamed, putRevision, putRefusal}
+use Rattle.store.specs.Get.{theLatest, theNumber, getRefusal, getIn}
+use Rattle.store.specs.Change.{Change, putIn, put, write, createDirectory, named, refusal, after}
 use Rattle.journal.specs.Journal.{used, started, ascending}
-use Rattle.journal.specs.Run.{change, getSettings, showVolume, showEntry, State, step, answer, lookAnswer}
+use Rattle.journal.specs.Run.{change, getSettingsIn, getSettings, showVolume, showEntry, State, step, answer, lookAnswer}
 use Rattle.samples.proofs.Rules.{rules}
 use Rattle.samples.proofs.Samples.{AsExpected, formattedAs, pattern, inRoot, fileA, createFile, writeA, numbers, samples}
 
 -- opens the store's definitions, as rules does those below it
 unfoldable storeRules : Unit {0}
-unfolding recordBytes wholeFile encoded recordsIn revisions latest added serialOk isThere stored opened entryAt rewritten putImage putNamed putRevision putRefusal getRefusal get
+unfolding recordBytes wholeFile encoded recordsIn revisions latest added serialOk directoryOk front pathOf addressRefusal isThere stored opened entryAt rewritten putImage putNamed putRevision putRefusal getRefusal getIn
 storeRules = tt
 
 -- the box "B7", its settings "abc" and then none
@@ -63,7 +63,7 @@ gets =
     -- no such revision; a buffer that is too short, before a serial number that has no file; a serial number that is none
     ∷ (numbers (lookAnswer s₂ (getSettings box (theNumber 0) room)) ++ numbers (lookAnswer s₂ (getSettings box (theNumber 3) room)), 23 ∷ 0 ∷ 0 ∷ room ++ (23 ∷ 0 ∷ 0 ∷ room))
     ∷ (
-      map (getRefusal s₂ (67 ∷ []) theLatest) (199 ∷ 200 ∷ []) ++ (getRefusal s₂ (47 ∷ []) theLatest 200 ∷ getRefusal s₂ [] theLatest 200 ∷ []),
+      map (getRefusal s₂ root (67 ∷ []) theLatest) (199 ∷ 200 ∷ []) ++ (getRefusal s₂ root (47 ∷ []) theLatest 200 ∷ getRefusal s₂ root [] theLatest 200 ∷ []),
       22 ∷ 10 ∷ 22 ∷ 22 ∷ [],
     )
     ∷ []
@@ -81,14 +81,49 @@ small = after (after (formattedAs 6 1) (createFile 66)) (createFile 67)
 pub refusals : List (List ℕ × List ℕ)
 refusals =
     (map (refusal s₂) (put [] 1 [] ∷ put (replicate 17 65) 1 [] ∷ put (47 ∷ []) 1 [] ∷ put box 1 (pattern 201) ∷ put box 1 (pattern 200) ∷ []), 22 ∷ 22 ∷ 22 ∷ 22 ∷ 0 ∷ [])
-    ∷ (refusal empty (put (65 ∷ []) 1 []) ∷ getRefusal empty (65 ∷ []) theLatest 200 ∷ [], 24 ∷ 24 ∷ [])
-    ∷ (refusal last (put (65 ∷ []) 1 []) ∷ getRefusal last (65 ∷ []) theLatest 200 ∷ getRefusal last (65 ∷ []) (theNumber 4294967295) 200 ∷ [], 25 ∷ 0 ∷ 0 ∷ [])
+    ∷ (refusal empty (put (65 ∷ []) 1 []) ∷ getRefusal empty root (65 ∷ []) theLatest 200 ∷ [], 24 ∷ 24 ∷ [])
+    ∷ (refusal last (put (65 ∷ []) 1 []) ∷ getRefusal last root (65 ∷ []) theLatest 200 ∷ getRefusal last root (65 ∷ []) (theNumber 4294967295) 200 ∷ [], 25 ∷ 0 ∷ 0 ∷ [])
     ∷ (
       let t = after s₀ (createDirectory (inRoot 68) 0x20 0 0 0 0 1 1) in
-          refusal t (put (68 ∷ []) 1 []) ∷ getRefusal t (68 ∷ []) theLatest 200 ∷ [],
+          refusal t (put (68 ∷ []) 1 []) ∷ getRefusal t root (68 ∷ []) theLatest 200 ∷ [],
       11 ∷ 10 ∷ [],
     )
     ∷ (refusal small (put (65 ∷ []) 1 []) ∷ refusal (after empty (writeA 0 2048)) (put box 1 []) ∷ [], 13 ∷ 14 ∷ [])
+    ∷ []
+
+-- In a directory (N3): /D has one block, 4, and two slots; the first file in it takes slot 1, at 2,176, and block 5.
+folder : List ℕ
+folder = inRoot 68
+
+d₀ : List ℕ
+d₀ = after s₀ (createDirectory folder 0x20 0 0 0 0 1 1)
+
+inside : Change
+inside = putIn folder box 500 (97 ∷ 98 ∷ 99 ∷ [])
+
+d₁ : List ℕ
+d₁ = after d₀ inside
+
+-- `/a` so many times, and then `/D`
+deep : ℕ → List ℕ
+deep k = joined (λ (i : ℕ). 47 ∷ 97 ∷ []) (interval 0 k) ++ folder
+
+pub folders : List (List ℕ × List ℕ)
+folders =
+    let p : State = record { image = d₀; journal = started 5200 } in
+    (numbers (answer p (change inside)) ++ ascending 8 (named d₀ inside) ++ (check d₁ ∷ []), 0 ∷ 1 ∷ 2068 ∷ 0 ∷ 1 ∷ 4 ∷ 5 ∷ 0 ∷ [])
+    ∷ (map (be32 d₁) (2180 ∷ 2184 ∷ 2188 ∷ []), 5 ∷ 13 ∷ 1 ∷ [])
+    ∷ (numbers (lookAnswer d₁ (getSettingsIn folder box theLatest room)), 0 ∷ 1 ∷ 3 ∷ 97 ∷ 98 ∷ 99 ∷ replicate 197 7)
+    -- in the root, in no directory, in a file
+    ∷ (map (λ (d : List ℕ). getRefusal d₁ d box theLatest 200) (root ∷ inRoot 69 ∷ (folder ++ (47 ∷ box)) ∷ folder ∷ []), 10 ∷ 10 ∷ 10 ∷ 0 ∷ [])
+    ∷ (map (λ (d : List ℕ). refusal d₁ (putIn d box 1 [])) (root ∷ inRoot 69 ∷ (folder ++ (47 ∷ box)) ∷ folder ∷ []), 0 ∷ 10 ∷ 10 ∷ 0 ∷ [])
+    -- no directory's path: nothing, no `/` before it, a `/` after it, two
+    ∷ (map (λ (d : List ℕ). refusal d₁ (putIn d box 1 [])) ([] ∷ (68 ∷ []) ∷ (folder ++ root) ∷ (47 ∷ 47 ∷ []) ∷ []), 22 ∷ 22 ∷ 22 ∷ 22 ∷ [])
+    -- eight directories and nine; 22 before 17
+    ∷ (map (λ (k : ℕ). refusal d₁ (putIn (deep k) box 1 [])) (7 ∷ 8 ∷ []) ++ (refusal d₁ (putIn (deep 8) [] 1 []) ∷ []), 10 ∷ 17 ∷ 22 ∷ [])
+    ∷ (map (λ (k : ℕ). getRefusal d₁ (deep k) box theLatest 200) (7 ∷ 8 ∷ []) ++ (getRefusal d₁ (deep 8) box theLatest 199 ∷ []), 10 ∷ 17 ∷ 22 ∷ [])
+    -- a second one fits /D, a third does not
+    ∷ (let t = after d₁ (putIn folder (66 ∷ []) 1 []) in refusal t (putIn folder (67 ∷ []) 1 []) ∷ refusal t (putIn folder (66 ∷ []) 1 []) ∷ [], 13 ∷ 0 ∷ [])
     ∷ []
 
 -- 16 revisions, the first of 200 bytes: with one more the first goes, and the file keeps its 285 bytes, 86 of records and zeros
@@ -146,6 +181,10 @@ refusals-hold : AsExpected refusals
 unfolding refusals empty last small first second box s₀ s₁ s₂ samples storeRules rules
 refusals-hold = tt
 
+folders-hold : AsExpected folders
+unfolding folders folder d₀ inside d₁ deep room box s₀ samples storeRules rules
+folders-hold = tt
+
 forms-hold : AsExpected forms
 unfolding forms sixteen numbersOf storeRules rules
 forms-hold = tt
@@ -154,5 +193,5 @@ overview-holds : AsExpected overview
 unfolding overview first box s₀ s₁ samples storeRules rules
 overview-holds = tt
 
-pub settings-cases : AsExpected puts × AsExpected gets × AsExpected refusals × AsExpected forms × AsExpected overview
-settings-cases = (puts-hold, gets-hold, refusals-hold, forms-hold, overview-holds)
+pub settings-cases : AsExpected puts × AsExpected gets × AsExpected refusals × AsExpected folders × AsExpected forms × AsExpected overview
+settings-cases = (puts-hold, gets-hold, refusals-hold, folders-hold, forms-hold, overview-holds)

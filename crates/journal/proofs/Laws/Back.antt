@@ -10,7 +10,7 @@ use Rattle.layout.specs.Check.{check}
 use Rattle.store.specs.Change.{Change}
 use Rattle.store.proofs.Laws.Sound.{KeptSound}
 use Rattle.journal.specs.Journal.{started}
-use Rattle.journal.specs.Run.{Look, checkImage, findFile, readFile, lookAt, readAttributesOf, showVolume, showEntry, getSettings, Call, change, undo, look, Answer, undone, State, recordOf, changeRefusal, changeAnswer, lookAnswer, answer, run, answers}
+use Rattle.journal.specs.Run.{Look, checkImage, findFile, readFile, lookAt, readAttributesOf, showVolume, showEntry, getSettingsIn, Call, change, undo, look, Answer, undone, State, recordOf, changeRefusal, changeAnswer, lookAnswer, answer, run, answers}
 use Rattle.journal.specs.Replay.{replayed, standingAfter, replayAnswer, standing, replayAnswers, MatchesReplay}
 use Rattle.journal.specs.Back.{undos, takenBack, countAfter, count, BackTheorem, AllAccepted}
 use Rattle.journal.proofs.Laws.Undo.{undone-none}
@@ -48,7 +48,7 @@ module _ (start : State) where
   count-look k s (readAttributesOf name buffer) = refl
   count-look k s (showVolume buffer) = refl
   count-look k s (showEntry name from buffer) = refl
-  count-look k s (getSettings serial which buffer) = refl
+  count-look k s (getSettingsIn directory serial which buffer) = refl
 
   count-call : (cs : List Change) (c : Call) → countAfter (length cs) (replayAnswer start cs c) ≡ length (standingAfter start cs c)
   unfolding replayAnswer standingAfter

@@ -11,8 +11,8 @@ use Rattle.layout.specs.Bytes.{be64, bytes4, zeros, part, splice}
 use Rattle.layout.specs.declared.reading.Filled.{Filled}
 use Rattle.layout.specs.declared.reading.Filled.the-variants.{Bytes, Refused}
 use Rattle.layout.specs.Looks.{ReadAnswer, Extent, VolumeAnswer, EntryAnswer, read, extentOf, lookInPlace, readAttributes, volumeInfo, nextEntry}
-use Rattle.store.specs.Get.{GetAnswer, gotAnswer, get}
-use Rattle.journal.specs.Run.{Call, Answer, State, change, undo, look, checkImage, findFile, readFile, lookAt, readAttributesOf, showVolume, showEntry, getSettings, filled, shown, got, described, entered, lookAnswer, answer, changeAnswer, changeRefusal, undoAnswer, undoRefusal}
+use Rattle.store.specs.Get.{GetAnswer, gotAnswer, getIn}
+use Rattle.journal.specs.Run.{Call, Answer, State, change, undo, look, checkImage, findFile, readFile, lookAt, readAttributesOf, showVolume, showEntry, getSettingsIn, filled, shown, got, described, entered, lookAnswer, answer, changeAnswer, changeRefusal, undoAnswer, undoRefusal}
 use Rattle.script.specs.Script.{opAt, nameAt, dataAt, numbers, volumeHead, entryHead, encoded, encodedItem, answerSize, itemRoom}
 use Rattle.journal.specs.Kinds.{KindCall, call, further, answerOf}
 use Rattle.write_list.specs.Runs.{lists}
@@ -64,9 +64,9 @@ answer-length p (look (readFile name offset buffer)) =
 answer-length p (look (readAttributesOf name buffer)) =
     let r : ReadAnswer = readAttributes (p .image) name buffer in
     length-append (numbers (r .number) (r .count) 0 0) (r .buffer) ∙ rw (length-numbers, attributes-length (p .image) name buffer)
-answer-length p (look (getSettings serial which buffer)) =
-    let g : GetAnswer = get (p .image) serial which buffer in
-    length-append (numbers (g .number) (g .revision) (g .size) 0) (g .buffer) ∙ rw (length-numbers, get-length (p .image) serial which buffer)
+answer-length p (look (getSettingsIn directory serial which buffer)) =
+    let g : GetAnswer = getIn (p .image) directory serial which buffer in
+    length-append (numbers (g .number) (g .revision) (g .size) 0) (g .buffer) ∙ rw (length-numbers, get-length (p .image) directory serial which buffer)
 answer-length p (look (lookAt name i)) =
     let b : List ℕ = lookInPlace (p .image) name i in
     let h : length b ≤ 512 = look-short (p .image) name i in

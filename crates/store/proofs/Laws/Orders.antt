@@ -9,7 +9,7 @@ use Rattle.volume.specs.Change as changes
 use Rattle.volume.specs.Views as views
 use Rattle.volume.specs.Views.{File, Maybe, fileOf, fileAt, SameFiles}
 use Rattle.store.specs.Put.{pathOf, opened, entryAt, rewritten, putImage, putRefusal}
-use Rattle.store.specs.Change.{Change, plain, put, refusal, after, subject}
+use Rattle.store.specs.Change.{Change, plain, putIn, refusal, after, subject}
 use Rattle.store.specs.Views.{lengthIn, openedIn, writeIn, made, madeFolder, takes, gives, givesFolder}
 use Rattle.volume.proofs.Laws.Views.{file-shown}
 use Rattle.volume.proofs.Laws.Effects.{content-length}
@@ -29,52 +29,52 @@ action c =
       gives = λ m. gives c (m .0) + givesFolder c (m .1);
     }
 
-module _ (s serial : List ℕ) (time : ℕ) (bytes : List ℕ) (ok : check s ≡ 0) (r : putRefusal s serial time bytes ≡ 0) where
+module _ (s directory serial : List ℕ) (time : ℕ) (bytes : List ℕ) (ok : check s ≡ 0) (r : putRefusal s directory serial time bytes ≡ 0) where
   abbrev t : List ℕ
-  t = opened s serial time
+  t = opened s directory serial time
 
   abbrev path : List ℕ
-  path = pathOf serial
+  path = pathOf directory serial
 
   abbrev was : Maybe File
-  was = fileAt s (pathOf serial)
+  was = fileAt s (pathOf directory serial)
 
-  opened-view : fileAt t path ≡ openedIn serial time was
+  opened-view : fileAt t path ≡ openedIn directory serial time was
   unfolding changes.after views.subject
-  opened-view = by-opened s serial time bytes ok r (λ x. fileAt x path ≡ openedIn serial time was)
-      (λ q. rw (there-shown s serial (put-serial s serial time bytes ok r) q))
-      (λ q c. created s serial time bytes ok r c .own ∙ rw (absent-shown s serial (put-serial s serial time bytes ok r) q))
+  opened-view = by-opened s directory serial time bytes ok r (λ x. fileAt x path ≡ openedIn directory serial time was)
+      (λ q. rw (there-shown s directory serial (put-serial s directory serial time bytes ok r) q))
+      (λ q c. created s directory serial time bytes ok r c .own ∙ rw (absent-shown s directory serial (put-serial s directory serial time bytes ok r) q))
 
-  size-view : sizeOf t (entryAt s serial time) ≡ lengthIn (openedIn serial time was)
+  size-view : sizeOf t (entryAt s directory serial time) ≡ lengthIn (openedIn directory serial time was)
   unfolding entryAt fileOf
   size-view =
-      let q = opened-accepted s serial time bytes ok r in
-      sym (content-length t path (opened-sound s serial time bytes ok r) q) ∙ sym (ap lengthIn (file-shown t path q)) ∙ ap lengthIn opened-view
+      let q = opened-accepted s directory serial time bytes ok r in
+      sym (content-length t path (opened-sound s directory serial time bytes ok r) q) ∙ sym (ap lengthIn (file-shown t path q)) ∙ ap lengthIn opened-view
 
-  whole-view : changes.write path 0 (rewritten s serial time bytes) time ≡ writeIn serial time bytes was
+  whole-view : changes.write path 0 (rewritten s directory serial time bytes) time ≡ writeIn directory serial time bytes was
   unfolding rewritten
-  whole-view = rw (size-view, stored-view s serial (put-serial s serial time bytes ok r))
+  whole-view = rw (size-view, stored-view s directory serial (put-serial s directory serial time bytes ok r))
 
-  pub put-own : fileAt (putImage s serial time bytes) path ≡ made (put serial time bytes) was
+  pub put-own : fileAt (putImage s directory serial time bytes) path ≡ made (putIn directory serial time bytes) was
   unfolding changes.after views.subject putImage entryAt made
-  put-own = rw (put-effect s serial time bytes ok r .own, whole-view, opened-view)
+  put-own = rw (put-effect s directory serial time bytes ok r .own, whole-view, opened-view)
 
-  put-done : Done (action (put serial time bytes)) s (putImage s serial time bytes)
+  put-done : Done (action (putIn directory serial time bytes)) s (putImage s directory serial time bytes)
   unfolding shown changes.after views.subject views.gives putImage entryAt subject madeFolder takes gives givesFolder
   put-done =
-      let W = put-effect s serial time bytes ok r in
+      let W = put-effect s directory serial time bytes ok r in
       record {
-        own = rw (put-own, put-folders s serial time bytes ok r path);
-        others = λ other ne. rw (put-others s serial time bytes ok r other ne, put-folders s serial time bytes ok r other);
-        used = W .used ∙ rw (opened-used s serial time bytes ok r, whole-view, opened-view);
-        size = put-length s serial time bytes ok r;
-        sound = put-sound s serial time bytes ok r;
+        own = rw (put-own, put-folders s directory serial time bytes ok r path);
+        others = λ other ne. rw (put-others s directory serial time bytes ok r other ne, put-folders s directory serial time bytes ok r other);
+        used = W .used ∙ rw (opened-used s directory serial time bytes ok r, whole-view, opened-view);
+        size = put-length s directory serial time bytes ok r;
+        sound = put-sound s directory serial time bytes ok r;
       }
 
 pub done : (s : List ℕ) (c : Change) → check s ≡ 0 → refusal s c ≡ 0 → Done (action c) s (after s c)
 unfolding refusal after subject made madeFolder takes gives givesFolder
 done s (plain c) ok r = volume.done s c ok r
-done s (put serial time bytes) ok r = put-done s serial time bytes ok r
+done s (putIn directory serial time bytes) ok r = put-done s directory serial time bytes ok r
 
 pub either-order : (s : List ℕ) → check s ≡ 0 → (c d : Change) → refusal s c ≡ 0 → refusal (after s c) d ≡ 0 → refusal s d ≡ 0 → refusal (after s d) c ≡ 0
     → subject c ≢ subject d → SameFiles (after (after s c) d) (after (after s d) c)

@@ -10,7 +10,7 @@ use Rattle.volume.specs.Change as changes
 use Rattle.volume.specs.Views as views
 use Rattle.volume.specs.Views.{File, Maybe, nothing, just, fileAt, folderAt, flagsIn, folderFlagsIn, NoNewFlags}
 use Rattle.store.specs.Put.{pathOf, opened, entryAt, rewritten, putImage, putRefusal}
-use Rattle.store.specs.Change.{Change, plain, put, clearFlags, refusal, after, subject}
+use Rattle.store.specs.Change.{Change, plain, putIn, clearFlags, refusal, after, subject}
 use Rattle.store.specs.Views.{made, madeFolder, takes, gives, givesFolder}
 use Rattle.volume.proofs.Laws.Content.{write-untouched}
 use Rattle.volume.proofs.Laws.Shown.{lookup-kept}
@@ -42,44 +42,44 @@ module _ (s : List ℕ) (c : Change) (ok : check s ≡ 0) (r : refusal s c ≡ 0
   used = done s c ok r .used
 
 -- of the file that a put's path shows
-put-flags : (serial : List ℕ) (time : ℕ) (bytes : List ℕ) (m : Maybe File)
-    → (flagsIn (made (put serial time bytes) m) ≡ zeros 4) ⊎ (flagsIn (made (put serial time bytes) m) ≡ flagsIn m)
+put-flags : (directory serial : List ℕ) (time : ℕ) (bytes : List ℕ) (m : Maybe File)
+    → (flagsIn (made (putIn directory serial time bytes) m) ≡ zeros 4) ⊎ (flagsIn (made (putIn directory serial time bytes) m) ≡ flagsIn m)
 unfolding made views.made bytes4 zeros
-put-flags serial time bytes nothing = inl refl
-put-flags serial time bytes (just f) = inr refl
+put-flags directory serial time bytes nothing = inl refl
+put-flags directory serial time bytes (just f) = inr refl
 
-put-stay : (serial : List ℕ) (time : ℕ) (bytes : List ℕ) (g : File) → flagsIn (made (put serial time bytes) (just g)) ≡ g .flags
+put-stay : (directory serial : List ℕ) (time : ℕ) (bytes : List ℕ) (g : File) → flagsIn (made (putIn directory serial time bytes) (just g)) ≡ g .flags
 unfolding made views.made
-put-stay serial time bytes g = refl
+put-stay directory serial time bytes g = refl
 
-module _ (s serial : List ℕ) (time : ℕ) (bytes : List ℕ) (ok : check s ≡ 0) (r : putRefusal s serial time bytes ≡ 0) where
+module _ (s directory serial : List ℕ) (time : ℕ) (bytes : List ℕ) (ok : check s ≡ 0) (r : putRefusal s directory serial time bytes ≡ 0) where
   abbrev t : List ℕ
-  t = opened s serial time
+  t = opened s directory serial time
 
   abbrev path : List ℕ
-  path = pathOf serial
+  path = pathOf directory serial
 
   abbrev s′ : List ℕ
-  s′ = putImage s serial time bytes
+  s′ = putImage s directory serial time bytes
 
   -- look up, the slot too: as of the create and of the write
   opened-lookup : (other : List ℕ) → other ≢ path → lookup t other ≡ lookup s other
   unfolding changes.refusal changes.after views.subject
-  opened-lookup other ne = by-opened s serial time bytes ok r (λ x. lookup x other ≡ lookup s other) (λ q. refl) (λ q c. volume.others-lookup s ok (changes.create path 0x60 0 0 0 0 time) c other ne)
+  opened-lookup other ne = by-opened s directory serial time bytes ok r (λ x. lookup x other ≡ lookup s other) (λ q. refl) (λ q c. volume.others-lookup s ok (changes.create path 0x60 0 0 0 0 time) c other ne)
 
   put-lookup : (other : List ℕ) → other ≢ path → lookup s′ other ≡ lookup s other
   unfolding putImage entryAt
   put-lookup other ne =
-      let ok′ = opened-sound s serial time bytes ok r in
-      lookup-kept t s′ other ok′ (put-sound s serial time bytes ok r)
-      (λ good. write-untouched t path other ok′ good ne 0 (rewritten s serial time bytes) time (put-given s serial time bytes ok r)) ∙ opened-lookup other ne
+      let ok′ = opened-sound s directory serial time bytes ok r in
+      lookup-kept t s′ other ok′ (put-sound s directory serial time bytes ok r)
+      (λ good. write-untouched t path other ok′ good ne 0 (rewritten s directory serial time bytes) time (put-given s directory serial time bytes ok r)) ∙ opened-lookup other ne
 
   put-flags-at : (other : List ℕ) → (other ≡ path) ⊎ (other ≢ path) → (flagsIn (fileAt s′ other) ≡ zeros 4) ⊎ (flagsIn (fileAt s′ other) ≡ flagsIn (fileAt s other))
-  put-flags-at other (inl e) = rw (e, put-own s serial time bytes ok r) (put-flags serial time bytes (fileAt s path))
-  put-flags-at other (inr ne) = inr (ap flagsIn (put-others s serial time bytes ok r other ne))
+  put-flags-at other (inl e) = rw (e, put-own s directory serial time bytes ok r) (put-flags directory serial time bytes (fileAt s path))
+  put-flags-at other (inr ne) = inr (ap flagsIn (put-others s directory serial time bytes ok r other ne))
 
   put-no-new : NoNewFlags s s′
-  put-no-new = record { files = λ other. put-flags-at other (same-or-not other path); folders = λ other. inr (ap folderFlagsIn (put-folders s serial time bytes ok r other)) }
+  put-no-new = record { files = λ other. put-flags-at other (same-or-not other path); folders = λ other. inr (ap folderFlagsIn (put-folders s directory serial time bytes ok r other)) }
 
   put-flags-stay : (other : List ℕ) (f g : File) → fileAt s other ≡ just g → fileAt s′ other ≡ just f → f .flags ≡ g .flags
   put-flags-stay other f g was now = go (same-or-not other path)
@@ -88,21 +88,21 @@ module _ (s serial : List ℕ) (time : ℕ) (bytes : List ℕ) (ok : check s ≡
       go (inl e) =
           let q : fileAt s path ≡ just g = rw e at was in
           let p : fileAt s′ path ≡ just f = rw e at now in
-          ap flagsIn (sym p ∙ put-own s serial time bytes ok r ∙ ap (made (put serial time bytes)) q) ∙ put-stay serial time bytes g
-      go (inr ne) = ap flagsIn (sym now ∙ put-others s serial time bytes ok r other ne ∙ was)
+          ap flagsIn (sym p ∙ put-own s directory serial time bytes ok r ∙ ap (made (putIn directory serial time bytes)) q) ∙ put-stay directory serial time bytes g
+      go (inr ne) = ap flagsIn (sym now ∙ put-others s directory serial time bytes ok r other ne ∙ was)
 
 pub others-lookup : (s : List ℕ) (c : Change) → check s ≡ 0 → refusal s c ≡ 0 → (other : List ℕ) → other ≢ subject c → lookup (after s c) other ≡ lookup s other
 unfolding refusal after subject
 others-lookup s (plain c) ok r = volume.others-lookup s ok c r
-others-lookup s (put serial time bytes) ok r = put-lookup s serial time bytes ok r
+others-lookup s (putIn directory serial time bytes) ok r = put-lookup s directory serial time bytes ok r
 
 pub no-new-flags : (s : List ℕ) (c : Change) → check s ≡ 0 → refusal s c ≡ 0 → NoNewFlags s (after s c)
 unfolding refusal after
 no-new-flags s (plain c) ok r = volume.no-new-flags s ok c r
-no-new-flags s (put serial time bytes) ok r = put-no-new s serial time bytes ok r
+no-new-flags s (putIn directory serial time bytes) ok r = put-no-new s directory serial time bytes ok r
 
 pub flags-stay : (s : List ℕ) (c : Change) → check s ≡ 0 → refusal s c ≡ 0
     → (path : List ℕ) (f g : File) → fileAt s path ≡ just g → fileAt (after s c) path ≡ just f → c ≢ clearFlags path → f .flags ≡ g .flags
 unfolding refusal after
 flags-stay s (plain c) ok r path f g was now ne = volume.flags-stay s ok c r path f g was now (λ z. ne (ap plain z))
-flags-stay s (put serial time bytes) ok r path f g was now ne = put-flags-stay s serial time bytes ok r path f g was now
+flags-stay s (putIn directory serial time bytes) ok r path f g was now ne = put-flags-stay s directory serial time bytes ok r path f g was now

@@ -3,7 +3,7 @@ use Prim.Native.Nat.{ℕ}
 use mathlib.Core.Path.{_≡_}
 use mathlib.Core.List.{List}
 use Rattle.layout.specs.Check.{check}
-use Rattle.store.specs.Change.{Change, plain, put, refusal, after}
+use Rattle.store.specs.Change.{Change, plain, putIn, refusal, after}
 use Rattle.volume.proofs.Laws.Sound as volume
 use Rattle.store.proofs.Laws.Put.{put-sound}
 
@@ -13,4 +13,4 @@ KeptSound = (s : List ℕ) (c : Change) → check s ≡ 0 → refusal s c ≡ 0 
 pub kept : KeptSound
 unfolding refusal after
 kept s (plain c) ok r = volume.kept s c ok r
-kept s (put serial time bytes) ok r = put-sound s serial time bytes ok r
+kept s (putIn directory serial time bytes) ok r = put-sound s directory serial time bytes ok r

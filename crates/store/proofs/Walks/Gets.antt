@@ -1,27 +1,25 @@
 -- Each exit of a get.
-use Prim.Native.Nat.{ℕ, _+_, _-_, _*_, _≤_, _<_}
+use Prim.Native.Nat.{ℕ, _-_, _*_, _≤_}
 use mathlib.Core.Path.{_≡_, refl, sym, ap, _∙_}
 use mathlib.Core.Bool.{Bool, true, false, not, cond}
-use mathlib.Core.List.{List, _∷_, _++_}
+use mathlib.Core.List.{List}
 use native.Mathlib.Omega.{arith}
-use borrow.Author.Tests.{le-leb, lt-leb}
-use lib.ListN.{length, length-append}
-use lib.Dec.{eqb}
-use Rattle.layout.specs.Lists.{within}
+use lib.ListN.{length}
+use lib.Dec.{eqb, leb}
 use Rattle.layout.specs.Refusals.{require}
-use Rattle.layout.specs.Bytes.{zeros, splice}
-use Rattle.layout.specs.Directory.{isFile, slash, fileBlocks, content}
+use Rattle.layout.specs.Bytes.{splice}
+use Rattle.layout.specs.Directory.{isFile, fileBlocks, content}
 use Rattle.layout.specs.Check.{check}
 use Rattle.layout.specs.Paths.{pathSlot, entryOf, fileRefusal}
 use Rattle.layout.specs.Walks.Looks.{Located}
-use Rattle.layout.proofs.Laws.Bytes.{length-zeros}
 use Rattle.layout.proofs.Laws.Looks.{path-file}
-use Rattle.layout.proofs.Laws.Tests.{and-split, within-split, is-false, firstOf-refused, accept-refused}
+use Rattle.layout.proofs.Laws.Tests.{is-false, firstOf-refused, accept-refused}
 use Rattle.store.specs.Settings.{maxSetting, Revision, Found, broken, held, revisions, latest}
-use Rattle.store.specs.Put.{serialOk, pathOf, isThere, stored}
-use Rattle.store.specs.Get.{Which, wanted, stands, dataOf, GetAnswer, gotAnswer, getRefusal, get}
+use Rattle.store.specs.Put.{pathOf, addressRefusal, isThere, stored}
+use Rattle.store.specs.Get.{Which, wanted, stands, dataOf, GetAnswer, gotAnswer, getRefusal, getIn}
 use Rattle.store.specs.Walks.Forms.{bytesOf, which, sought}
-use Rattle.store.proofs.Laws.Serials.{serial-path, serial-shallow, there-accepted}
+use Rattle.store.specs.Walks.Addresses.{Addressed}
+use Rattle.store.proofs.Laws.Serials.{addressed, serial-path, serial-shallow, there-accepted}
 
 pub wanted-is : (newest : Bool) (revision : ℕ) (rs : List Revision) (last x : ℕ) → last ≡ latest rs → x ≡ cond newest last revision → x ≡ wanted rs (which newest revision)
 wanted-is true revision rs last x e q = q ∙ e
@@ -44,43 +42,41 @@ module _ (found : Found) (w : Which) (buffer : List ℕ) where
     sought-found size t s l b = let g : stands (wanted rs w) rs ≡ true = rw (← q) s in rw (l, b, q, e, g)
 
 -- of an image
-module _ (s serial : List ℕ) (w : Which) (buffer : List ℕ) where
-  refusing : (k : ℕ) → k ≡ getRefusal s serial w (length buffer) → (k ≡ 0 → ⊥) → gotAnswer k 0 0 buffer ≡ get s serial w buffer
-  unfolding get
-  refusing k e n = sym (accept-refused (getRefusal s serial w (length buffer)) _ _ (λ z. n (e ∙ z)) ∙ ap (λ (j : ℕ). gotAnswer j 0 0 buffer) (sym e))
+module _ (s directory serial : List ℕ) (w : Which) (buffer : List ℕ) where
+  refusing : (k : ℕ) → k ≡ getRefusal s directory serial w (length buffer) → (k ≡ 0 → ⊥) → gotAnswer k 0 0 buffer ≡ getIn s directory serial w buffer
+  unfolding getIn
+  refusing k e n = sym (accept-refused (getRefusal s directory serial w (length buffer)) _ _ (λ z. n (e ∙ z)) ∙ ap (λ (j : ℕ). gotAnswer j 0 0 buffer) (sym e))
 
-  pub got-check : (k : ℕ) → k ≡ check s → (k ≡ 0 → ⊥) → gotAnswer k 0 0 buffer ≡ get s serial w buffer
+  pub got-check : (k : ℕ) → k ≡ check s → (k ≡ 0 → ⊥) → gotAnswer k 0 0 buffer ≡ getIn s directory serial w buffer
   unfolding getRefusal
   got-check k e n = refusing k (rw (← e) (sym (firstOf-refused k _ n))) n
 
   module _ (ok : check s ≡ 0) where
-    pub got-serial : serialOk serial ≡ false → gotAnswer 22 0 0 buffer ≡ get s serial w buffer
+    pub got-address : (k : ℕ) → k ≡ addressRefusal directory serial (leb maxSetting (length buffer)) → (k ≡ 0 → ⊥) → gotAnswer k 0 0 buffer ≡ getIn s directory serial w buffer
     unfolding getRefusal
-    got-serial f = refusing 22 (rw (ok, f)) (λ z. omega arith)
+    got-address k e n = refusing k (rw (ok, ← e) (sym (firstOf-refused k _ n))) n
 
-    module _ (t : serialOk serial ≡ true) where
-      pub got-short : length buffer < maxSetting → gotAnswer 22 0 0 buffer ≡ get s serial w buffer
+    module _ (a : addressRefusal directory serial (leb maxSetting (length buffer)) ≡ 0) where
+      t : Addressed directory serial
+      t = addressed directory serial (leb maxSetting (length buffer)) a .0
+
+      pub got-none : (fileRefusal s (pathOf directory serial) ≡ 0 → ⊥) → gotAnswer 10 0 0 buffer ≡ getIn s directory serial w buffer
       unfolding getRefusal
-      got-short h = refusing 22 (rw (ok, t, lt-leb maxSetting (length buffer) h)) (λ z. omega arith)
+      got-none n =
+          let f : isThere s directory serial ≡ false = is-false (isThere s directory serial) (λ q. n (there-accepted s directory serial t q)) in
+          refusing 10 (rw (ok, a, f)) (λ z. omega arith)
 
-      module _ (h : maxSetting ≤ length buffer) where
-        pub got-none : (fileRefusal s (pathOf serial) ≡ 0 → ⊥) → gotAnswer 10 0 0 buffer ≡ get s serial w buffer
-        unfolding getRefusal
-        got-none n =
-            let f : isThere s serial ≡ false = is-false (isThere s serial) (λ q. n (there-accepted s serial t q)) in
-            refusing 10 (rw (ok, t, le-leb maxSetting (length buffer) h, f)) (λ z. omega arith)
+      there : fileRefusal s (pathOf directory serial) ≡ 0 → isThere s directory serial ≡ true
+      unfolding fileRefusal isThere
+      there z = go (not (eqb (pathSlot isFile s (pathOf directory serial)) 0)) (rw (serial-path directory serial t, serial-shallow directory serial t) at z)
+        where
+          go : (b : Bool) → require b 10 0 ≡ 0 → b ≡ true
+          go true z = refl
+          go false z = absurd (omega arith)
 
-        there : fileRefusal s (pathOf serial) ≡ 0 → isThere s serial ≡ true
-        unfolding fileRefusal isThere
-        there z = go (not (eqb (pathSlot isFile s (pathOf serial)) 0)) (rw (serial-path serial t, serial-shallow serial t) at z)
-          where
-            go : (b : Bool) → require b 10 0 ≡ 0 → b ≡ true
-            go true z = refl
-            go false z = absurd (omega arith)
-
-        pub got-file : fileRefusal s (pathOf serial) ≡ 0 → (c : List ℕ) → c ≡ content s (entryOf isFile s (pathOf serial)) → sought (revisions c) w buffer ≡ get s serial w buffer
-        unfolding sought get getRefusal stored
-        got-file z c e = rw (e, ok, t, le-leb maxSetting (length buffer) h, there z)
+      pub got-file : fileRefusal s (pathOf directory serial) ≡ 0 → (c : List ℕ) → c ≡ content s (entryOf isFile s (pathOf directory serial)) → sought (revisions c) w buffer ≡ getIn s directory serial w buffer
+      unfolding sought getIn getRefusal stored
+      got-file z c e = rw (e, ok, a, there z)
 
 -- the file of an entry that was found
 module _ {s path : List ℕ} {slot b first size blocks : ℕ} (l : Located isFile s path slot b first size blocks) where
@@ -99,14 +95,3 @@ module _ {s path : List ℕ} {slot b first size blocks : ℕ} (l : Located isFil
 pub answer-refused : (k number revision length : ℕ) (buffer : List ℕ) (a : GetAnswer) → (number ≡ k) × (revision ≡ 0) × (length ≡ 0) → gotAnswer k 0 0 buffer ≡ a
     → gotAnswer number revision length buffer ≡ a
 answer-refused k number revision length buffer a e q = rw (e .0, e .1, e .2) q
-
--- a serial number and its path, by their lengths
-pub serial-length : (serial : List ℕ) → serialOk serial ≡ true → length serial ≤ 16
-unfolding serialOk
-serial-length serial t = within-split 1 16 (length serial) (and-split (within 1 16 (length serial)) _ t .0) .1
-
-pub path-length : (serial r : List ℕ) → length serial ≤ 16 → r ≡ slash ∷ (serial ++ zeros (16 - length serial)) → length r ≡ 17
-path-length serial r h e =
-    let l = length-append serial (zeros (16 - length serial)) in
-    let z = length-zeros (16 - length serial) in
-    ap length e ∙ omega arith

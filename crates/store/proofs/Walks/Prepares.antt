@@ -22,8 +22,9 @@ use Rattle.volume.specs.Write.{writeAt, writeNamed, writeAtRefusal}
 use Rattle.volume.specs.Walks.Places.{Searched}
 use Rattle.volume.specs.Walks.Targets.{Standing}
 use Rattle.store.specs.Settings.{maxSetting, Revision, Found, broken, held, revisions, latest}
-use Rattle.store.specs.Put.{serialOk, pathOf, isThere, putImage, putNamed, putRevision, formRefusal, putRefusal}
+use Rattle.store.specs.Put.{pathOf, isThere, putImage, putNamed, putRevision, formRefusal, putRefusal}
 use Rattle.store.specs.Walks.Puts.{heldAt, rewrittenAt, moreRefusal, firstRefusal, Weighed, PutTarget, PutPrepared}
+use Rattle.store.specs.Walks.Addresses.{Addressed}
 use Rattle.layout.proofs.Laws.Tests.{and-split, within-split, firstOf-zero, firstOf-refused, true-not-false}
 use Rattle.layout.proofs.Laws.Sound.{sound}
 use Rattle.layout.proofs.Laws.Owners.{free-count}
@@ -85,33 +86,33 @@ form-long c z = go (revisions c) refl z
     go broken q y = absurd (omega arith)
     go (held rs) q y = held-long c rs q
 
-module _ (s serial : List ℕ) (time : ℕ) (bytes : List ℕ) where
-  pub prepared-refused : (number slot b first size blocks : ℕ) → number ≡ putRefusal s serial time bytes → (number ≡ 0 → ⊥) → PutPrepared s serial time bytes number slot b first size blocks
+module _ (s directory serial : List ℕ) (time : ℕ) (bytes : List ℕ) where
+  pub prepared-refused : (number slot b first size blocks : ℕ) → number ≡ putRefusal s directory serial time bytes → (number ≡ 0 → ⊥) → PutPrepared s directory serial time bytes number slot b first size blocks
   prepared-refused number slot b first size blocks q h = record { number-is = q; target = λ z. absurd (h z) }
 
-  module _ (right : serialOk serial ≡ true) (short : length bytes ≤ maxSetting) (ok : check s ≡ 0) where
+  module _ (right : Addressed directory serial) (short : length bytes ≤ maxSetting) (ok : check s ≡ 0) where
     -- there is no file
-    pub prepared-first : isThere s serial ≡ false → (number slot b first size blocks : ℕ) → Searched s (pathOf serial) (firstRefusal s (pathOf serial)) number first slot b → size ≡ 0
-        → PutPrepared s serial time bytes number slot b first size blocks
+    pub prepared-first : isThere s directory serial ≡ false → (number slot b first size blocks : ℕ) → Searched s (pathOf directory serial) (firstRefusal s (pathOf directory serial)) number first slot b → size ≡ 0
+        → PutPrepared s directory serial time bytes number slot b first size blocks
     prepared-first absent number slot b first size blocks S z =
         record {
-          number-is = S .number-is ∙ sym (absent-refusal s serial time bytes right short absent ok);
+          number-is = S .number-is ∙ sym (absent-refusal s directory serial time bytes right short absent ok);
           target = λ y. record { file = λ t. absurd (true-not-false t absent); place = λ a. (S .vacant y, z) };
         }
 
     -- there is one
-    module _ (there : isThere s serial ≡ true) {slot b first size blocks : ℕ} (L : Located isFile s (pathOf serial) slot b first size blocks) where
-      pub there-more : putRefusal s serial time bytes ≡ moreRefusal s (slots.entryAt b slot) bytes
-      there-more = there-refusal s serial time bytes right short there ∙ ap (λ (x : ℕ). moreRefusal s x bytes) (sym (L .place))
+    module _ (there : isThere s directory serial ≡ true) {slot b first size blocks : ℕ} (L : Located isFile s (pathOf directory serial) slot b first size blocks) where
+      pub there-more : putRefusal s directory serial time bytes ≡ moreRefusal s (slots.entryAt b slot) bytes
+      there-more = there-refusal s directory serial time bytes right short there ∙ ap (λ (x : ℕ). moreRefusal s x bytes) (sym (L .place))
 
       some : moreRefusal s (slots.entryAt b slot) bytes ≡ 0 → 0 < size
       unfolding moreRefusal
       some r =
           let f = firstOf-zero (formRefusal (revisions (content s (slots.entryAt b slot)))) _ r .0 in
-          let l : length (content s (slots.entryAt b slot)) ≡ size = rw (L .place) (content-length s (pathOf serial) ok (there-accepted s serial right there)) ∙ sym (L .bytes) in
+          let l : length (content s (slots.entryAt b slot)) ≡ size = rw (L .place) (content-length s (pathOf directory serial) ok (there-accepted s directory serial right there)) ∙ sym (L .bytes) in
           omega (arith, form-long (content s (slots.entryAt b slot)) f, l)
 
-      pub prepared-more : (number : ℕ) → number ≡ 0 → 0 ≡ moreRefusal s (slots.entryAt b slot) bytes → PutPrepared s serial time bytes number slot b first size blocks
+      pub prepared-more : (number : ℕ) → number ≡ 0 → 0 ≡ moreRefusal s (slots.entryAt b slot) bytes → PutPrepared s directory serial time bytes number slot b first size blocks
       prepared-more number z r =
           record {
             number-is = z ∙ r ∙ sym there-more;
@@ -119,48 +120,48 @@ module _ (s serial : List ℕ) (time : ℕ) (bytes : List ℕ) where
           }
 
 -- AN ACCEPTED PUT, by the size that was found
-module _ {s serial : List ℕ} {slot b first size blocks : ℕ} (T : PutTarget s serial slot b first size blocks) where
-  pub target-absent : size ≡ 0 → isThere s serial ≡ false
-  target-absent z = go (isThere s serial) refl
+module _ {s directory serial : List ℕ} {slot b first size blocks : ℕ} (T : PutTarget s directory serial slot b first size blocks) where
+  pub target-absent : size ≡ 0 → isThere s directory serial ≡ false
+  target-absent z = go (isThere s directory serial) refl
     where
-      go : (x : Bool) → isThere s serial ≡ x → x ≡ false
+      go : (x : Bool) → isThere s directory serial ≡ x → x ≡ false
       go true q = absurd (omega (arith, T .file q .1))
       go false q = refl
 
-  pub target-there : (size ≡ 0 → ⊥) → isThere s serial ≡ true
-  target-there h = go (isThere s serial) refl
+  pub target-there : (size ≡ 0 → ⊥) → isThere s directory serial ≡ true
+  target-there h = go (isThere s directory serial) refl
     where
-      go : (x : Bool) → isThere s serial ≡ x → x ≡ true
+      go : (x : Bool) → isThere s directory serial ≡ x → x ≡ true
       go true q = refl
       go false q = absurd (h (T .place q .1))
 
-  module _ (time : ℕ) (bytes : List ℕ) (ok : check s ≡ 0) (r : putRefusal s serial time bytes ≡ 0) (some : size ≡ 0 → ⊥) where
-    right : serialOk serial ≡ true
-    right = put-serial s serial time bytes ok r
+  module _ (time : ℕ) (bytes : List ℕ) (ok : check s ≡ 0) (r : putRefusal s directory serial time bytes ≡ 0) (some : size ≡ 0 → ⊥) where
+    right : Addressed directory serial
+    right = put-serial s directory serial time bytes ok r
 
-    there : isThere s serial ≡ true
+    there : isThere s directory serial ≡ true
     there = target-there some
 
-    L : Located isFile s (pathOf serial) slot b first size blocks
+    L : Located isFile s (pathOf directory serial) slot b first size blocks
     L = T .file there .0
 
     pub target-short : length bytes ≤ maxSetting
-    target-short = put-short s serial time bytes ok r
+    target-short = put-short s directory serial time bytes ok r
 
     pub target-standing : Standing s (fileRefusal s) slot b first size blocks
-    target-standing = record { path = pathOf serial; accepted = there-accepted s serial right there; located = L }
+    target-standing = record { path = pathOf directory serial; accepted = there-accepted s directory serial right there; located = L }
 
     pub target-given : moreRefusal s (slots.entryAt b slot) bytes ≡ 0
-    target-given = sym (there-more s serial time bytes right target-short ok there L) ∙ r
+    target-given = sym (there-more s directory serial time bytes right target-short ok there L) ∙ r
 
-    pub target-named : writeNamed s (slots.entryAt b slot) 0 (length (rewrittenAt s (slots.entryAt b slot) bytes)) ≡ putNamed s serial time bytes
+    pub target-named : writeNamed s (slots.entryAt b slot) 0 (length (rewrittenAt s (slots.entryAt b slot) bytes)) ≡ putNamed s directory serial time bytes
     unfolding putNamed
-    target-named = rw (L .place, there-rewritten s serial time bytes right target-short there, there-entry s serial time bytes right target-short there, there-opened s serial time bytes right target-short there)
+    target-named = rw (L .place, there-rewritten s directory serial time bytes right target-short there, there-entry s directory serial time bytes right target-short there, there-opened s directory serial time bytes right target-short there)
 
-    pub target-image : writeAt s (slots.entryAt b slot) 0 (rewrittenAt s (slots.entryAt b slot) bytes) time ≡ putImage s serial time bytes
+    pub target-image : writeAt s (slots.entryAt b slot) 0 (rewrittenAt s (slots.entryAt b slot) bytes) time ≡ putImage s directory serial time bytes
     unfolding putImage
-    target-image = rw (L .place, there-rewritten s serial time bytes right target-short there, there-entry s serial time bytes right target-short there, there-opened s serial time bytes right target-short there)
+    target-image = rw (L .place, there-rewritten s directory serial time bytes right target-short there, there-entry s directory serial time bytes right target-short there, there-opened s directory serial time bytes right target-short there)
 
-    pub target-revision : suc (latest (heldAt s (slots.entryAt b slot))) ≡ putRevision s serial
+    pub target-revision : suc (latest (heldAt s (slots.entryAt b slot))) ≡ putRevision s directory serial
     unfolding putRevision
-    target-revision = rw (L .place, there-stored s serial time bytes right target-short there)
+    target-revision = rw (L .place, there-stored s directory serial time bytes right target-short there)

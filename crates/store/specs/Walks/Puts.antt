@@ -27,7 +27,7 @@ rewrittenAt s e bytes = encoded (added (heldAt s e) bytes) (sizeOf s e)
 unfoldable pub moreRefusal : List ℕ → ℕ → List ℕ → ℕ
 moreRefusal s e bytes = firstOf (formRefusal (revisions (content s e))) (writeAtRefusal s e 0 (length (rewrittenAt s e bytes)))
 
--- 11, 13 and 14, of a put that makes its file: it needs one block
+-- 10, 11, 13 and 14, of a put that makes its file: it needs one block
 unfoldable pub firstRefusal : List ℕ → List ℕ → ℕ
 firstRefusal s path = firstOf (placeRefusal s path) (require (leb 1 (length (freeBlocks (next s) (blockCount s)))) 14 0)
 
@@ -37,12 +37,12 @@ pub record Weighed (s : List ℕ) (e : ℕ) (bytes : List ℕ) (number size : �
   pub size-is : number ≡ 0 → size ≡ length (rewrittenAt s e bytes)
   pub small : number ≡ 0 → size < 4294967296
 
--- the file that is there, which is of the form and so has bytes; or the free place in the root, whose size is 0 and whose `first` is the root's first block
-pub record PutTarget (s serial : List ℕ) (slot block first size blocks : ℕ) : Type 0 where
-  pub file : isThere s serial ≡ true → Located isFile s (pathOf serial) slot block first size blocks × (0 < size)
-  pub place : isThere s serial ≡ false → Vacant s (pathOf serial) first slot block × (size ≡ 0)
+-- the file that is there, which is of the form and so has bytes; or the free place in the directory, whose size is 0 and whose `first` is the directory's first block
+pub record PutTarget (s directory serial : List ℕ) (slot block first size blocks : ℕ) : Type 0 where
+  pub file : isThere s directory serial ≡ true → Located isFile s (pathOf directory serial) slot block first size blocks × (0 < size)
+  pub place : isThere s directory serial ≡ false → Vacant s (pathOf directory serial) first slot block × (size ≡ 0)
 
 -- what preparing a put gives: the number of its refusal, and if that is 0, where its entry is
-pub record PutPrepared (s serial : List ℕ) (time : ℕ) (bytes : List ℕ) (number slot block first size blocks : ℕ) : Type 0 where
-  pub number-is : number ≡ putRefusal s serial time bytes
-  pub target : number ≡ 0 → PutTarget s serial slot block first size blocks
+pub record PutPrepared (s directory serial : List ℕ) (time : ℕ) (bytes : List ℕ) (number slot block first size blocks : ℕ) : Type 0 where
+  pub number-is : number ≡ putRefusal s directory serial time bytes
+  pub target : number ≡ 0 → PutTarget s directory serial slot block first size blocks

@@ -8,6 +8,9 @@ use Rattle.append.proofs.call.append_nothing.Tie as tie
 slice-aggregate-refusal : tie.Need-slice-aggregate-refusal
 slice-aggregate-refusal c = search needs
 
+slice-aggregate-refusal-2 : tie.Need-slice-aggregate-refusal-2
+slice-aggregate-refusal-2 c = search needs
+
 refusal-requires : tie.Need-refusal-requires
 refusal-requires c κs = search needs
 
@@ -19,4 +22,4 @@ returns-2 c = (ap (λ (x : ℕ). changed x 0 0) (sym (c .if1 .left) ∙ c .befor
 
 pub append-nothing-spec : {M : Type 1} → statement M
 append-nothing-spec =
-    tie.close (tie.spec slice-aggregate-refusal refusal-requires returns returns-2)
+    tie.close (tie.spec slice-aggregate-refusal slice-aggregate-refusal-2 refusal-requires returns returns-2)

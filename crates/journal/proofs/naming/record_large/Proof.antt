@@ -13,7 +13,7 @@ slice-aggregate-record-with c = search needs
 
 record-with-requires : tie.Need-record-with-requires
 record-with-requires c κs =
-    let p = c .before .before .before .before .before .before .before .pre in
+    let p = c .before .before .before .before .before .before .before .before .pre in
     let f = zeros-own _ _ (c .before .before .no-marks .ensures) in
     (p .0, p .1, p .2, omega (arith, f .0, sound _ (p .0 .sound) .most), f .1)
 

@@ -10,7 +10,7 @@ enum-known-what c = search needs
 make-requires : tie.Need-make-requires
 unfolding refusal Target
 make-requires c κs =
-    let p = c .before .before .before .before .before .before .before .pre in
+    let p = c .before .before .before .before .before .before .before .before .pre in
     let given = c .before .before .what .given .1 in
     (p .0, rw given at (p .1), rw given at (p .2))
 
@@ -20,7 +20,7 @@ enum-known-what-2 c = search needs
 put-requires : tie.Need-put-requires
 unfolding refusal Target
 put-requires c κs =
-    let p = c .before .before .before .before .before .before .before .pre in
+    let p = c .before .before .before .before .before .before .before .before .pre in
     let given = c .before .before .what2 .given .1 in
     (p .0, rw given at (p .1), rw given at (p .2))
 

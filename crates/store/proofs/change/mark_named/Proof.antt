@@ -10,7 +10,7 @@ enum-known-what c = search needs
 mark-named-requires : tie.Need-mark-named-requires
 unfolding refusal Target
 mark-named-requires c κs =
-    let p = c .before .before .before .before .before .before .before .before .pre in
+    let p = c .before .before .before .before .before .before .before .before .before .pre in
     let given = c .before .before .what .given .1 in
     (p .0, rw given at (p .1), rw given at (p .2), p .3)
 
@@ -20,7 +20,7 @@ enum-known-what-2 c = search needs
 put-named-requires : tie.Need-put-named-requires
 unfolding refusal Target
 put-named-requires c κs =
-    let p = c .before .before .before .before .before .before .before .before .pre in
+    let p = c .before .before .before .before .before .before .before .before .before .pre in
     let given = c .before .before .what2 .given .1 in
     (p .0, rw given at (p .1), rw given at (p .2), p .3)
 

@@ -1,8 +1,8 @@
 use mathlib.Core.Path.{sym, _∙_}
 use Rattle.journal.proofs.Walks.Changes.{ready, change-unready}
 use borrow.Author.Needs.{needs}
-use Rattle.journal.proofs.calls.change.Statement.{statement}
-use Rattle.journal.proofs.calls.change.Tie as tie
+use Rattle.journal.proofs.calls.change_in.Statement.{statement}
+use Rattle.journal.proofs.calls.change_in.Tie as tie
 
 ready-refusal-requires : tie.Need-ready-refusal-requires
 ready-refusal-requires c κs = search needs
@@ -18,8 +18,8 @@ returns c =
     let d = change-unready _ _ _ _ (c .before .ready-refusal .ensures) (c .if1 .taken) in
     (d .0, (d .1, c .if1 .taken))
 
-change-ready-requires : tie.Need-change-ready-requires
-change-ready-requires c κs =
+change-ready-in-requires : tie.Need-change-ready-in-requires
+change-ready-in-requires c κs =
     let r = c .before .before in
     ready _ _ (sym (r .before .ready-refusal .ensures) ∙ r .if1 .left)
 
@@ -32,15 +32,15 @@ same-length-4 c = search needs
 returns-2 : tie.Need-returns-2
 returns-2 c = search needs
 
-pub change-spec : {M : Type 1} → statement M
-change-spec =
+pub change-in-spec : {M : Type 1} → statement M
+change-in-spec =
     tie.close
     (tie.spec
     ready-refusal-requires
     same-length
     same-length-2
     returns
-    change-ready-requires
+    change-ready-in-requires
     same-length-3
     same-length-4
     returns-2)
