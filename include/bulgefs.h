@@ -228,7 +228,8 @@ enum bulgefs_number {
     BULGEFS_NO_REVISION     = 23, /* gets: no such revision stands; after 24           */
     BULGEFS_NOT_SETTINGS    = 24, /* the file is not one of settings; after 12         */
     BULGEFS_REVISIONS_USED  = 25, /* puts: revision numbers are used up; after 23      */
-    BULGEFS_BAD_FLAGS       = 26  /* creates: flags other than 0; just after 17        */
+    BULGEFS_BAD_FLAGS       = 26, /* creates: flags other than 0; just after 17        */
+    BULGEFS_NO_MARK         = 27  /* undo to a mark: the journal had no such length    */
 };
 
 /* What bulgefs_salvage did with a slot of the root. */
@@ -280,6 +281,7 @@ BULGEFS_INLINE const char *bulgefs_text(uint32_t number)
     case BULGEFS_NOT_SETTINGS:    return "file is not one of settings";
     case BULGEFS_REVISIONS_USED:  return "revision numbers are used up";
     case BULGEFS_BAD_FLAGS:       return "system flags are not zero";
+    case BULGEFS_NO_MARK:         return "no such mark in the journal";
     default:                      return "no such number";
     }
 }
@@ -326,6 +328,15 @@ typedef struct { uint32_t number, record; } bulgefs_changed;
  * BULGEFS_OK all of them were done.
  */
 typedef struct { uint32_t number, done; } bulgefs_listed;
+
+/*
+ * A journal: its used length, which is a mark, the number of records that stand,
+ * and the length of the last one, 0 if there is none.
+ */
+typedef struct { uint32_t number, used, records, last; } bulgefs_journal;
+
+/* How many changes were taken back by an undo to a mark. */
+typedef struct { uint32_t number, done; } bulgefs_backed;
 
 /* The revision that was put, and the length of the record added to the journal. */
 typedef struct { uint32_t number, revision, record; } bulgefs_put;
@@ -746,6 +757,36 @@ bulgefs_got bulgefs_get_latest_settings_in(const uint8_t *image, size_t image_le
 BULGEFS_CHECKED
 bulgefs_changed bulgefs_undo(uint8_t *image, size_t image_len,
                              uint8_t *journal, size_t journal_len);
+
+/*
+ * A mark of a journal just started: undo to it takes every change back.
+ */
+#define BULGEFS_FIRST_MARK 5u
+
+/*
+ * What stands in a journal.  used is a mark: note it, and bulgefs_undo_to takes
+ * back what was changed since.
+ * Refusals: 1 to 7, BULGEFS_BAD_JOURNAL.
+ */
+BULGEFS_CHECKED
+bulgefs_journal bulgefs_journal_info(const uint8_t *image, size_t image_len,
+                                     const uint8_t *journal, size_t journal_len);
+
+/*
+ * Takes the last change back again and again until the journal's used length is
+ * mark, with one check of the image for all of them, and answers how many were
+ * taken back.  A mark is a used length that the journal had after none or more
+ * of the records that stand in it: BULGEFS_FIRST_MARK, or what
+ * bulgefs_journal_info answered.  If the changes that stood then still stand,
+ * image and journal are then, byte for byte, what they were at that moment; if
+ * some were undone meanwhile, the mark may be gone (BULGEFS_NO_MARK), or another
+ * change may end there.
+ * The journal must be the image's own, as for bulgefs_undo.
+ * Refusals: 1 to 7, BULGEFS_BAD_JOURNAL, BULGEFS_NO_MARK.
+ */
+BULGEFS_CHECKED
+bulgefs_backed bulgefs_undo_to(uint8_t *image, size_t image_len,
+                               uint8_t *journal, size_t journal_len, uint32_t mark);
 
 /*
  * The chain table as numbers: entry b stands at entries[b], one for each of

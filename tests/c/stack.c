@@ -29,6 +29,8 @@ static void plain_check(void) { number = bulgefs_plain_check(image, image_len); 
 static void lookup(void) { number = bulgefs_lookup(image, image_len, path, 2).number; }
 static void start(void) { number = bulgefs_journal_start(journal, journal_len); }
 static void undo(void) { number = bulgefs_undo(image, image_len, journal, journal_len).number; }
+static void undo_to(void) { number = bulgefs_undo_to(image, image_len, journal, journal_len, BULGEFS_FIRST_MARK).number; }
+static void journal_info(void) { number = bulgefs_journal_info(image, image_len, journal, journal_len).number; }
 static void load(void) { number = bulgefs_load_table(image, image_len, entries, image_len / 512); }
 static void store(void)
 {
@@ -192,6 +194,7 @@ static const struct {
     {"get_settings", get_settings}, {"get_latest_settings", get_latest_settings},
     {"salvage", salvage}, {"salvage, broken", salvage_broken},
     {"delete", delete}, {"undo", undo},
+    {"journal_info", journal_info}, {"undo_to", undo_to},
 };
 
 /* The bytes of stack that a call takes. */

@@ -8,17 +8,21 @@ use Rattle.journal.proofs.Theorems.{every-kind-run, undone-all-kinds}
 use Rattle.write_list.proofs.Laws.Runs.{lists-stand}
 use Rattle.append.proofs.Laws.Runs.{pieces-stand}
 use Rattle.chain_table.proofs.Laws.Runs.{transfers-stand}
-use Rattle.bulgefs.specs.Runs.{FurtherKind, list, append, readOn, table, readings, kindOf, EveryRunTheorem}
+use Rattle.back.proofs.Laws.Runs.{infos-stand, backs-stand}
+use Rattle.back.proofs.Theorems as back
+use Rattle.bulgefs.specs.Runs.{FurtherKind, list, append, readOn, table, journalInfo, undoTo, readings, kindOf, EveryRunTheorem, EveryInfoTheorem, EveryStartTheorem, EveryMarkTheorem, EveryNeverBelowTheorem}
 
 readings-stand : StandsFor readings
 unfolding run step
-readings-stand p r f = refl
+readings-stand p m r f = refl
 
 kinds-stand : (i : FurtherKind) → StandsFor (kindOf i)
 kinds-stand list = lists-stand
 kinds-stand append = pieces-stand
 kinds-stand readOn = readings-stand
 kinds-stand table = transfers-stand
+kinds-stand journalInfo = infos-stand
+kinds-stand undoTo = backs-stand
 
 -- EVERY RUN OF CALLS, of any kinds in any order: image and whole journal are those of the replay of the standing changes, every answer is the replay's.
 pub every-run : EveryRunTheorem
@@ -27,3 +31,19 @@ every-run = every-kind-run (oneOf kindOf) (one-of kindOf kinds-stand)
 -- After every such run, as many undos as changes stand give image and whole journal of the start.
 pub undone-all : KindBackTheorem (oneOf kindOf)
 undone-all = undone-all-kinds (oneOf kindOf) (one-of kindOf kinds-stand)
+
+-- After every such run, an info of the journal answers 0 and as many records as changes stand.
+pub all-told : EveryInfoTheorem
+all-told = back.all-told (oneOf kindOf) (one-of kindOf kinds-stand)
+
+-- BACK IN ONE CALL: after every such run, undo to 5 gives image and whole journal of the start, and says how many changes stood; undo to the mark that an info
+-- answered at a moment of the run, if the changes that stood then still stand, gives image and whole journal of that moment.
+pub start-again : EveryStartTheorem
+start-again = back.start-again (oneOf kindOf) (one-of kindOf kinds-stand)
+
+pub moment-again : EveryMarkTheorem
+moment-again = back.moment-again (oneOf kindOf) (one-of kindOf kinds-stand)
+
+-- They still stand where, since that moment, never fewer changes stood than at it.
+pub never-below : EveryNeverBelowTheorem
+never-below = back.never-below (oneOf kindOf) (one-of kindOf kinds-stand)

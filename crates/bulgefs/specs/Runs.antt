@@ -1,4 +1,5 @@
--- Runs of all calls (FORMAT.md, 11): the calls of `Run`, and beside them lists of writes, appends, read on, loads and stores of the table, in any order. Format, journal start
+-- Runs of all calls (FORMAT.md, 11): the calls of `Run`, and beside them lists of writes, appends, read on, loads and stores of the table, infos of
+-- the journal and undos to a mark, in any order. Format, journal start
 -- and salvage are no calls of a run, which begins with what they leave. The plain check answers what the check does, and is the same look.
 use Prim.Native.Nat.{ℕ, _+_}
 use mathlib.Core.List.{List, [], _∷_}
@@ -8,6 +9,7 @@ use Rattle.journal.specs.Kinds.{Kind, KindRunTheorem, oneOf}
 use Rattle.write_list.specs.Runs.{lists}
 use Rattle.append.specs.Runs.{pieces}
 use Rattle.chain_table.specs.Runs.{transfers}
+use Rattle.back.specs.Runs.{infos, backs, ToldTheorem, ToStartTheorem, ToMarkTheorem, NeverBelowTheorem}
 
 -- Read on (FORMAT.md, 19): "the reader answers as 01's read at its place, which moves on by the count". The place is the caller's, and the next one part of the answer.
 pub record Reading : Type 0 where
@@ -35,13 +37,31 @@ pub data FurtherKind : Type 0 where
   append : FurtherKind
   readOn : FurtherKind
   table : FurtherKind
+  journalInfo : FurtherKind
+  undoTo : FurtherKind
 
 abbrev pub kindOf : FurtherKind → Kind
 kindOf list = lists
 kindOf append = pieces
 kindOf readOn = readings
 kindOf table = transfers
+kindOf journalInfo = infos
+kindOf undoTo = backs
 
 -- DEMAND 3 over every run of calls; only a store of other numbers than the image's own ends one
 abbrev pub EveryRunTheorem : Type 0
 EveryRunTheorem = KindRunTheorem (oneOf kindOf)
+
+-- After every such run, an info answers 0 and as many records as changes stand
+abbrev pub EveryInfoTheorem : Type 0
+EveryInfoTheorem = ToldTheorem (oneOf kindOf)
+
+-- After every such run, one undo to the mark 5 gives image and whole journal of the start, and one to the mark of a moment those of the moment
+abbrev pub EveryStartTheorem : Type 0
+EveryStartTheorem = ToStartTheorem (oneOf kindOf)
+
+abbrev pub EveryMarkTheorem : Type 0
+EveryMarkTheorem = ToMarkTheorem (oneOf kindOf)
+
+abbrev pub EveryNeverBelowTheorem : Type 0
+EveryNeverBelowTheorem = NeverBelowTheorem (oneOf kindOf)

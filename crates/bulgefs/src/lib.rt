@@ -11,6 +11,8 @@ ghost use Rattle.volume.specs.Format.{formatRefusal, formatted};
 ghost use Rattle.chain_table.specs.Transfer.{loadTable, storeTable};
 ghost use Rattle.append.specs.Append.{afterAppend, appendAnswer};
 ghost use Rattle.write_list.specs.List.{listed, writeList};
+ghost use Rattle.back.specs.Marks.{info, journalInfo};
+ghost use Rattle.back.specs.UndoTo.{backed, undoTo};
 ghost use Rattle.salvage.specs.Salvage.{SalvageAnswer, salvage};
 ghost use Rattle.journal.specs.Journal.{startRefusal, afterStart};
 ghost use Rattle.journal.specs.Answers.{changedAnswer};
@@ -468,6 +470,24 @@ pub extern "C" fn bulgefs_undo(image: &mut [u8], journal: &mut [u8]) -> Changed
             size: 0,
         },
     }
+}
+
+#[no_mangle]
+pub extern "C" fn bulgefs_undo_to(
+    image: &mut [u8],
+    journal: &mut [u8],
+    mark: u32,
+) -> back::call::Backed
+    ensures { λ r. ⌜ backed (state (now (image .exit)) (now (journal .exit))) (r .number) (r .done) ≡ undoTo (state (now (image .entry)) (now (journal .entry))) mark ⌝ }
+{
+    back::call::undo_to(image, journal, mark as usize)
+}
+
+#[no_mangle]
+pub extern "C" fn bulgefs_journal_info<'x>(image: &'x [u8], journal: &'x [u8]) -> back::call::Info
+    ensures { λ r. ⌜ info (r .number) (r .used) (r .records) (r .last) ≡ journalInfo (state (now (image .entry)) (now (journal .entry))) ⌝ }
+{
+    back::call::journal_info(image, journal)
 }
 
 #[no_mangle]

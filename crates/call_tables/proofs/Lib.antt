@@ -3,3 +3,4 @@ pub mod Pieces
 pub mod Numbers
 pub mod Salvage
 pub mod Script
+pub mod Marks

@@ -7,7 +7,7 @@ use Rattle.layout.specs.Limits.{minJournal, maxJournal}
 use Rattle.layout.specs.Check.{check}
 use Rattle.store.specs.Change.{Change}
 use Rattle.journal.specs.Journal.{started}
-use Rattle.journal.specs.Run.{Call, Answer, State, step, answer, run}
+use Rattle.journal.specs.Run.{Call, Answer, State, state, step, answer, run}
 use Rattle.journal.specs.Replay.{replayed, standing, replayAnswer}
 
 -- What a further call brings and what it answers; by the rules, the state after it and its answer; the calls that it is; and when it does not end the run.
@@ -83,9 +83,19 @@ pub record MatchesKindReplay {K : Kind} (start : State) (calls : List (KindCall 
   pub state : runOf start calls ≡ replayed start (standingOf start [] calls)
   pub answered : answersOf start calls ≡ replayAnswersOf start [] calls
 
--- a further call that does not end the run leaves what the calls that it is leave
+-- a state that a run of calls reaches from a sound image and a journal just started
+pub record Reached (p : State) : Type 0 where
+  pub from : List ℕ
+  pub size : ℕ
+  pub made : List Call
+  pub sound : check from ≡ 0
+  pub low : minJournal ≤ size
+  pub high : size ≤ maxJournal
+  pub is : p ≡ run (state from (started size)) made
+
+-- on such a state, a further call that does not end the run leaves what the calls that it is leave
 abbrev pub StandsFor : Kind → Type 0
-StandsFor K = (p : State) (c : K .Further) → K .Fits p c → K .after p c ≡ run p (K .calls p c)
+StandsFor K = (p : State) → Reached p → (c : K .Further) → K .Fits p c → K .after p c ≡ run p (K .calls p c)
 
 abbrev pub KindRunTheorem : Kind → Type 0
 KindRunTheorem K =

@@ -2,6 +2,6 @@
 pub mod calls;
 mod naming;
 mod recording;
-mod restoring;
+pub mod restoring;
 mod scan;
 pub mod start;

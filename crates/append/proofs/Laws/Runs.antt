@@ -14,7 +14,7 @@ piece-run p path [] time = refl
 piece-run p path (b ∷ bs) time = refl
 
 pub pieces-stand : StandsFor pieces
-pieces-stand p a f = piece-run p (a .path) (a .bytes) (a .time)
+pieces-stand p m a f = piece-run p (a .path) (a .bytes) (a .time)
 
 pub every-piece-run : PieceRunTheorem
 every-piece-run = every-free-run pieces pieces-stand (λ p a. tt)

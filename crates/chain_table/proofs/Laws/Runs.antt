@@ -10,8 +10,8 @@ use Rattle.chain_table.proofs.Laws.Looks.{store-looks}
 
 pub transfers-stand : StandsFor transfers
 unfolding tableStep OnlyLooks run
-transfers-stand p (load xs) o = refl
-transfers-stand p (store xs) o = ap (λ (s : List ℕ). state s (p .journal)) (store-looks (p .image) xs (o .0) (o .1))
+transfers-stand p m (load xs) o = refl
+transfers-stand p m (store xs) o = ap (λ (s : List ℕ). state s (p .journal)) (store-looks (p .image) xs (o .0) (o .1))
 
 pub every-table-run : TableRunTheorem
 every-table-run = every-kind-run transfers transfers-stand

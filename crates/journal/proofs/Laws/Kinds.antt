@@ -8,9 +8,9 @@ use Rattle.layout.specs.Check.{check}
 use Rattle.store.specs.Change.{Change}
 use Rattle.store.proofs.Laws.Sound.{KeptSound}
 use Rattle.journal.specs.Journal.{started}
-use Rattle.journal.specs.Run.{Call, undo, State, step, answer, run, answers as run-answers}
+use Rattle.journal.specs.Run.{Call, change, undo, State, state, step, answer, run, answers as run-answers}
 use Rattle.journal.specs.Replay.{replayed, standing}
-use Rattle.journal.specs.Kinds.{Kind, KindCall, call, further, KindAnswer, answered, stepOf, answerOf, runOf, answersOf, FitsRun, AllFit, callsOf, asCalls, standingOf, replayAnswerOf, replayAnswersOf, StandsFor, KindRunTheorem, FreeRunTheorem, oneOf}
+use Rattle.journal.specs.Kinds.{Kind, KindCall, call, further, KindAnswer, answered, stepOf, answerOf, runOf, answersOf, FitsRun, AllFit, callsOf, asCalls, standingOf, replayAnswerOf, replayAnswersOf, Reached, StandsFor, KindRunTheorem, FreeRunTheorem, oneOf}
 use Rattle.journal.specs.Back.{undos, KindBackTheorem}
 use Rattle.journal.proofs.Laws.Runs.{Stand, One, one-call, run-after}
 use Rattle.journal.proofs.Laws.Back.{standing-append, back-to-start}
@@ -21,28 +21,49 @@ unfolding run
 run-append [] ys p = refl
 run-append (x ∷ xs) ys p = run-append xs ys (step p x)
 
+-- the states that runs reach: after some calls more, and by changes
+pub reached-run : (p : State) (cs : List Call) → Reached p → Reached (run p cs)
+reached-run p cs m = record {
+  from = m .from;
+  size = m .size;
+  made = m .made ++ cs;
+  sound = m .sound;
+  low = m .low;
+  high = m .high;
+  is = ap (λ (q : State). run q cs) (m .is) ∙ sym (run-append (m .made) cs (state (m .from) (started (m .size))));
+}
+
+pub reached-changes : (start : State) → Reached start → (changes : List Change) → Reached (replayed start changes)
+unfolding replayed run step
+reached-changes start m [] = m
+reached-changes start m (c ∷ cs) = reached-run (replayed start cs) (change c ∷ []) (reached-changes start m cs)
+
 -- several kinds as one
 pub one-of : {I : Type 0} (kinds : I → Kind) → ((i : I) → StandsFor (kinds i)) → StandsFor (oneOf kinds)
-one-of kinds stands p c f = stands (c .0) p (c .1) f
+one-of kinds stands p m c f = stands (c .0) p m (c .1) f
 
 module _ (K : Kind) (stands : StandsFor K) where
-  step-calls : (p : State) (c : KindCall K) → FitsRun p c → stepOf p c ≡ run p (callsOf p c)
+  step-calls : (p : State) → Reached p → (c : KindCall K) → FitsRun p c → stepOf p c ≡ run p (callsOf p c)
   unfolding stepOf callsOf FitsRun run
-  step-calls p (call c) f = refl
-  step-calls p (further c) f = stands p c f
+  step-calls p m (call c) f = refl
+  step-calls p m (further c) f = stands p m c f
 
-  -- on any state, a run is the same run as calls alone
-  pub calls-run : (cs : List (KindCall K)) (p : State) → AllFit p cs → runOf p cs ≡ run p (asCalls p cs)
+  -- on a state that a run reaches, a run is the same run as calls alone
+  pub calls-run : (cs : List (KindCall K)) (p : State) → Reached p → AllFit p cs → runOf p cs ≡ run p (asCalls p cs)
   unfolding runOf asCalls AllFit run
-  calls-run [] p f = refl
-  calls-run (c ∷ cs) p f =
-      calls-run cs (stepOf p c) (f .1)
-      ∙ ap (λ (q : State). run q (asCalls (stepOf p c) cs)) (step-calls p c (f .0))
+  calls-run [] p m f = refl
+  calls-run (c ∷ cs) p m f =
+      calls-run cs (stepOf p c) (subst Reached (sym (step-calls p m c (f .0))) (reached-run p (callsOf p c) m)) (f .1)
+      ∙ ap (λ (q : State). run q (asCalls (stepOf p c) cs)) (step-calls p m c (f .0))
       ∙ sym (run-append (callsOf p c) (asCalls (stepOf p c) cs) p)
 
   module _ (sound : KeptSound) (image : List ℕ) (size : ℕ) (ok : check image ≡ 0) (low : minJournal ≤ size) (high : size ≤ maxJournal) where
     abbrev start : State
     start = record { image = image; journal = started size }
+
+    pub reached-start : Reached start
+    unfolding run
+    reached-start = record { from = image; size = size; made = []; sound = ok; low = low; high = high; is = refl }
 
     -- the changes that stand after a call
     abbrev next : List Change → KindCall K → List Change
@@ -53,7 +74,7 @@ module _ (K : Kind) (stands : StandsFor K) where
         → (stepOf (replayed start changes) c ≡ replayed start (next changes c)) × Stand start (next changes c)
     moves changes c t f =
         let r = run-after sound image size ok low high changes (callsOf (replayed start changes) c) t in
-        (step-calls (replayed start changes) c f ∙ r .0, r .1)
+        (step-calls (replayed start changes) (reached-changes start reached-start changes) c f ∙ r .0, r .1)
 
     replies : (changes : List Change) (c : KindCall K) → Stand start changes → answerOf (replayed start changes) c ≡ replayAnswerOf start changes c
     unfolding answerOf replayAnswerOf One
@@ -95,7 +116,7 @@ unfolding replayed Stand
 kind-run sound K stands image size calls ok low high f =
     let start : State = record { image = image; journal = started size } in
     record {
-      as-calls = calls-run K stands calls start f;
+      as-calls = calls-run K stands calls start (reached-start K stands sound image size ok low high) f;
       state = states K stands sound image size ok low high calls [] tt f;
       answered = answers K stands sound image size ok low high calls [] tt f;
     }
@@ -117,12 +138,13 @@ kind-back sound K stands image size calls ok low high f =
     let start : State = record { image = image; journal = started size } in
     let cs = asCalls start calls in
     let b = back-to-start sound image size cs ok low high in
+    let m = reached-start K stands sound image size ok low high in
     let e : standingOf start [] calls ≡ standing start [] cs = standing-calls K stands sound image size ok low high calls [] tt f in
     let go : (k : ℕ) → run (runOf start calls) (undos k) ≡ run start (cs ++ undos k) =
-    λ k. ap (λ (p : State). run p (undos k)) (calls-run K stands calls start f) ∙ sym (run-append cs (undos k) start) in
+    λ k. ap (λ (p : State). run p (undos k)) (calls-run K stands calls start m f) ∙ sym (run-append cs (undos k) start) in
     record {
       part = λ k. rw e (go k ∙ b .part k);
       whole = rw e (go (length (standing start [] cs)) ∙ b .whole);
-      answered = rw e (ap (λ (p : State). run-answers p (undos (length (standing start [] cs)))) (calls-run K stands calls start f) ∙ b .answered);
+      answered = rw e (ap (λ (p : State). run-answers p (undos (length (standing start [] cs)))) (calls-run K stands calls start m f) ∙ b .answered);
       refused = rw e (ap (λ (p : State). answer p undo) (go (length (standing start [] cs))) ∙ b .refused);
     }

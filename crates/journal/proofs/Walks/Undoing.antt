@@ -47,7 +47,7 @@ module _ (s j : List ℕ) where
   undo-none w l = refused 16 (rw (w .sound, w .well-formed, l)) (λ e. omega arith)
 
 pub last-ready : {s j : List ℕ} {at : ℕ} → Ready s j → at ≡ lastRecord j → (at ≡ 0 → ⊥) → Last s j at
-last-ready w l h = record { sound = w .sound; well-formed = w .well-formed; last = l; some = h }
+last-ready {s} w l h = let z = sound s (w .sound) in record { whole = z .whole; blocks = z .most; well-formed = w .well-formed; last = l; some = h }
 
 module _ (s j : List ℕ) (at : ℕ) (l : Last s j at) where
   pub last-well : WellFormed j (blockCount s)
@@ -62,12 +62,11 @@ module _ (s j : List ℕ) (at : ℕ) (l : Last s j at) where
 
   pub last-saved : (k : ℕ) → k ≡ copies j at → Saved s j (blockCount s) at k
   last-saved k e =
-      let z = sound s (l .sound) in
       let f = last-fine in
       let size : be32 j at ≡ 4 + 516 * copies j at = f .size in
       let inside : at + be32 j at ≤ used j = f .inside in
       let high : used j ≤ length j = last-well .used-high in
-      record { whole = z .whole; blocks = z .most; inside = omega arith; below = rw e (f .below) }
+      record { whole = l .whole; blocks = l .blocks; inside = omega arith; below = rw e (f .below) }
 
   pub last-image : (k : ℕ) → k ≡ copies j at → restored s j at (interval 0 k) ≡ undoneImage s j
   unfolding undoneImage
@@ -77,11 +76,11 @@ module _ (s j : List ℕ) (at : ℕ) (l : Last s j at) where
   unfolding undoneJournal
   last-journal size e = rw (e, l .last)
 
-  accepted : undoRefusal (state s j) ≡ 0
+  accepted : check s ≡ 0 → undoRefusal (state s j) ≡ 0
   unfolding undoRefusal
-  accepted = rw (l .sound, l .well-formed, ne-eqb (lastRecord j) 0 (λ e. l .some (l .last ∙ e)))
+  accepted ok = rw (ok, l .well-formed, ne-eqb (lastRecord j) 0 (λ e. l .some (l .last ∙ e)))
 
-  pub undo-done : (size : ℕ) → size ≡ be32 j (lastRecord j) → (t i : List ℕ) → t ≡ undoneImage s j → i ≡ undoneJournal j
+  pub undo-done : check s ≡ 0 → (size : ℕ) → size ≡ be32 j (lastRecord j) → (t i : List ℕ) → t ≡ undoneImage s j → i ≡ undoneJournal j
       → Undoes (state s j) (undone 0 size) (state t i)
   unfolding undoAnswer afterUndo
-  undo-done size e t i a b = rw (accepted, e, a, b) (refl, refl)
+  undo-done ok size e t i a b = rw (accepted ok, e, a, b) (refl, refl)

@@ -50,7 +50,7 @@ list-run p l = go (listRefusal p l)
     go (suc r) = refl
 
 pub lists-stand : StandsFor lists
-lists-stand p l f = list-run p l
+lists-stand p m l f = list-run p l
 
 pub every-list-run : ListRunTheorem
 every-list-run = every-free-run lists lists-stand (λ p l. tt)

@@ -52,10 +52,8 @@ returns-3 c =
     let if1 = c .before .before .before .before .before .before .before .before .if1 in
     let inspect = c .before .before .before .before .before .before .before .before .before .inspect in
     let t = take-back .ensures in
-    let d = undo-done _ _ _
-    (last-ready (ready _ _ (sym (inspect .ensures .number-is) ∙ if1 .left))
-    (inspected-last _ (inspect .ensures) (if1 .left)) (if2 .left))
-    _ (t .0) _ _ (t .1 .0) (t .1 .1) in
+    let w = ready _ _ (sym (inspect .ensures .number-is) ∙ if1 .left) in
+    let d = undo-done _ _ _ (last-ready w (inspected-last _ (inspect .ensures) (if1 .left)) (if2 .left)) (w .sound) _ (t .0) _ _ (t .1 .0) (t .1 .1) in
     (d .0, (d .1, tt))
 
 pub undo-spec : {M : Type 1} → statement M

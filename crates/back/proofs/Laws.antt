@@ -1,0 +1,4 @@
+-- The laws of marks.
+pub mod Marks
+pub mod Turns
+pub mod Runs

@@ -1,0 +1,4 @@
+pub mod Marks
+pub mod UndoTo
+pub mod Runs
+pub mod Walks
