@@ -1,4 +1,4 @@
--- What is promised of append (FORMAT.md, 19).
+-- What is promised of append (FORMAT.md, 9.9).
 use Prim.Native.Nat.{ℕ}
 use mathlib.Core.Path.{_≡_}
 use mathlib.Core.Logic.{_≢_}

@@ -1,4 +1,4 @@
--- Append (FORMAT.md, 19): "a non-empty piece is answered as 01's write of it at the file's end as it then stands, and for demand 3 it is that write". "An
+-- Append (FORMAT.md, 9.9): "a non-empty piece is answered as 01's write of it at the file's end as it then stands, and for demand 3 it is that write". "An
 -- empty piece adds no record, so 15 doesn't concern it, and its other refusals are that write's; an accepted empty piece does nothing, not even the time."
 use Prim.Native.Nat.{ℕ}
 use mathlib.Core.List.{List, [], _∷_}

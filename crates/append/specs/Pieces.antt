@@ -1,4 +1,4 @@
--- Pieces of one file (FORMAT.md, 19): "With no other calls between and one time for all, pieces cut anywhere leave the same image as a single append of the
+-- Pieces of one file (FORMAT.md, 9.9): "With no other calls between and one time for all, pieces cut anywhere leave the same image as a single append of the
 -- joined bytes would by 01's write rules with its 4,096 limit lifted, provided every piece is accepted and one at least is non-empty".
 use Prim.Native.Nat.{ℕ}
 use mathlib.Core.Path.{_≡_}

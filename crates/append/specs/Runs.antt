@@ -1,4 +1,4 @@
--- Runs in which pieces are appended too (FORMAT.md, 19): "for demand 3 it is that write". So a piece is, in a run, the write that it is, and an empty one is
+-- Runs in which pieces are appended too (FORMAT.md, 9.9): "for demand 3 it is that write". So a piece is, in a run, the write that it is, and an empty one is
 -- none.
 use Prim.Native.Nat.{ℕ}
 use mathlib.Core.List.{List, [], _∷_}

@@ -11,7 +11,7 @@ use Rattle.append.specs.Runs.{pieces}
 use Rattle.chain_table.specs.Runs.{transfers}
 use Rattle.back.specs.Runs.{infos, backs, ToldTheorem, ToStartTheorem, ToMarkTheorem, NeverBelowTheorem}
 
--- Read on (FORMAT.md, 19): "the reader answers as 01's read at its place, which moves on by the count". The place is the caller's, and the next one part of the answer.
+-- Read on (FORMAT.md, 7.3): "the reader answers as 01's read at its place, which moves on by the count". The place is the caller's, and the next one part of the answer.
 pub record Reading : Type 0 where
   pub path : List ℕ
   pub position : ℕ

@@ -1,4 +1,4 @@
--- Lists of writes (FORMAT.md, 18): the rows of section 14 with n = 8 for 16, worked out by hand, and computed from the definitions.
+-- Lists of writes (FORMAT.md, 15): the rows of B.2 with n = 8 for 16, worked out by hand, and computed from the definitions.
 use Prim.Native.Nat.{ℕ, _+_}
 use mathlib.Core.List.{List, [], _∷_, _++_}
 use lib.ListN.{length, replicate, take}

@@ -1,4 +1,4 @@
--- Journal info and undo to a mark (FORMAT.md, 21), worked out by hand, and computed from the definitions.
+-- Journal info and undo to a mark (FORMAT.md, 10.5), worked out by hand, and computed from the definitions.
 use Prim.Native.Nat.{ℕ}
 use mathlib.Core.List.{List, [], _∷_, _++_}
 use Rattle.journal.specs.Journal.{used, started}

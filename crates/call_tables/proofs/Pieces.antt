@@ -1,4 +1,4 @@
--- Appended pieces (FORMAT.md, 19): the rows of section 14 with n = 8 for 16, worked out by hand, and computed from the definitions.
+-- Appended pieces (FORMAT.md, 9.9): the rows of B.2 with n = 8 for 16, worked out by hand, and computed from the definitions.
 use Prim.Native.Nat.{ℕ}
 use mathlib.Core.List.{List, [], _∷_, _++_}
 use lib.ListN.{take}

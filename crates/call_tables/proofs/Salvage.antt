@@ -1,4 +1,4 @@
--- Salvage (FORMAT.md, 16): the rows of section 14 with n = 8 for 16, and one for each further code; worked out by hand, and computed from the definitions.
+-- Salvage (FORMAT.md, 16): the rows of B.2 with n = 8 for 16, and one for each further code; worked out by hand, and computed from the definitions.
 use Prim.Native.Nat.{ℕ}
 use mathlib.Core.List.{List, [], _∷_, _++_, map}
 use lib.ListN.{drop, replicate}

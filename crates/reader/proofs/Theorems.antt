@@ -1,4 +1,4 @@
--- THE THEOREM OF THE READER (FORMAT.md, 19), for readers.
+-- THE THEOREM OF THE READER (FORMAT.md, 7.3), for readers.
 use native.Mathlib.Omega.{arith}
 use Rattle.reader.specs.Readings.{WholeFileTheorem}
 use Rattle.reader.proofs.Laws.{read-from}

@@ -1,4 +1,4 @@
--- A file read to its end (FORMAT.md, 19): "With nothing written to the image between, the reader's answers, taken into buffers of one byte or more until it
+-- A file read to its end (FORMAT.md, 7.3): "With nothing written to the image between, the reader's answers, taken into buffers of one byte or more until it
 -- gives none, joined are the file's bytes."
 use Prim.Native.Nat.{ℕ, _+_}
 use mathlib.Core.Bool.{true}

@@ -1,4 +1,4 @@
--- A reader's read (FORMAT.md, 19): "the reader answers as 01's read at its place, which moves on by the count". A refused read has count 0 and keeps its place.
+-- A reader's read (FORMAT.md, 7.3): "the reader answers as 01's read at its place, which moves on by the count". A refused read has count 0 and keeps its place.
 use Prim.Native.Nat.{ℕ, _+_}
 use mathlib.Core.List.{List}
 use mathlib.Core.Path.{_≡_}

@@ -1,4 +1,4 @@
--- The words of the theorems about the form of a file (FORMAT.md, 20): what a reader must believe to read them.
+-- The words of the theorems about the form of a file (FORMAT.md, 14): what a reader must believe to read them.
 use Prim.Native.Nat.{ℕ, _≤_, _<_}
 use mathlib.Core.Path.{_≡_}
 use mathlib.Core.Bool.{true}

@@ -1,4 +1,4 @@
--- Get (FORMAT.md, 20): "get gives the latest or a named revision into a buffer of 200 bytes or more, and leaves the rest". On any image.
+-- Get (FORMAT.md, 14): "get gives the latest or a named revision into a buffer of 200 bytes or more, and leaves the rest". On any image.
 use Prim.Native.Nat.{ℕ}
 use mathlib.Core.List.{List, [], _∷_}
 use mathlib.Core.Bool.{Bool, true, false, cond}

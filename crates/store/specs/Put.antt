@@ -1,4 +1,4 @@
--- Put (FORMAT.md, 20), on a sound image: "A put is one volume change, leaving what a create (where there is no file) and one write of the whole rewritten
+-- Put (FORMAT.md, 14), on a sound image: "A put is one volume change, leaving what a create (where there is no file) and one write of the whole rewritten
 -- file at 0, without the 4,096 limit, would; its record names what that write names."
 use Prim.Native.Nat.{ℕ, suc}
 use mathlib.Core.List.{List, [], _∷_, _++_}

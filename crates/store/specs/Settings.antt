@@ -1,4 +1,4 @@
--- The form of a file of the store (FORMAT.md, 20: "version byte 1, a 4-byte length (of these five bytes and the records), 1 to 16 settings records, then
+-- The form of a file of the store (FORMAT.md, 14: "version byte 1, a 4-byte length (of these five bytes and the records), 1 to 16 settings records, then
 -- zeros, if any, to the file's end. A record is data length (1 byte, at most 200), revision number (4), data. Numbers are 1 or more and rise by 1").
 use Prim.Native.Nat.{ℕ, zero, suc, _+_, _-_}
 use mathlib.Core.List.{List, [], _∷_, _++_}

@@ -9,7 +9,7 @@ use Rattle.store.specs.Settings.{encoded, Found, held, revisions, added}
 use Rattle.store.specs.Put.{pathOf, heldIn}
 use Rattle.store.specs.Change.{Change, plain, putIn}
 
--- a put by the file that its path shows, or none (FORMAT.md, 20): the revisions in it, its length, the file once it is there, and the one write to it
+-- a put by the file that its path shows, or none (FORMAT.md, 14): the revisions in it, its length, the file once it is there, and the one write to it
 abbrev pub storedIn : Maybe File → Found
 storedIn nothing = held []
 storedIn (just f) = revisions (f .bytes)

@@ -1,4 +1,4 @@
--- What is promised of a list of writes (FORMAT.md, 18), on any image, journal and list.
+-- What is promised of a list of writes (FORMAT.md, 15), on any image, journal and list.
 use Prim.Native.Nat.{ℕ}
 use mathlib.Core.List.{List, map}
 use mathlib.Core.Path.{_≡_}

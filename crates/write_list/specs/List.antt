@@ -1,4 +1,4 @@
--- A list of writes in one call (FORMAT.md, 18): "version byte 1, 4-byte length of all, then the items". "An item is one write: its length (4, counting itself),
+-- A list of writes in one call (FORMAT.md, 15): "version byte 1, 4-byte length of all, then the items". "An item is one write: its length (4, counting itself),
 -- time (8), offset (4), path length (2), path, data."
 use Prim.Native.Nat.{ℕ, suc, _+_, _-_, _*_}
 use mathlib.Core.List.{List, [], _∷_, map}

@@ -1,4 +1,4 @@
--- Runs in which lists are written too (FORMAT.md, 18): "each item done is a change of its own, and the list call is none". So a list call is, in a run, the
+-- Runs in which lists are written too (FORMAT.md, 15): "each item done is a change of its own, and the list call is none". So a list call is, in a run, the
 -- writes that it does, and the replay gets each of them.
 use Prim.Native.Nat.{ℕ}
 use mathlib.Core.List.{List, map}

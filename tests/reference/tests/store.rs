@@ -136,7 +136,7 @@ fn sixteen_revisions_stand() {
     assert!(undo(&state).unwrap().state == State { journal: full.journal, image: full.image });
 }
 
-/// The lines of docs/FORMAT.md, section 14.
+/// The lines of docs/FORMAT.md, B.2.
 #[test]
 fn the_numbers_of_the_rules() {
     let mut state = fresh(16, 2);
