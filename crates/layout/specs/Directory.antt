@@ -15,7 +15,7 @@ use Rattle.layout.specs.Table.{next, chain}
 unfoldable pub slotAt : List ℕ → ℕ → ℕ
 slotAt ds k = 512 * getD ds (k / 4) 0 + 128 * (k % 4)
 
--- slots 1 to 4d−2, each free or a file
+-- slots 1 to 4d−2, each free, a file or a child directory
 abbrev pub slots : List ℕ → List ℕ
 slots ds = interval 1 (4 * length ds - 2)
 
