@@ -26,8 +26,8 @@
  *   Every call but bulgefs_look_in_place answers a number: 0 (BULGEFS_OK) if
  *   the call was accepted, otherwise one of the refusals below; bulgefs_text
  *   has words for it.  If several refusals apply, the first in this order is
- *   given: 1 to 8, 19, 9 and 22, 20, 17, 26, 21, 10 to 12, 18, 24, 23, 25, 13 to
- *   16.  A refused call changes no byte of any buffer, and all other fields of
+ *   given: 1 to 8, 27, 19, 9 and 22, 20, 17, 26, 21, 10 to 12, 18, 24, 23, 25, 13
+ *   to 16.  A refused call changes no byte of any buffer, and all other fields of
  *   its answer are 0.
  *   Only bulgefs_write_list differs: the writes before the one that was refused
  *   stand, and its answer counts them.
@@ -36,9 +36,10 @@
  *   - The journal is an undo journal, not a journal against loss of power.
  *     Image and journal are memory; how they reach a disk is up to you.  Keep
  *     both in one file, write a new one, fsync it, rename it over the old one
- *     and fsync the directory.  An image that was half written is refused
- *     (1 to 7), and then undo is refused too.  bulgefs_salvage keeps what is
- *     whole of it, if its root holds no directory.
+ *     and fsync the directory.  Do not use a pair that was half written: most
+ *     such images are refused (1 to 7), and then undo is refused too, but some
+ *     look sound.  bulgefs_salvage keeps what is whole, if the root holds no
+ *     directory.
  *   - A file's bytes have no checksum.  The check finds damage to the header,
  *     the table and the form of directories; a flipped bit in a file's bytes,
  *     a time or a user is not found.
@@ -48,7 +49,7 @@
  *     Or use bulgefs_put_settings, which keeps the lengths itself.
  *   - Nothing ties a journal to its image.  Undo with another image's journal
  *     puts that image's blocks into this one.  Keep them together, and start
- *     the journal whenever you replace the image.
+ *     the journal whenever you replace the image, by an older copy too.
  *   - A journal does not grow.  When it is full, changes are refused with
  *     BULGEFS_JOURNAL_FULL.  Then undo, or give up undoing what stands: save
  *     the image and call bulgefs_journal_start.  See the sizes below.
@@ -68,10 +69,12 @@
  *   BULGEFS_STACK.
  *
  * Linking
- *   x86-64, System V calling convention.  The archive needs memset, the calls for
- *   settings memcpy too, and nothing else.  Every function has a section of its
- *   own: with -Wl,--gc-sections a boot loader that only checks, finds and reads
- *   gets just the reader, which needs memset alone.
+ *   x86-64, System V calling convention.  The code uses the red zone (the 128
+ *   bytes below the stack pointer) and SSE registers: a boot loader or kernel must
+ *   leave the one alone and switch the other on.  The archive needs memset, the
+ *   calls for settings memcpy too, and nothing else.  Every function has a section
+ *   of its own: with -Wl,--gc-sections a boot loader that only checks, finds and
+ *   reads gets just the reader, which needs memset alone.
  */
 #ifndef BULGEFS_H
 #define BULGEFS_H
@@ -229,7 +232,7 @@ enum bulgefs_number {
     BULGEFS_NOT_SETTINGS    = 24, /* the file is not one of settings; after 12         */
     BULGEFS_REVISIONS_USED  = 25, /* puts: revision numbers are used up; after 23      */
     BULGEFS_BAD_FLAGS       = 26, /* creates: flags other than 0; just after 17        */
-    BULGEFS_NO_MARK         = 27  /* undo to a mark: the journal had no such length    */
+    BULGEFS_NO_MARK         = 27  /* undo to a mark: no mark of the journal; after 8   */
 };
 
 /* What bulgefs_salvage did with a slot of the root. */
@@ -349,7 +352,8 @@ typedef struct { uint32_t number, revision, length; } bulgefs_got;
  *   A name is 1 to 80 bytes, none of them zero or '/'.  Names are equal when
  *   all their bytes are.  A path is '/' and one or more names with '/' between,
  *   as "/stage/SN4471", handed over without a terminating zero.  Every call
- *   that takes a path refuses anything else with BULGEFS_BAD_ARGUMENT.
+ *   that takes a path refuses anything else with BULGEFS_BAD_ARGUMENT; only
+ *   bulgefs_entry takes "/" too, as the root.
  *
  *   All names but the last are those of directories, and there may be no more
  *   than 8 of these; in the calls for directories the last name counts too.
@@ -810,7 +814,7 @@ uint32_t bulgefs_store_table(uint8_t *image, size_t image_len,
 /*
  * Makes a broken volume sound again, in place, and keeps the files of the root
  * that are whole.  Header and root directory must be in order, and the root
- * must hold no directory.  A sound image does not change.
+ * must hold no directory.  If the image was sound, it does not change.
  *
  * The slots of the root are taken in ascending order, and each file that is
  * kept claims its blocks.  report[k] gets the code of slot k, for all 4 * d
