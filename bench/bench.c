@@ -533,6 +533,7 @@ int main(int argc, char **argv)
     print_means();
     bench_lists(samples);
     bench_settings(samples < MAX_SAMPLES);
+    bench_fleet(samples < MAX_SAMPLES);
     if (figures != NULL)
         write_figures(figures);
     return 0;

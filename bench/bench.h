@@ -27,6 +27,9 @@ void bench_lists(int samples);
 /* Times puts and gets of settings beside writes and reads of the same files; prints a table. */
 void bench_settings(int quick);
 
+/* The same among 900 boxes in nine directories; prints a table. */
+void bench_fleet(int quick);
+
 /*
  * The same work in SQLite, in memory, with statements prepared beforehand: a
  * table of paths and contents.  check is its integrity check, lookup and read

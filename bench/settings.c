@@ -3,6 +3,7 @@
  * the same bytes to the same file, which must leave the same image and journal;
  * the first put beside a create and a write; a get beside a read of the file; and
  * a put in SQLite: a row more, and the oldest of 16 dropped, in a savepoint.
+ * Then the same among 900 boxes in nine directories.
  * Each change is taken back after it was timed.  All ways take turns, and the
  * least time of each counts: other work on the machine adds to the others.
  */
@@ -186,6 +187,110 @@ void bench_settings(int quick)
                least[CREATE_WRITE], least[GET], least[WHOLE_READ]);
         if (sqlite_version() != NULL)
             printf(" %10.2f |\n", least[SQLITE_PUT]);
+        else
+            printf(" %10s |\n", "-");
+    }
+}
+
+/* 900 boxes in nine directories, each with 16 revisions; the image has no block to spare but for a box more. */
+enum { VENUES = 9, IN_VENUE = 100, FLEET = VENUES * IN_VENUE, VENUE_BLOCKS = 26 };
+enum { FLEET_BLOCKS = BULGEFS_IMAGE_BLOCKS((FLEET + 1) * 7 + VENUES * VENUE_BLOCKS + 3) };
+
+/* The path of a box; before its last '/' stands the directory, behind it the serial number. */
+static named box_of(uint32_t i)
+{
+    named b;
+    b.len = (size_t)snprintf((char *)b.bytes, PATH_SIZE, "/venue %u/SN%06u", (unsigned)(i / IN_VENUE),
+                             (unsigned)i);
+    return b;
+}
+
+enum { VENUE_NAME = 8 };
+
+static void put_box(uint32_t i)
+{
+    named b = box_of(i);
+    require(bulgefs_put_settings_in(image, image_len, journal, JOURNAL, b.bytes, VENUE_NAME,
+                                    b.bytes + VENUE_NAME + 1, b.len - VENUE_NAME - 1, data, bytes,
+                                    2).number,
+            "put");
+}
+
+static void make_fleet(uint32_t size)
+{
+    static const uint8_t volume_name[128] = "fleet";
+    bulgefs_uuid uuid = {{0}};
+    image_len = BULGEFS_IMAGE_SIZE(FLEET_BLOCKS);
+    bytes = size;
+    require(bulgefs_format(image, image_len, 3, 1, uuid, volume_name, 128), "format");
+    sqlite_start();
+    for (uint32_t i = 0; i < FLEET; i += IN_VENUE) {
+        named b = box_of(i);
+        require(bulgefs_journal_start(journal, JOURNAL), "start");
+        require(bulgefs_create_directory(image, image_len, journal, JOURNAL, b.bytes, VENUE_NAME,
+                                         0x20, 0, 0, 0, 0, VENUE_BLOCKS, 1).number,
+                "create directory");
+    }
+    for (uint32_t r = 0; r < BULGEFS_MAX_REVISIONS; r++)
+        for (uint32_t i = 0; i < FLEET; i++) {
+            named b = box_of(i);
+            memset(data, (int)('a' + r), sizeof data);
+            require(bulgefs_journal_start(journal, JOURNAL), "start");
+            put_box(i);
+            sqlite_put(b.bytes, b.len, data, bytes, 1);
+        }
+    require(bulgefs_journal_start(journal, JOURNAL), "start");
+}
+
+enum { FLEET_PUT, FLEET_FIRST, FLEET_GET, FLEET_CHECK, FLEET_SQLITE, FLEET_WAYS };
+
+/* One way at box i; seconds. A change is taken back after it was timed. */
+static double fleet_time(int way, uint32_t i)
+{
+    named b = box_of(i);
+    if (way == FLEET_SQLITE)
+        return sqlite_put(b.bytes, b.len, data, bytes, 0);
+    double begin = now();
+    if (way == FLEET_CHECK)
+        require(bulgefs_check(image, image_len), "check");
+    else if (way == FLEET_GET)
+        require(bulgefs_get_latest_settings_in(image, image_len, b.bytes, VENUE_NAME,
+                                               b.bytes + VENUE_NAME + 1, b.len - VENUE_NAME - 1,
+                                               buffer, 200).number,
+                "get");
+    else if (way == FLEET_FIRST)
+        require(bulgefs_put_settings_in(image, image_len, journal, JOURNAL, b.bytes, VENUE_NAME,
+                                        new_serial, SERIAL, data, bytes, 3).number,
+                "first put");
+    else
+        put_box(i);
+    double took = now() - begin;
+    if (way == FLEET_PUT || way == FLEET_FIRST)
+        require(bulgefs_undo(image, image_len, journal, JOURNAL).number, "undo");
+    return took;
+}
+
+void bench_fleet(int quick)
+{
+    static const uint32_t sizes[] = {60, 200};
+    printf("\nThe same among 900 boxes in nine directories, each with 16 revisions, %u blocks; SQLite"
+           " has the same rows; microseconds, the least of many\n\n", (unsigned)FLEET_BLOCKS);
+    printf("| %5s | %8s | %9s | %8s | %8s | %10s |\n", "bytes", "put", "first put", "get", "check",
+           "SQLite put");
+    printf("|------:|---------:|----------:|---------:|---------:|-----------:|\n");
+    for (size_t s = 0; s < sizeof sizes / sizeof sizes[0]; s++) {
+        double least[FLEET_WAYS];
+        make_fleet(sizes[s]);
+        for (uint32_t turn = 0; turn < (quick ? FEW_TURNS : TURNS); turn++)
+            for (int way = 0; way < FLEET_WAYS; way++) {
+                double took = fleet_time(way, turn * 37 % FLEET) * 1e6;
+                if (turn == 0 || took < least[way])
+                    least[way] = took;
+            }
+        printf("| %5u | %8.2f | %9.2f | %8.2f | %8.2f |", (unsigned)sizes[s], least[FLEET_PUT],
+               least[FLEET_FIRST], least[FLEET_GET], least[FLEET_CHECK]);
+        if (sqlite_version() != NULL)
+            printf(" %10.2f |\n", least[FLEET_SQLITE]);
         else
             printf(" %10s |\n", "-");
     }

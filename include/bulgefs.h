@@ -90,8 +90,8 @@ extern "C" {
  * The version of this header, 10000 * major + 100 * minor + patch.  The minor
  * number rises with every call, number or limit that comes or changes.
  */
-#define BULGEFS_VERSION            1200u
-#define BULGEFS_VERSION_TEXT       "0.12.0"
+#define BULGEFS_VERSION            1300u
+#define BULGEFS_VERSION_TEXT       "0.13.0"
 
 /*
  * The compiler says if an answer is not used.  Define BULGEFS_CHECKED as
@@ -168,6 +168,10 @@ extern "C" {
  *                                 blocks then: all of them are saved; 11 for the
  *                                 most that puts alone make of a file
  *
+ * BULGEFS_PUTS_SIZE is the bytes that the first so many puts of a box add at most,
+ * of up to so many bytes each: its file grows by a block now and then, so this is
+ * much less than as many records of the longest.
+ *
  * So for a thousand settings that are created and written once, 200 bytes each,
  * with undo for all of them:
  *
@@ -185,6 +189,9 @@ extern "C" {
 #define BULGEFS_ATTRIBUTES_BLOCKS(old_blocks, new_blocks) (2u + 2u * ((old_blocks) + (new_blocks)))
 #define BULGEFS_PUT_BLOCKS(blocks)     (4u + (blocks))
 #define BULGEFS_JOURNAL_SIZE(changes, k) (BULGEFS_MIN_JOURNAL + (changes) * BULGEFS_RECORD_SIZE(k))
+#define BULGEFS_PUTS_SIZE(revisions, data_len) (4u * (revisions) \
+    + 516u * (2u * (revisions) + 3u * BULGEFS_FILE_BLOCKS(BULGEFS_SETTINGS_SIZE(revisions, data_len)) \
+    + BULGEFS_FILE_BLOCKS(5u * (revisions) + (5u + (data_len)) * ((revisions) * ((revisions) + 1u) / 2u))))
 
 /*
  * Size of a list of writes: BULGEFS_LIST_HEAD and the BULGEFS_ITEM_SIZE of each
@@ -670,11 +677,22 @@ bulgefs_changed bulgefs_clear_flags(uint8_t *image, size_t image_len,
  *   has number 1, each next one more than the latest.  The last 16 revisions
  *   stand and can be had by their numbers.
  *
- *   They are kept in the file of that name in the root, which the first put
- *   makes; docs/FORMAT.md has its form.  bulgefs_delete takes all revisions away,
- *   and the next put begins with 1.  What other calls write into the file is not
- *   hindered; a file that is not of the form is refused with
+ *   They are kept in the file of that name, in the root or in another directory,
+ *   which the first put makes; docs/FORMAT.md has its form.  bulgefs_delete takes
+ *   all revisions away, and the next put begins with 1.  What other calls write
+ *   into the file is not hindered; a file that is not of the form is refused with
  *   BULGEFS_NOT_SETTINGS, an empty one too.
+ *
+ *   How many boxes fit: the root of d blocks has room for 4 * d - 2 names, at most
+ *   254, and no directory grows.  A first put into a full root is refused with
+ *   BULGEFS_DIRECTORY_FULL however many blocks are free.  For more boxes, make
+ *   directories (bulgefs_create_directory) and use the calls that end in _in.
+ *   Sizes for 900 boxes in nine directories of 26 blocks, with 16 revisions of up
+ *   to 200 bytes each:
+ *
+ *     image    BULGEFS_IMAGE_SIZE(BULGEFS_IMAGE_BLOCKS(900u * 7u + 9u * 26u + 3u))
+ *     journal  BULGEFS_MIN_JOURNAL + 900u * BULGEFS_PUTS_SIZE(16u, 200u), to take back
+ *              every put; BULGEFS_JOURNAL_SIZE(1u, BULGEFS_PUT_BLOCKS(7u)), the last
  */
 
 /*
@@ -687,8 +705,8 @@ bulgefs_changed bulgefs_clear_flags(uint8_t *image, size_t image_len,
  * Refusals: 1 to 7, BULGEFS_BAD_JOURNAL, BULGEFS_BAD_SETTINGS (no serial number,
  * or data_len above 200), BULGEFS_NAME_TAKEN (the root holds a directory of that
  * name), BULGEFS_NOT_SETTINGS, BULGEFS_REVISIONS_USED (the latest revision is
- * 4,294,967,295), BULGEFS_DIRECTORY_FULL, BULGEFS_VOLUME_FULL,
- * BULGEFS_JOURNAL_FULL.
+ * 4,294,967,295), BULGEFS_DIRECTORY_FULL (a first put, and the root has no free
+ * slot), BULGEFS_VOLUME_FULL, BULGEFS_JOURNAL_FULL.
  */
 BULGEFS_CHECKED
 bulgefs_put bulgefs_put_settings(uint8_t *image, size_t image_len,
@@ -720,9 +738,9 @@ bulgefs_got bulgefs_get_latest_settings(const uint8_t *image, size_t image_len,
 /*
  * The same three in a directory: "/" for the root, or the path of a directory as
  * "/a/b", handed over without a terminating zero.  The file is the one of the
- * serial number in that directory.  With "/" they are the calls above.  A
- * directory of d blocks has room for 4 * d - 2 serial numbers, at most 254: for
- * more boxes, take more directories.
+ * serial number in that directory.  With "/" they are the calls above, to the byte.
+ * Two directories may hold the same serial number; each has its own revisions.
+ * A put does not make the directory: bulgefs_create_directory does.
  * Refusals: those of the calls above, of that directory in the place of the root.
  * BULGEFS_BAD_SETTINGS also for a directory that is neither "/" nor of the form
  * of a path; after it BULGEFS_TOO_DEEP (more than 8 directories in it), then

@@ -442,15 +442,41 @@ static void call_directory_changes(const material *m, const buffer *path)
     settle(&image, &journal, d.number, d.record, common | BIT(18), "delete_directory");
 }
 
-/* A get into a buffer of so many bytes of the data; gives the number. */
-static uint32_t call_get(const material *m, const buffer *serial, uint32_t revision, size_t len)
+/* The calls with a directory, or without one if that is NULL; revision UINT32_MAX: the latest. */
+static bulgefs_got get_from(const buffer *image, const buffer *directory, const buffer *serial,
+                            uint32_t revision, uint8_t *into, size_t len)
 {
-    const uint32_t all = STAGES | BIT(10) | BIT(22) | BIT(23) | BIT(24);
+    if (directory == NULL)
+        return revision == UINT32_MAX
+            ? bulgefs_get_latest_settings(image->at, image->len, serial->at, serial->len, into, len)
+            : bulgefs_get_settings(image->at, image->len, serial->at, serial->len, revision, into,
+                                   len);
+    return revision == UINT32_MAX
+        ? bulgefs_get_latest_settings_in(image->at, image->len, directory->at, directory->len,
+                                         serial->at, serial->len, into, len)
+        : bulgefs_get_settings_in(image->at, image->len, directory->at, directory->len, serial->at,
+                                  serial->len, revision, into, len);
+}
+
+static bulgefs_put put_into(buffer *image, buffer *journal, const buffer *directory,
+                            const buffer *serial, const buffer *data)
+{
+    if (directory == NULL)
+        return bulgefs_put_settings(image->at, image->len, journal->at, journal->len, serial->at,
+                                    serial->len, data->at, data->len, 5);
+    return bulgefs_put_settings_in(image->at, image->len, journal->at, journal->len, directory->at,
+                                   directory->len, serial->at, serial->len, data->at, data->len, 5);
+}
+
+/* A get into a buffer of so many bytes of the data; gives the number. */
+static uint32_t call_get(const material *m, const buffer *directory, const buffer *serial,
+                         uint32_t revision, size_t len)
+{
+    const uint32_t all = STAGES | BIT(10) | BIT(22) | BIT(23) | BIT(24)
+        | (directory == NULL ? 0u : BIT(17));
     buffer image = lend_const(m->image, m->image_len);
     buffer into = lend(m->data, len);
-    bulgefs_got g = revision == UINT32_MAX
-        ? bulgefs_get_latest_settings(image.at, image.len, serial->at, serial->len, into.at, len)
-        : bulgefs_get_settings(image.at, image.len, serial->at, serial->len, revision, into.at, len);
+    bulgefs_got g = get_from(&image, directory, serial, revision, into.at, len);
     expect(MAY(all, g.number), "get_settings: number");
     expect(g.number == 0 || ((g.revision | g.length) == 0 && unchanged(&into)),
            "get_settings: refused without a change");
@@ -463,21 +489,21 @@ static uint32_t call_get(const material *m, const buffer *serial, uint32_t revis
     return g.number;
 }
 
-/* A put of the first bytes of the data, and gets, for one serial number. */
-static void call_serial(const material *m, const uint8_t *name, size_t name_len, size_t len)
+/* A put of the first bytes of the data, and gets, for one serial number in a directory. */
+static void call_serial_in(const material *m, const buffer *directory, const uint8_t *name,
+                           size_t name_len, size_t len)
 {
-    const uint32_t all = STAGES | BIT(8) | BIT(11) | BIT(13) | BIT(14) | BIT(15) | BIT(22) | BIT(24);
+    const uint32_t all = STAGES | BIT(8) | BIT(11) | BIT(13) | BIT(14) | BIT(15) | BIT(22) | BIT(24)
+        | (directory == NULL ? 0u : BIT(10) | BIT(17));
     buffer serial = lend_const(name, name_len);
     buffer data = lend_const(m->data, len);
     buffer image = lend(m->image, m->image_len);
     buffer journal = lend(m->journal, m->journal_len);
-    bulgefs_put p = bulgefs_put_settings(image.at, image.len, journal.at, journal.len, serial.at,
-                                         serial.len, data.at, data.len, 5);
+    bulgefs_put p = put_into(&image, &journal, directory, &serial, &data);
     expect(p.number != 0 || bulgefs_check(image.at, image.len) == 0, "put_settings: sound");
     if (p.number == 0) {
         uint8_t got[200];
-        bulgefs_got g = bulgefs_get_latest_settings(image.at, image.len, serial.at, serial.len,
-                                                    got, sizeof got);
+        bulgefs_got g = get_from(&image, directory, &serial, UINT32_MAX, got, sizeof got);
         expect(g.number == 0 && g.revision == p.revision && g.length == len
                    && (len == 0 || memcmp(got, m->data, len) == 0),
                "put_settings: what the next get gives");
@@ -487,9 +513,25 @@ static void call_serial(const material *m, const uint8_t *name, size_t name_len,
     settle(&image, &journal, p.number, p.revision | p.record, all, "put_settings");
     expect(unchanged(&data), "put_settings: data stays");
     give_back(&data);
-    call_get(m, &serial, UINT32_MAX, m->data_len);
-    call_get(m, &serial, random_below(4), m->data_len);
+    call_get(m, directory, &serial, UINT32_MAX, m->data_len);
+    call_get(m, directory, &serial, random_below(4), m->data_len);
     give_back(&serial);
+}
+
+/* The same by the calls of the root, and by those with a directory: "/", the path, and its first bytes. */
+static void call_serial(const material *m, const uint8_t *name, size_t name_len, size_t len)
+{
+    call_serial_in(m, NULL, name, name_len, len);
+    buffer root = lend_const((const uint8_t *)"/", 1);
+    buffer path = lend_const(m->path, m->path_len);
+    buffer part = lend_const(m->path, random_below((uint32_t)m->path_len + 1));
+    call_serial_in(m, &root, name, name_len, len);
+    call_serial_in(m, &path, name, name_len, len);
+    call_serial_in(m, &part, name, name_len, len);
+    expect(unchanged(&root) && unchanged(&path) && unchanged(&part), "put_settings: directory stays");
+    give_back(&root);
+    give_back(&path);
+    give_back(&part);
 }
 
 /* The path as a serial number, its last bytes, and the serial number of fill_volume. */
@@ -1209,6 +1251,57 @@ static void settings(void)
     expect(memcmp(image, before, sizeof image) == 0, "put: as it was");
 }
 
+/*
+ * One serial number in the root, in a directory, and in the deepest one, whose path
+ * has the most bytes that the calls take: each has its own revisions.
+ */
+static void settings_apart(void)
+{
+    static uint8_t image[64 * 512], before[64 * 512], journal[131072], data[3][200], got[200];
+    static const uint8_t serial[] = "ABCDEFGHIJKLMNOP";
+    uint8_t deep[8 * 81];
+    bulgefs_uuid uuid = {{0}};
+    unsigned changes = 8;
+    expect(bulgefs_format(image, sizeof image, 2, 1, uuid, volume_name, 128) == 0, "apart: format");
+    expect(bulgefs_journal_start(journal, sizeof journal) == 0, "apart: start");
+    memcpy(before, image, sizeof image);
+    for (size_t level = 1; level <= 8; level++) {
+        deep[81 * (level - 1)] = '/';
+        memset(deep + 81 * (level - 1) + 1, (int)('a' + level), 80);
+        expect(bulgefs_create_directory(image, sizeof image, journal, sizeof journal, deep,
+                                        81 * level, 0x20, 0, 0, 0, 0, 1, 1).number == 0,
+               "apart: directory");
+    }
+    const size_t lengths[] = {0, 81, 8 * 81};
+    for (uint32_t turn = 1; turn <= 4; turn++)
+        for (size_t i = 0; i < 3; i++) {
+            buffer directory = i == 0 ? lend_const((const uint8_t *)"/", 1)
+                                      : lend_const(deep, lengths[i]);
+            buffer name = lend_const(serial, 16);
+            fill_random(data[i], 200);
+            bulgefs_put p = bulgefs_put_settings_in(image, sizeof image, journal, sizeof journal,
+                                                    directory.at, directory.len, name.at, 16,
+                                                    data[i], 200, turn);
+            expect(p.number == 0 && p.revision == turn, "apart: revision");
+            changes++;
+            for (size_t k = 0; k < 3; k++) {
+                bulgefs_got g = bulgefs_get_latest_settings_in(image, sizeof image,
+                    k == 0 ? (const uint8_t *)"/" : deep, k == 0 ? 1 : lengths[k], name.at, 16, got,
+                    sizeof got);
+                uint32_t latest = k <= i ? turn : turn - 1;
+                expect(latest == 0 ? g.number == BULGEFS_NOT_FOUND
+                                   : g.number == 0 && g.revision == latest
+                                         && memcmp(got, data[k], 200) == 0,
+                       "apart: each has its own");
+            }
+            give_back(&directory);
+            give_back(&name);
+        }
+    while (changes-- > 0)
+        expect(bulgefs_undo(image, sizeof image, journal, sizeof journal).number == 0, "apart: undo");
+    expect(memcmp(image, before, sizeof image) == 0, "apart: as it was");
+}
+
 /* The largest image and the longest journal. */
 static void largest(void)
 {
@@ -1243,6 +1336,7 @@ int main(void)
     reader();
     pieces();
     settings();
+    settings_apart();
     largest();
     printf("%lu passed, %lu failed\n", passed, failed);
     return failed == 0 ? 0 : 1;

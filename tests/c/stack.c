@@ -173,6 +173,44 @@ static void get_latest_settings(void)
     number = g.revision == 2 ? g.number : 99;
 }
 
+/* The deepest directory, with the longest names, and settings in it. */
+static uint8_t deepest[BULGEFS_MAX_LEVELS * (BULGEFS_MAX_NAME + 1)];
+
+static void create_deepest(void)
+{
+    const size_t one = BULGEFS_MAX_NAME + 1;
+    for (size_t level = 1; level <= BULGEFS_MAX_LEVELS; level++) {
+        memset(deepest + one * (level - 1), 'd', one);
+        deepest[one * (level - 1)] = '/';
+        number = bulgefs_create_directory(image, image_len, journal, journal_len, deepest,
+                                          one * level, 0x20, 0, 0, 0, 0, 1, 4).number;
+        if (number != 0)
+            return;
+    }
+}
+
+static void put_settings_in(void)
+{
+    number = bulgefs_put_settings_in(image, image_len, journal, journal_len, deepest, sizeof deepest,
+                                     serial, 6, data, 200, 4).number;
+}
+
+static void get_settings_in(void)
+{
+    static uint8_t buffer[BULGEFS_MAX_SETTINGS];
+    bulgefs_got g = bulgefs_get_settings_in(image, image_len, deepest, sizeof deepest, serial, 6, 1,
+                                            buffer, sizeof buffer);
+    number = g.length == 200 ? g.number : 99;
+}
+
+static void get_latest_settings_in(void)
+{
+    static uint8_t buffer[BULGEFS_MAX_SETTINGS];
+    bulgefs_got g = bulgefs_get_latest_settings_in(image, image_len, deepest, sizeof deepest, serial,
+                                                   6, buffer, sizeof buffer);
+    number = g.revision == 2 ? g.number : 99;
+}
+
 static void delete(void)
 {
     number = bulgefs_delete(image, image_len, journal, journal_len, path, 2).number;
@@ -194,6 +232,9 @@ static const struct {
     {"get_settings", get_settings}, {"get_latest_settings", get_latest_settings},
     {"salvage", salvage}, {"salvage, broken", salvage_broken},
     {"delete", delete}, {"undo", undo},
+    {"create_directory", create_deepest},
+    {"put_settings_in", put_settings_in}, {"put_settings_in again", put_settings_in},
+    {"get_settings_in", get_settings_in}, {"get_latest_settings_in", get_latest_settings_in},
     {"journal_info", journal_info}, {"undo_to", undo_to},
 };
 

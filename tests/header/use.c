@@ -60,6 +60,11 @@ static void journals(void)
     expect(BULGEFS_SETTINGS_SIZE(BULGEFS_MAX_REVISIONS, BULGEFS_MAX_SETTINGS) == 3285u,
            "BULGEFS_SETTINGS_SIZE");
     expect(BULGEFS_PUT_BLOCKS(BULGEFS_FILE_BLOCKS(3285u)) == 11u, "BULGEFS_PUT_BLOCKS");
+    /* 16 puts of 200 bytes: 64 blocks of files and 16 of directories are saved, and 3 more at most at each of the 7 that the file grows by. */
+    expect(BULGEFS_PUTS_SIZE(16u, 200u) >= 4u * 16u + 516u * (64u + 16u + 21u)
+               && BULGEFS_PUTS_SIZE(1u, 0u) >= BULGEFS_RECORD_SIZE(4u)
+               && 900u * BULGEFS_PUTS_SIZE(16u, 200u) < BULGEFS_MAX_JOURNAL,
+           "BULGEFS_PUTS_SIZE");
     expect(BULGEFS_MAX_SERIAL == 16u, "BULGEFS_MAX_SERIAL");
     expect(BULGEFS_JOURNAL_SIZE(2u, 1u) == 1045u, "BULGEFS_JOURNAL_SIZE");
 }
@@ -85,7 +90,7 @@ static void answers(void)
     expect(sizeof(bulgefs_volume) == 20 && sizeof(bulgefs_slot) == 56, "volume, slot");
     expect(BULGEFS_LABELS_SIZE == sizeof(bulgefs_uuid) + BULGEFS_VOLUME_NAME_SIZE,
            "BULGEFS_LABELS_SIZE");
-    expect(BULGEFS_VERSION >= 1200u && strlen(BULGEFS_VERSION_TEXT) >= 5, "version");
+    expect(BULGEFS_VERSION >= 1300u && strlen(BULGEFS_VERSION_TEXT) >= 5, "version");
     expect(BULGEFS_MAX_REPORT == BULGEFS_SLOTS_PER_BLOCK * BULGEFS_MAX_DIRECTORY_BLOCKS,
            "BULGEFS_MAX_REPORT");
     expect(BULGEFS_KEPT == 0 && BULGEFS_ENTRY_LOST == 1 && BULGEFS_FILE_LOST == 2

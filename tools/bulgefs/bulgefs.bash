@@ -27,9 +27,10 @@ _bulgefs_paths() {
     COMPREPLY=("${names[@]}")
 }
 
-# The files of the root whose names are serial numbers.
-_bulgefs_serials() {
+# The files of the root whose names are serial numbers; after a '/', the paths of the volume.
+_bulgefs_boxes() {
     local name names=''
+    [[ $2 == /* ]] && _bulgefs_paths "$1" "$2" && return
     while IFS= read -r name; do
         [[ $name =~ ^[A-Za-z0-9]{1,16}$ ]] && names+=$name$'\n'
     done < <(bulgefs ls "$1" 2>/dev/null)
@@ -42,7 +43,7 @@ _bulgefs_argument() {
     case $command:$count in
     *:0 | put:2 | get:2 | salvage:1 | report:1 | diff:1 | attr:3 | settings:3) _bulgefs_files "$typed" ;;
     ls:1 | info:1 | cat:1 | get:1 | put:1 | rm:* | mkdir:1 | rmdir:* | attr:1) _bulgefs_paths "$volume" "$typed" ;;
-    settings:1 | history:1) _bulgefs_serials "$volume" "$typed" ;;
+    settings:1 | history:1) _bulgefs_boxes "$volume" "$typed" ;;
     settings:2) _bulgefs_words $'put\nget' "$typed" ;;
     attr:2) _bulgefs_words $'get\nset\nclear' "$typed" ;;
     esac

@@ -37,12 +37,13 @@ static const command commands[] = {
       "Says how many blocks of attributes a file has; gets them as FILE (- is standard\n"
       "output), sets them from FILE (- is standard input; zeros fill the last block),\n"
       "or takes them away." },
-    { "settings", command_settings, "VOLUME SERIAL [put FILE|get FILE [REVISION]]",
-      "Settings of a box by its serial number, 1 to 16 letters and digits.  Says the number\n"
-      "of the latest revision; puts the bytes of FILE (- is standard input), at most 200, as a\n"
-      "new one; gets the latest or another as FILE (- is standard output).  The last 16\n"
-      "revisions stand, in the file of that name in the root." },
-    { "history", command_history, "VOLUME SERIAL",
+    { "settings", command_settings, "VOLUME BOX [put FILE|get FILE [REVISION]]",
+      "Settings of a box.  BOX is its serial number, 1 to 16 letters and digits, or a directory\n"
+      "and the serial number, as /venue/SN4471.  Says the number of the latest revision; puts\n"
+      "the bytes of FILE (- is standard input), at most 200, as a new one; gets the latest or\n"
+      "another as FILE (- is standard output).  The last 16 revisions stand, in the file of\n"
+      "that name in the root, or in the directory." },
+    { "history", command_history, "VOLUME BOX",
       "Lists the revisions of a box's settings that stand, oldest first: their numbers, their\n"
       "lengths, and their bytes as text, or as hexadecimal digits where they are none." },
     { "start", command_start, "VOLUME [--journal BYTES]",

@@ -9,48 +9,66 @@
 /* A revision as the library gave it. */
 typedef struct { bulgefs_got got; uint8_t data[BULGEFS_MAX_SETTINGS]; } revision;
 
-static const uint8_t *serial_of(const char *serial)
+/* A box: the directory of its settings and its serial number, and both as they were typed. */
+typedef struct {
+    const char *text;
+    const uint8_t *directory, *serial;
+    size_t directory_length, serial_length;
+} box;
+
+/* What is typed without a '/' is a serial number in the root; else the serial number stands after the last '/', and the directory before it. */
+static box box_of(const char *text)
 {
-    return (const uint8_t *)serial;
+    const char *slash = strrchr(text, '/');
+    box b = { text, (const uint8_t *)"/", (const uint8_t *)text, 1, strlen(text) };
+    if (!slash) return b;
+    b.serial = (const uint8_t *)slash + 1;
+    b.serial_length = strlen(slash + 1);
+    if (slash == text) return b;
+    b.directory = (const uint8_t *)text;
+    b.directory_length = (size_t)(slash - text);
+    return b;
 }
 
-static revision get_latest(const store *s, const char *serial)
+static revision get_latest(const store *s, const box *b)
 {
     revision r;
-    r.got = bulgefs_get_latest_settings(s->image.bytes, s->image.length, serial_of(serial), strlen(serial), r.data, sizeof r.data);
+    r.got = bulgefs_get_latest_settings_in(s->image.bytes, s->image.length, b->directory, b->directory_length, b->serial, b->serial_length, r.data,
+                                           sizeof r.data);
     return r;
 }
 
-static revision get_revision(const store *s, const char *serial, uint32_t number)
+static revision get_revision(const store *s, const box *b, uint32_t number)
 {
     revision r;
-    r.got = bulgefs_get_settings(s->image.bytes, s->image.length, serial_of(serial), strlen(serial), number, r.data, sizeof r.data);
+    r.got = bulgefs_get_settings_in(s->image.bytes, s->image.length, b->directory, b->directory_length, b->serial, b->serial_length, number, r.data,
+                                    sizeof r.data);
     return r;
 }
 
-static int refuse_revision(uint32_t refusal, const char *serial, uint32_t number)
+static int refuse_revision(uint32_t refusal, const box *b, uint32_t number)
 {
-    if (refusal != BULGEFS_NO_REVISION) return refuse(refusal, serial);
-    say("%s: refused (%u): %s: %" PRIu32 "; `bulgefs history` lists those that stand", serial, (unsigned)refusal, bulgefs_text(refusal), number);
+    if (refusal != BULGEFS_NO_REVISION) return refuse(refusal, b->text);
+    say("%s: refused (%u): %s: %" PRIu32 "; `bulgefs history` lists those that stand", b->text, (unsigned)refusal, bulgefs_text(refusal), number);
     return REFUSED;
 }
 
 /* Says the latest revision's number. */
-static int look(const char *volume, const char *serial, const options *o)
+static int look(const char *volume, const box *b, const options *o)
 {
     revision latest;
     store s;
     int status = store_open(&s, volume, o->journal, LOOK);
     if (status) return status;
-    latest = get_latest(&s, serial);
+    latest = get_latest(&s, b);
     store_close(&s);
-    if (latest.got.number) return refuse(latest.got.number, serial);
+    if (latest.got.number) return refuse(latest.got.number, b->text);
     printf("%" PRIu32 "\n", latest.got.revision);
     return DONE;
 }
 
 /* Writes a revision to a file, the latest if none is named. */
-static int get(const char *volume, const char *serial, const char *to, const char *which, const options *o)
+static int get(const char *volume, const box *b, const char *to, const char *which, const options *o)
 {
     uint64_t number = 0;
     revision r;
@@ -58,14 +76,14 @@ static int get(const char *volume, const char *serial, const char *to, const cha
     int status = which ? read_number(which, "REVISION", 0, UINT32_MAX, &number) : DONE;
     if (!status) status = store_open(&s, volume, o->journal, LOOK);
     if (status) return status;
-    r = which ? get_revision(&s, serial, (uint32_t)number) : get_latest(&s, serial);
+    r = which ? get_revision(&s, b, (uint32_t)number) : get_latest(&s, b);
     store_close(&s);
-    if (r.got.number) return refuse_revision(r.got.number, serial, (uint32_t)number);
+    if (r.got.number) return refuse_revision(r.got.number, b, (uint32_t)number);
     return write_output(to, r.data, r.got.length);
 }
 
 /* Puts the bytes of a file as a new revision, and says its number. */
-static int put(const char *volume, const char *serial, const char *from, const options *o)
+static int put(const char *volume, const box *b, const char *from, const options *o)
 {
     bulgefs_put done = { 0, 0, 0 };
     uint64_t time;
@@ -76,9 +94,9 @@ static int put(const char *volume, const char *serial, const char *from, const o
     if (status) return status;
     status = store_open(&s, volume, o->journal, CHANGE);
     if (!status) {
-        done = bulgefs_put_settings(s.image.bytes, s.image.length, s.journal.bytes, s.journal.length, serial_of(serial), strlen(serial),
-                                    data.bytes, data.length, time);
-        status = store_finish(&s, done.number ? refuse(done.number, serial) : DONE);
+        done = bulgefs_put_settings_in(s.image.bytes, s.image.length, s.journal.bytes, s.journal.length, b->directory, b->directory_length, b->serial,
+                                       b->serial_length, data.bytes, data.length, time);
+        status = store_finish(&s, done.number ? refuse(done.number, b->text) : DONE);
     }
     if (!status) printf("revision %" PRIu32 "\n", done.revision);
     free(data.bytes);
@@ -88,10 +106,13 @@ static int put(const char *volume, const char *serial, const char *from, const o
 int command_settings(int argc, char **argv, const options *o)
 {
     int good = good_arguments(&argc, argv, 2, 5);
-    if (good && argc == 3) return look(argv[1], argv[2], o);
-    if (good && argc == 5 && !strcmp(argv[3], "put")) return put(argv[1], argv[2], argv[4], o);
-    if (good && argc >= 5 && !strcmp(argv[3], "get")) return get(argv[1], argv[2], argv[4], argc == 6 ? argv[5] : NULL, o);
-    return usage("settings VOLUME SERIAL [put FILE|get FILE [REVISION]]");
+    box b;
+    if (!good) return usage("settings VOLUME BOX [put FILE|get FILE [REVISION]]");
+    b = box_of(argv[2]);
+    if (argc == 3) return look(argv[1], &b, o);
+    if (argc == 5 && !strcmp(argv[3], "put")) return put(argv[1], &b, argv[4], o);
+    if (argc >= 5 && !strcmp(argv[3], "get")) return get(argv[1], &b, argv[4], argc == 6 ? argv[5] : NULL, o);
+    return usage("settings VOLUME BOX [put FILE|get FILE [REVISION]]");
 }
 
 /* Whether all bytes are characters of UTF-8; of those that move the cursor only a tab and the end of a line. */
@@ -131,12 +152,12 @@ static void json_revision(const revision *r)
 }
 
 /* The revisions that stand, oldest first: they end with the latest, and are at most so many. */
-static void list(const store *s, const char *serial, uint32_t latest, int json)
+static void list(const store *s, const box *b, uint32_t latest, int json)
 {
     uint32_t number = latest > BULGEFS_MAX_REVISIONS ? latest - BULGEFS_MAX_REVISIONS : 0;
     int first = 1;
     while (number++ < latest) {
-        revision r = get_revision(s, serial, number);
+        revision r = get_revision(s, b, number);
         if (r.got.number) continue;
         if (json && !first) fputs(",\n", stdout);
         first = 0;
@@ -145,25 +166,39 @@ static void list(const store *s, const char *serial, uint32_t latest, int json)
     }
 }
 
+/* The directory only if one was typed. */
+static void json_box(const box *b)
+{
+    putchar('{');
+    if (b->text[0] == '/') {
+        fputs("\"directory\":", stdout);
+        json_string(stdout, b->directory, b->directory_length);
+        putchar(',');
+    }
+    fputs("\"serial\":", stdout);
+    json_string(stdout, b->serial, b->serial_length);
+}
+
 int command_history(int argc, char **argv, const options *o)
 {
     revision latest;
     store s;
+    box b;
     int status;
-    if (!good_arguments(&argc, argv, 2, 2)) return usage("history VOLUME SERIAL");
+    if (!good_arguments(&argc, argv, 2, 2)) return usage("history VOLUME BOX");
+    b = box_of(argv[2]);
     status = store_open(&s, argv[1], o->journal, LOOK);
     if (status) return status;
-    latest = get_latest(&s, argv[2]);
+    latest = get_latest(&s, &b);
     if (latest.got.number) {
         store_close(&s);
-        return refuse(latest.got.number, argv[2]);
+        return refuse(latest.got.number, b.text);
     }
     if (o->json) {
-        fputs("{\"serial\":", stdout);
-        json_text(stdout, argv[2]);
+        json_box(&b);
         printf(",\"latest\":%" PRIu32 ",\"revisions\":[\n", latest.got.revision);
     }
-    list(&s, argv[2], latest.got.revision, o->json);
+    list(&s, &b, latest.got.revision, o->json);
     if (o->json) puts("\n]}");
     store_close(&s);
     return DONE;

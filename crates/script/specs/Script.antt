@@ -1,17 +1,17 @@
 -- Scripts: a run's calls as bytes, and its answers as bytes. A script is a sequence of items that fill it exactly. An item is a header of 33 bytes,
 -- then a name, then data. In the header, all numbers big-endian: op (1 byte), type (1), user (1), group (1), permissions (1), flags (4), offset (8),
 -- time (8), length of the name (4), length of the data (4). Fields that an op does not use are not looked at.
-use Prim.Native.Nat.{ℕ, _+_, _-_, _/_, _%_, _≤_}
+use Prim.Native.Nat.{ℕ, _+_, _-_, _/_, _%_, _≤_, min}
 use mathlib.Core.Path.{_≡_}
 use mathlib.Core.List.{List, [], _∷_, _++_, map}
-use mathlib.Core.Bool.{Bool, not, _&&_, cond}
+use mathlib.Core.Bool.{Bool, not, _&&_, _||_, cond}
 use lib.ListN.{length, getD}
 use lib.Dec.{eqb, leb}
 use Rattle.layout.specs.Lists.{within, every, joined}
 use Rattle.layout.specs.Bytes.{be32, be64, bytes4, zeros, part, splice}
 use Rattle.layout.specs.Check.{check}
 use Rattle.layout.specs.Looks.{VolumeAnswer, EntryAnswer}
-use Rattle.store.specs.Change.{Change, create, write, delete, createDirectory, deleteDirectory, setAttributes, clearAttributes, clearFlags, put}
+use Rattle.store.specs.Change.{Change, create, write, delete, createDirectory, deleteDirectory, setAttributes, clearAttributes, clearFlags, putIn, put}
 use Rattle.store.specs.Get.{Which, theLatest, theNumber}
 use Rattle.journal.specs.Journal.{recordsFrom, started, startRefusal}
 use Rattle.journal.specs.Run.{Look, checkImage, findFile, readFile, lookAt, readAttributesOf, getSettingsIn, getSettings, showVolume, showEntry, Call, change, undo, look, Answer, changed, undone, checked, found, filled, shown, got, described, entered, State, state}
@@ -35,6 +35,16 @@ nameAt s at = part s (at + 33) (nameLength s at)
 unfoldable pub dataAt : List ℕ → ℕ → List ℕ
 dataAt s at = part s (at + 33 + nameLength s at) (dataLength s at)
 
+-- A directory and a serial number are one name: the flags tell how many of its first bytes are the directory; all of them, if it has no more.
+abbrev pub directoryLength : List ℕ → ℕ → ℕ
+directoryLength s at = min (be32 s (at + 5)) (nameLength s at)
+
+unfoldable pub directoryAt : List ℕ → ℕ → List ℕ
+directoryAt s at = part s (at + 33) (directoryLength s at)
+
+unfoldable pub serialAt : List ℕ → ℕ → List ℕ
+serialAt s at = part s (at + 33 + directoryLength s at) (nameLength s at - directoryLength s at)
+
 abbrev pub itemSize : List ℕ → ℕ → ℕ
 itemSize s at = 33 + nameLength s at + dataLength s at
 
@@ -46,9 +56,14 @@ Fits s at = at + itemSize s at ≤ length s
 -- 7 delete, 8 undo, 9 create directory (its number of blocks is in the last four bytes of the offset), 10 delete directory, 11 set attributes,
 -- 12 clear attributes, 13 read attributes (the data is its buffer, as for read), 14 clear flags, 15 write list (the data is the list), 16 the volume's
 -- numbers, 17 an entry of the directory of the name (the offset is the slot to begin with), 18 put settings (the name is the serial number, the data the
--- settings), 19 get settings (the revision is in the last four bytes of the offset), 20 get latest settings; in 16, 17, 19 and 20 the data is the buffer.
+-- settings), 19 get settings (the revision is in the last four bytes of the offset), 20 get latest settings; 21, 22 and 23 are 18, 19 and 20 in a directory
+-- (the name is the directory and the serial number). In 16, 17, 19, 20, 22 and 23 the data is the buffer.
 abbrev pub lastOp : ℕ
-lastOp = 20
+lastOp = 23
+
+-- a put in a directory
+unfoldable pub putAt : List ℕ → ℕ → Change
+putAt s at = putIn (directoryAt s at) (serialAt s at) (be64 s (at + 17)) (dataAt s at)
 
 unfoldable pub changeAt : List ℕ → ℕ → Change
 changeAt s at =
@@ -66,7 +81,8 @@ changeAt s at =
     (cond (eqb (opAt s at) 11) (setAttributes name (dataAt s at))
     (cond (eqb (opAt s at) 12) (clearAttributes name)
     (cond (eqb (opAt s at) 14) (clearFlags name)
-    (cond (eqb (opAt s at) 18) (put name time (dataAt s at)) (delete name))))))))
+    (cond (eqb (opAt s at) 18) (put name time (dataAt s at))
+    (cond (eqb (opAt s at) 21) (putAt s at) (delete name)))))))))
 
 unfoldable pub callAt : List ℕ → ℕ → Call
 callAt s at =
@@ -79,17 +95,22 @@ callAt s at =
     (cond (eqb (opAt s at) 13) (look (readAttributesOf name (dataAt s at)))
     (cond (eqb (opAt s at) 8) undo (change (changeAt s at)))))))
 
--- the looks from op 16 on
+-- the looks from op 16 on: all to 23 but the two puts
 abbrev pub shows : ℕ → Bool
-shows op = not (eqb op 18) && leb 16 op
+shows op = not (eqb op 18 || eqb op 21) && within 16 23 op
 
+-- the gets: 19 and 22 of a revision, 20 and 23 of the latest; 19 and 20 in the root, 22 and 23 in a directory
 unfoldable pub whichAt : List ℕ → ℕ → Which
-whichAt s at = cond (eqb (opAt s at) 19) (theNumber (be32 s (at + 13))) theLatest
+whichAt s at = cond (eqb (opAt s at) 19 || eqb (opAt s at) 22) (theNumber (be32 s (at + 13))) theLatest
+
+unfoldable pub getAt : List ℕ → ℕ → Look
+getAt s at =
+    cond (leb 22 (opAt s at)) (getSettingsIn (directoryAt s at) (serialAt s at) (whichAt s at) (dataAt s at)) (getSettings (nameAt s at) (whichAt s at) (dataAt s at))
 
 unfoldable pub showAt : List ℕ → ℕ → Look
 showAt s at =
     cond (eqb (opAt s at) 16) (showVolume (dataAt s at))
-    (cond (eqb (opAt s at) 17) (showEntry (nameAt s at) (be64 s (at + 9)) (dataAt s at)) (getSettings (nameAt s at) (whichAt s at) (dataAt s at)))
+    (cond (eqb (opAt s at) 17) (showEntry (nameAt s at) (be64 s (at + 9)) (dataAt s at)) (getAt s at))
 
 unfoldable pub itemCall : List ℕ → ℕ → KindCall lists
 itemCall s at = cond (eqb (opAt s at) 15) (further (dataAt s at)) (cond (shows (opAt s at)) (call (look (showAt s at))) (call (callAt s at)))

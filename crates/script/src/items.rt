@@ -54,7 +54,7 @@ fn item_ok(script: &[u8], at: usize) -> bool
     if script[at] < 1 {
         return false;
     }
-    script[at] <= 20
+    script[at] <= 23
 }
 
 // Whether an op fills a buffer: read, and read attributes.
@@ -67,14 +67,17 @@ pub fn fills(op: u8) -> bool
     op == 3
 }
 
-// Whether an op is a look from 16 on: all but put settings.
+// Whether an op is a look from 16 on: all to 23 but the two puts.
 pub fn shows(op: u8) -> bool
     ensures { λ r. ⌜ r ≡ shows op ⌝ }
 {
     if op == 18 {
         return false;
     }
-    16 <= op
+    if op == 21 {
+        return false;
+    }
+    layout::directory::is_within(op, 16, 23)
 }
 
 // The length of the answer to the item at `at`, which is no look from op 16 on.

@@ -4,15 +4,16 @@ ghost use mathlib.Core.List.{List};
 ghost use Prim.Native.Nat.{ℕ, _+_, _≤_, _<_};
 ghost use lib.ListN.{length, getD};
 ghost use mathlib.Core.Bool.{true, false};
+ghost use mathlib.Core.Logic.{_≢_};
 ghost use Rattle.layout.specs.Lists.{every, joined};
 ghost use Rattle.layout.specs.Bytes.{be32, splice};
-ghost use Rattle.journal.specs.Run.{undo, answer, state};
+ghost use Rattle.journal.specs.Run.{change, undo, answer, state};
 ghost use Rattle.journal.specs.Kinds.{runOf, answersOf};
 ghost use Rattle.journal.specs.Answers.{changedAnswer, undoneAnswer};
 ghost use Rattle.script.specs.Answers.{ranStatus};
 ghost use Rattle.store.specs.Asked.{asked};
 ghost use Rattle.store.specs.Change.{create, createDirectory};
-ghost use Rattle.script.specs.Script.{numbers, Fits, nameAt, dataAt, opAt, shows, changeAt, callAt, itemCall, encoded, encodedItem, itemOk, itemsFrom, callsOf, answersSize, leaves, outcome, replayOutcome, JustStarted};
+ghost use Rattle.script.specs.Script.{numbers, Fits, nameAt, dataAt, opAt, shows, putAt, changeAt, callAt, itemCall, encoded, encodedItem, itemOk, itemsFrom, callsOf, answersSize, leaves, outcome, replayOutcome, JustStarted};
 ghost use Rattle.script.specs.Walks.Scripts.{looks, Item, Whole, CallDone, ItemDone};
 use super::answers::Numbers;
 use super::items::data_of;
@@ -99,9 +100,9 @@ fn directory_of(script: &[u8], at: usize, time: u64) -> Change
     })
 }
 
-// The change that the item at `at` asks for.
+// The change that the item at `at` asks for, which is no put in a directory.
 fn change_of(script: &[u8], at: usize) -> Change
-    requires { ⌜ Fits (now script) at ⌝ }
+    requires { ⌜ (Fits (now script) at) × (opAt (now script) at ≢ 21) ⌝ }
     ensures { λ r. ⌜ asked r (nameAt (now (script .entry)) at) (dataAt (now (script .entry)) at) ≡ changeAt (now (script .entry)) at ⌝ }
 {
     let op = script[at];
@@ -165,6 +166,19 @@ fn look(script: &[u8], at: usize, image: &[u8], part: &mut [u8])
     super::answers::look_in_place(script, at, image, part);
 }
 
+// Put settings in a directory, with the answer.
+fn put_in(script: &[u8], at: usize, image: &mut [u8], journal: &mut [u8], part: &mut [u8])
+    requires { ⌜ (Fits (now script) at) × (length (now part) ≡ 16) ⌝ }
+    ensures { λ _. ⌜ CallDone (state (now (image .entry)) (now (journal .entry))) (change (putAt (now (script .entry)) at)) (now (image .exit)) (now (journal .exit)) (now (part .exit)) ⌝ }
+{
+    let directory = super::settings::directory_of(script, at);
+    let serial = super::settings::serial_of(script, at);
+    let bytes = data_of(script, at);
+    let time = get64(script, at + 17);
+    let c = journal::calls::put_settings_in(image, journal, directory, serial, bytes, time);
+    super::answers::put_numbers(part, changed_numbers(c));
+}
+
 // Make the change or undo of the item at `at`.
 fn change(script: &[u8], at: usize, image: &mut [u8], journal: &mut [u8], part: &mut [u8])
     requires { ⌜ (Item (now script) at (now part)) × (looks (opAt (now script) at) ≡ false) ⌝ }
@@ -172,6 +186,10 @@ fn change(script: &[u8], at: usize, image: &mut [u8], journal: &mut [u8], part: 
 {
     if script[at] == 8 {
         undo(image, journal, part);
+        return;
+    }
+    if script[at] == 21 {
+        put_in(script, at, image, journal, part);
         return;
     }
     let what = change_of(script, at);

@@ -122,6 +122,12 @@ folders =
     -- eight directories and nine; 22 before 17
     ∷ (map (λ (k : ℕ). refusal d₁ (putIn (deep k) box 1 [])) (7 ∷ 8 ∷ []) ++ (refusal d₁ (putIn (deep 8) [] 1 []) ∷ []), 10 ∷ 17 ∷ 22 ∷ [])
     ∷ (map (λ (k : ℕ). getRefusal d₁ (deep k) box theLatest 200) (7 ∷ 8 ∷ []) ++ (getRefusal d₁ (deep 8) box theLatest 199 ∷ []), 10 ∷ 17 ∷ 22 ∷ [])
+    -- the same serial number in the root: each has its own revisions
+    ∷ (
+      let t = after (after d₁ second) (putIn folder box 700 (100 ∷ [])) in
+          numbers (lookAnswer t (getSettingsIn folder box theLatest room)) ++ numbers (lookAnswer t (getSettings box theLatest room)),
+      0 ∷ 2 ∷ 1 ∷ 100 ∷ replicate 199 7 ++ (0 ∷ 1 ∷ 0 ∷ room),
+    )
     -- a second one fits /D, a third does not
     ∷ (let t = after d₁ (putIn folder (66 ∷ []) 1 []) in refusal t (putIn folder (67 ∷ []) 1 []) ∷ refusal t (putIn folder (66 ∷ []) 1 []) ∷ [], 13 ∷ 0 ∷ [])
     ∷ []
@@ -182,7 +188,7 @@ unfolding refusals empty last small first second box s₀ s₁ s₂ samples stor
 refusals-hold = tt
 
 folders-hold : AsExpected folders
-unfolding folders folder d₀ inside d₁ deep room box s₀ samples storeRules rules
+unfolding folders folder d₀ inside d₁ deep second room box s₀ samples storeRules rules
 folders-hold = tt
 
 forms-hold : AsExpected forms

@@ -2,9 +2,11 @@
 
 use crate::images::good_name;
 use crate::rng::Rng;
+use crate::tester::Get;
 use crate::tree::{files, folders, items, slots, Item};
 use reference::layout::*;
 use reference::path::Want;
+use reference::store::ROOT;
 use reference::worked::list_of;
 use reference::{
     Append, Change, ClearAttributes, ClearFlags, Create, CreateDirectory, Delete, DeleteDirectory,
@@ -581,11 +583,49 @@ pub fn good_serial(rng: &mut Rng) -> Vec<u8> {
     }
 }
 
-/// Any serial number: of a file or folder of the root more often than not.
-pub fn any_serial(rng: &mut Rng, image: &[u8]) -> Vec<u8> {
-    let root = tree(image).swap_remove(0);
+/// A directory that is neither the root nor a path.
+pub fn bad_home(rng: &mut Rng) -> Vec<u8> {
+    loop {
+        let path = bad_path(rng);
+        if path != ROOT {
+            return path;
+        }
+    }
+}
+
+/// The directory of a put or a get, none for the calls of the root: mostly one
+/// that is there, and one that holds settings if there is any.
+pub fn any_home(rng: &mut Rng, image: &[u8]) -> Option<Vec<u8>> {
+    let holds = |home: &Directory| {
+        home.entries.iter().any(|e| e.is_file() && file_revisions(image, e).is_some())
+    };
+    let homes: Vec<Directory> = tree(image).into_iter().filter(holds).collect();
+    match rng.below(12) {
+        0..=2 => None,
+        3..=5 => Some(any_listed(rng, image)),
+        6 => Some(deep_path(rng, image, Want::Directory)),
+        7 => Some(bad_home(rng)),
+        _ if !homes.is_empty() => Some(path_of_home(&rng.pick(&homes))),
+        _ => Some(path_of_home(&rng.pick(&tree(image)))),
+    }
+}
+
+/// A directory as the calls of settings take it.
+pub fn path_of_home(home: &Directory) -> Vec<u8> {
+    if home.path.is_empty() {
+        ROOT.to_vec()
+    } else {
+        home.path.clone()
+    }
+}
+
+/// Any serial number: of a file or folder of that directory more often than not.
+pub fn any_serial(rng: &mut Rng, image: &[u8], directory: &[u8]) -> Vec<u8> {
+    let mut homes = tree(image);
+    let at = homes.iter().position(|home| path_of_home(home) == directory);
+    let home = homes.swap_remove(at.unwrap_or(0));
     let fits = |e: &&Entry| e.name.len() <= 16 && e.name.iter().all(u8::is_ascii_alphanumeric);
-    let fitting: Vec<&Entry> = root.entries.iter().filter(fits).collect();
+    let fitting: Vec<&Entry> = home.entries.iter().filter(fits).collect();
     let settled = |e: &&&Entry| e.is_file() && file_revisions(image, e).is_some();
     let settled: Vec<&Entry> = fitting.iter().filter(settled).copied().collect();
     match rng.below(12) {
@@ -621,14 +661,18 @@ pub fn any_settings(rng: &mut Rng) -> Vec<u8> {
 }
 
 pub fn any_put(rng: &mut Rng, image: &[u8]) -> Change {
-    let serial = any_serial(rng, image);
-    Change::Put(Put { serial, data: any_settings(rng), time: any_time(rng) })
+    let directory = any_home(rng, image);
+    let serial = any_serial(rng, image, directory.as_deref().unwrap_or(ROOT));
+    Change::Put(Put { directory, serial, data: any_settings(rng), time: any_time(rng) })
 }
 
-/// A serial number, a revision near those that stand, and a buffer.
-pub fn any_get(rng: &mut Rng, image: &[u8]) -> (Vec<u8>, Which, Vec<u8>) {
-    let serial = any_serial(rng, image);
-    let latest = reference::get(image, &serial, Which::Latest, 200).map_or(0, |r| r.number);
+/// A directory and a serial number, a revision near those that stand, and a buffer.
+pub fn any_get(rng: &mut Rng, image: &[u8]) -> Get {
+    let directory = any_home(rng, image);
+    let home = directory.as_deref().unwrap_or(ROOT);
+    let serial = any_serial(rng, image, home);
+    let latest = reference::get_in(image, home, &serial, Which::Latest, 200);
+    let latest = latest.map_or(0, |r| r.number);
     let which = match rng.below(8) {
         0..=2 => Which::Latest,
         3 => Which::Number(rng.pick(&[0, 1, u32::MAX])),
@@ -640,7 +684,7 @@ pub fn any_get(rng: &mut Rng, image: &[u8]) -> (Vec<u8>, Which, Vec<u8>) {
         1..=5 => 200,
         _ => rng.between(200, 1000),
     };
-    (serial, which, rng.bytes(length))
+    Get { directory, serial, which, buffer: rng.bytes(length) }
 }
 
 /// One of each change.

@@ -200,6 +200,24 @@ extern "C" {
                                        serial: *const u8, serial_len: usize,
                                        buffer: *mut u8, buffer_len: usize) -> Got;
 
+    pub fn bulgefs_put_settings_in(image: *mut u8, image_len: usize,
+                                   journal: *mut u8, journal_len: usize,
+                                   directory: *const u8, directory_len: usize,
+                                   serial: *const u8, serial_len: usize,
+                                   data: *const u8, data_len: usize,
+                                   time: u64) -> Put;
+
+    pub fn bulgefs_get_settings_in(image: *const u8, image_len: usize,
+                                   directory: *const u8, directory_len: usize,
+                                   serial: *const u8, serial_len: usize,
+                                   revision: u32,
+                                   buffer: *mut u8, buffer_len: usize) -> Got;
+
+    pub fn bulgefs_get_latest_settings_in(image: *const u8, image_len: usize,
+                                          directory: *const u8, directory_len: usize,
+                                          serial: *const u8, serial_len: usize,
+                                          buffer: *mut u8, buffer_len: usize) -> Got;
+
     pub fn bulgefs_undo(image: *mut u8, image_len: usize,
                         journal: *mut u8, journal_len: usize) -> Changed;
 

@@ -49,6 +49,30 @@ pub fn get(image: &Lent, serial: &Lent, which: Which, buffer: &mut Lent) -> Got 
     }
 }
 
+/// The same from a directory.
+pub fn get_in(
+    image: &Lent,
+    directory: &Lent,
+    serial: &Lent,
+    which: Which,
+    buffer: &mut Lent,
+) -> Got {
+    let (at, len) = (image.ptr(), image.len());
+    let (dir, dir_len) = (directory.ptr(), directory.len());
+    let (serial, serial_len) = (serial.ptr(), serial.len());
+    let (into, room) = (buffer.mut_ptr(), buffer.len());
+    match which {
+        Which::Latest => unsafe {
+            ffi::bulgefs_get_latest_settings_in(
+                at, len, dir, dir_len, serial, serial_len, into, room,
+            )
+        },
+        Which::Number(x) => unsafe {
+            ffi::bulgefs_get_settings_in(at, len, dir, dir_len, serial, serial_len, x, into, room)
+        },
+    }
+}
+
 pub fn look_in_place(image: &Lent, path: &Lent, index: u64) -> Part {
     unsafe { ffi::bulgefs_look_in_place(image.ptr(), image.len(), path.ptr(), path.len(), index) }
 }
@@ -185,6 +209,15 @@ impl Pair {
         unsafe {
             ffi::bulgefs_put_settings(image, image_len, journal, journal_len,
                                       serial.ptr(), serial.len(), data.ptr(), data.len(), time)
+        }
+    }
+
+    pub fn put_in(&mut self, directory: &Lent, serial: &Lent, data: &Lent, time: u64) -> Put {
+        let (image, image_len, journal, journal_len) = self.lent();
+        unsafe {
+            ffi::bulgefs_put_settings_in(image, image_len, journal, journal_len,
+                                         directory.ptr(), directory.len(),
+                                         serial.ptr(), serial.len(), data.ptr(), data.len(), time)
         }
     }
 

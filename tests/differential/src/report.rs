@@ -26,6 +26,9 @@ pub enum Entry {
     Put,
     Get,
     GetLatest,
+    PutIn,
+    GetIn,
+    GetLatestIn,
     Undo,
     LoadTable,
     StoreTable,
@@ -34,7 +37,7 @@ pub enum Entry {
 
 /// Every entry point, and the numbers that it can answer. Look in place has
 /// no number; its row counts what look up would have answered.
-const ENTRIES: [(Entry, &str, &[u32]); 28] = [
+const ENTRIES: [(Entry, &str, &[u32]); 31] = [
     (Entry::Check, "check", &[0, 1, 2, 3, 4, 5, 6, 7]),
     (Entry::PlainCheck, "plain_check", &[0, 1, 2, 3, 4, 5, 6, 7]),
     (Entry::Format, "format", &[0, 1, 9, 14]),
@@ -63,6 +66,9 @@ const ENTRIES: [(Entry, &str, &[u32]); 28] = [
     (Entry::Put, "put", &[0, 1, 2, 3, 4, 5, 6, 7, 8, 11, 13, 14, 15, 22, 24, 25]),
     (Entry::Get, "get", &[0, 1, 2, 3, 4, 5, 6, 7, 10, 22, 23, 24]),
     (Entry::GetLatest, "get_latest", &[0, 1, 2, 3, 4, 5, 6, 7, 10, 22, 24]),
+    (Entry::PutIn, "put_in", &[0, 1, 2, 3, 4, 5, 6, 7, 8, 10, 11, 13, 14, 15, 17, 22, 24, 25]),
+    (Entry::GetIn, "get_in", &[0, 1, 2, 3, 4, 5, 6, 7, 10, 17, 22, 23, 24]),
+    (Entry::GetLatestIn, "get_latest_in", &[0, 1, 2, 3, 4, 5, 6, 7, 10, 17, 22, 24]),
     (Entry::Undo, "undo", &[0, 1, 2, 3, 4, 5, 6, 7, 8, 16]),
     (Entry::LoadTable, "load_table", &[0, 1, 2, 3, 4, 5, 6, 7, 21]),
     (Entry::StoreTable, "store_table", &[0, 1, 2, 3, 4, 5, 6, 7, 21]),

@@ -7,6 +7,7 @@ use crate::plain::Plain;
 use crate::report::{Entry, Report};
 use reference::overview::{ENTRY_NUMBERS, VOLUME_NUMBERS};
 use reference::replay::told;
+use reference::store::ROOT;
 use reference::{Answer, Append, Change, Listed, Salvaged, State, Which};
 
 pub struct Tester {
@@ -153,23 +154,22 @@ impl Tester {
     }
 
     /// A get. Gives the reference's number.
-    pub fn get(&mut self, image: &[u8], serial: &[u8], which: Which, buffer: &[u8]) -> u32 {
+    pub fn get(&mut self, image: &[u8], get: &Get) -> u32 {
         let lent = self.lend(image);
-        self.get_in(&lent, image, serial, which, buffer)
+        self.get_in(&lent, image, get)
     }
 
     /// A get from an image that is lent already.
-    pub fn get_in(
-        &mut self,
-        lent: &Lent,
-        image: &[u8],
-        serial: &[u8],
-        which: Which,
-        buffer: &[u8],
-    ) -> u32 {
+    pub fn get_in(&mut self, lent: &Lent, image: &[u8], get: &Get) -> u32 {
+        let Get { directory, serial, which, buffer } = get;
+        let home = directory.as_deref().unwrap_or(ROOT);
+        let lent_home = self.lend(home);
         let (lent_serial, mut lent_buffer) = (self.lend(serial), self.lend(buffer));
-        let got = library::get(lent, &lent_serial, which, &mut lent_buffer);
-        let result = reference::get(image, serial, which, buffer.len());
+        let got = match directory {
+            None => library::get(lent, &lent_serial, *which, &mut lent_buffer),
+            Some(_) => library::get_in(lent, &lent_home, &lent_serial, *which, &mut lent_buffer),
+        };
+        let result = reference::get_in(image, home, serial, *which, buffer.len());
         let number = number_of(&result);
         let (revision, data) = result.map_or((0, vec![]), |r| (r.number, r.data));
         let mut after = buffer.to_vec();
@@ -177,11 +177,12 @@ impl Tester {
         let troubles = [
             unequal(got, ffi::Got { number, revision, length: data.len() as u32 }),
             lent.trouble("image", image),
+            lent_home.trouble("directory", home),
             lent_serial.trouble("serial", serial),
             lent_buffer.trouble("buffer", &after),
         ];
         self.check_refused(image, number);
-        self.report.call(get_entry(which), number, troubles);
+        self.report.call(get_entry(directory.is_some(), *which), number, troubles);
         number
     }
 
@@ -243,16 +244,20 @@ impl Tester {
         }
     }
 
-    /// All calls that only look, for one path and its bytes as a serial number.
+    /// All calls that only look, for one path, its bytes as a serial number, and
+    /// the path as a directory.
     pub fn look(&mut self, image: &[u8], path: &[u8], offset: u64, buffer: &[u8], index: u64) {
         self.check(image);
         self.lookup(image, path);
         self.read(image, path, offset, buffer);
         self.read_attributes(image, path, buffer);
         self.look_in_place(image, path, index);
-        let serial = path.strip_prefix(b"/").unwrap_or(path);
+        let serial = path.strip_prefix(b"/").unwrap_or(path).to_vec();
         for which in [Which::Latest, Which::Number(index as u32)] {
-            self.get(image, serial, which, buffer);
+            for directory in [None, Some(path.to_vec())] {
+                let (serial, buffer) = (serial.clone(), buffer.to_vec());
+                self.get(image, &Get { directory, serial, which, buffer });
+            }
         }
         self.info(image, buffer);
         self.entry(image, path, index as u32, buffer);
@@ -447,10 +452,16 @@ impl Tester {
             Change::ClearFlags(_) => (Entry::ClearFlags, without_slot(pair.clear_flags(&path))),
             Change::Put(p) => {
                 let (serial, data) = (self.lend(&p.serial), self.lend(&p.data));
-                let ffi::Put { number, revision, record } = pair.put(&serial, &data, p.time);
+                let home = self.lend(p.directory());
+                let (entry, got) = match p.directory {
+                    None => (Entry::Put, pair.put(&serial, &data, p.time)),
+                    Some(_) => (Entry::PutIn, pair.put_in(&home, &serial, &data, p.time)),
+                };
+                let ffi::Put { number, revision, record } = got;
+                troubles.push(home.trouble("directory", p.directory()));
                 troubles.push(serial.trouble("serial", &p.serial));
                 troubles.push(data.trouble("data", &p.data));
-                (Entry::Put, ffi::Created { number, slot: revision, record })
+                (entry, ffi::Created { number, slot: revision, record })
             }
         };
         troubles.push(path.trouble("path", &own_path));
@@ -458,11 +469,22 @@ impl Tester {
     }
 }
 
-/// The entry point of a get.
-pub fn get_entry(which: Which) -> Entry {
-    match which {
-        Which::Latest => Entry::GetLatest,
-        Which::Number(_) => Entry::Get,
+/// What a get brings; the call for the root brings no directory.
+#[derive(Clone, Debug)]
+pub struct Get {
+    pub directory: Option<Vec<u8>>,
+    pub serial: Vec<u8>,
+    pub which: Which,
+    pub buffer: Vec<u8>,
+}
+
+/// The entry point of a get, with a directory or without.
+pub fn get_entry(placed: bool, which: Which) -> Entry {
+    match (placed, which) {
+        (false, Which::Latest) => Entry::GetLatest,
+        (false, Which::Number(_)) => Entry::Get,
+        (true, Which::Latest) => Entry::GetLatestIn,
+        (true, Which::Number(_)) => Entry::GetIn,
     }
 }
 

@@ -28,7 +28,7 @@ pub use overview::{info, next_entry, Told};
 pub use pieces::{append, append_whole, read_next, Append, Appended};
 pub use replay::{Answer, Call, Replay};
 pub use salvage::{salvage, Salvaged};
-pub use store::{get, Put, Revision, Which};
+pub use store::{get, get_in, Put, Revision, Which};
 pub use table::{load_table, store_table};
 pub use volume::{
     format, look_in_place, lookup, read, read_attributes, Change, ClearAttributes, ClearFlags,

@@ -56,7 +56,7 @@ impl Place<'_> {
 
 /// Goes from a directory down, one part at a time; 10 at a file or a missing
 /// part.
-fn walk(image: &[u8], from: usize, names: &[&[u8]]) -> Result<usize, Refusal> {
+pub(crate) fn walk(image: &[u8], from: usize, names: &[&[u8]]) -> Result<usize, Refusal> {
     match names {
         [] => Ok(from),
         [name, rest @ ..] => match named(image, from, name) {

@@ -5,7 +5,7 @@
 use crate::journal::{apply, State};
 use crate::overview::{info, next_entry, none, Told, ENTRY_NUMBERS, VOLUME_NUMBERS};
 use crate::pieces::{append, piece_write, Append};
-use crate::store::{get, Revision, Which};
+use crate::store::{get_in, Revision, Which, ROOT};
 use crate::volume::{look_in_place, lookup, read, read_attributes, Change, Found};
 use crate::write_list::{write_list, writes};
 use crate::{check, Refusal};
@@ -20,13 +20,37 @@ pub enum Call {
     Append(Append),
     Undo,
     Check,
-    Lookup { path: Vec<u8> },
-    Read { path: Vec<u8>, offset: u64, buffer: Vec<u8> },
-    LookInPlace { path: Vec<u8>, index: u64 },
-    ReadAttributes { path: Vec<u8>, buffer: Vec<u8> },
-    Get { serial: Vec<u8>, which: Which, buffer: Vec<u8> },
-    Info { buffer: Vec<u8> },
-    Entry { path: Vec<u8>, slot: u32, buffer: Vec<u8> },
+    Lookup {
+        path: Vec<u8>,
+    },
+    Read {
+        path: Vec<u8>,
+        offset: u64,
+        buffer: Vec<u8>,
+    },
+    LookInPlace {
+        path: Vec<u8>,
+        index: u64,
+    },
+    ReadAttributes {
+        path: Vec<u8>,
+        buffer: Vec<u8>,
+    },
+    /// With no directory, the call for the root.
+    Get {
+        directory: Option<Vec<u8>>,
+        serial: Vec<u8>,
+        which: Which,
+        buffer: Vec<u8>,
+    },
+    Info {
+        buffer: Vec<u8>,
+    },
+    Entry {
+        path: Vec<u8>,
+        slot: u32,
+        buffer: Vec<u8>,
+    },
 }
 
 /// What a call must give.
@@ -167,8 +191,9 @@ fn look_at(image: &[u8], call: &Call) -> Answer {
         Call::ReadAttributes { path, buffer } => {
             filled(buffer, read_attributes(image, path, buffer.len()))
         }
-        Call::Get { serial, which, buffer } => {
-            got(buffer, get(image, serial, *which, buffer.len()))
+        Call::Get { directory, serial, which, buffer } => {
+            let directory = directory.as_deref().unwrap_or(ROOT);
+            got(buffer, get_in(image, directory, serial, *which, buffer.len()))
         }
         Call::LookInPlace { path, index } => {
             let range = look_in_place(image, path, *index);

@@ -1,9 +1,9 @@
-//! Settings with a past: one file of the root for each serial number, which
+//! Settings with a past: one file for each serial number in a directory, which
 //! holds the last revisions.
 
 use crate::check::sound;
-use crate::layout::{block_count, number, root_block};
-use crate::path::named;
+use crate::layout::{block_count, number, root_block, MAX_LEVELS};
+use crate::path::{named, parts, walk};
 use crate::volume::{content, create, write_at_most, Changed, Create, Write};
 use crate::Refusal;
 
@@ -23,9 +23,13 @@ pub const RECORD_HEAD: usize = 5;
 /// The type of a file that a put makes.
 pub const KIND: u8 = 0x60;
 
-/// What a put brings.
+/// The directory of the calls that bring none.
+pub const ROOT: &[u8] = b"/";
+
+/// What a put brings; the call for the root brings no directory.
 #[derive(Clone, Debug, PartialEq, Eq)]
 pub struct Put {
+    pub directory: Option<Vec<u8>>,
     pub serial: Vec<u8>,
     pub data: Vec<u8>,
     pub time: u64,
@@ -44,9 +48,16 @@ pub struct Revision {
     pub data: Vec<u8>,
 }
 
-/// The path of the file of a serial number.
-pub fn path_of(serial: &[u8]) -> Vec<u8> {
-    [b"/", serial].concat()
+impl Put {
+    pub fn directory(&self) -> &[u8] {
+        self.directory.as_deref().unwrap_or(ROOT)
+    }
+}
+
+/// The path of the file of a serial number in a directory.
+pub fn path_of(directory: &[u8], serial: &[u8]) -> Vec<u8> {
+    let front = if directory == ROOT { b"" } else { directory };
+    [front, b"/", serial].concat()
 }
 
 /// The revisions of a file, oldest first, if it is of the form.
@@ -90,28 +101,45 @@ pub fn file_of(revisions: &[Revision], size: usize) -> Vec<u8> {
     file
 }
 
-/// Weighs 22: the serial number, and the length of what else the call brings.
-fn good(serial: &[u8], length_good: bool) -> Result<(), Refusal> {
-    let letters = serial.iter().all(u8::is_ascii_alphanumeric);
-    if (1..=MAX_SERIAL).contains(&serial.len()) && letters && length_good {
-        Ok(())
-    } else {
-        Err(BAD_SETTINGS)
-    }
+fn good_serial(serial: &[u8]) -> bool {
+    (1..=MAX_SERIAL).contains(&serial.len()) && serial.iter().all(u8::is_ascii_alphanumeric)
 }
 
-/// The bytes of the file of a serial number, if the root of a sound image has it.
-fn stored(image: &[u8], serial: &[u8]) -> Option<Vec<u8>> {
-    let entry = named(image, root_block(block_count(image)), serial)?;
+/// The names from the root to a directory, none for the root itself. Weighs 22:
+/// the directory, the serial number, and the length of what else the call brings;
+/// and then 17: more than 8 directories.
+fn levels<'a>(
+    directory: &'a [u8],
+    serial: &[u8],
+    length_good: bool,
+) -> Result<Vec<&'a [u8]>, Refusal> {
+    let names = if directory == ROOT { Some(vec![]) } else { parts(directory) };
+    let good = good_serial(serial) && length_good;
+    let names = names.filter(|_| good).ok_or(BAD_SETTINGS)?;
+    if names.len() > MAX_LEVELS {
+        return Err(17);
+    }
+    Ok(names)
+}
+
+/// The first block of the directory of these names, or 10.
+fn home(image: &[u8], names: &[&[u8]]) -> Result<usize, Refusal> {
+    walk(image, root_block(block_count(image)), names)
+}
+
+/// The bytes of the file of a serial number, if the directory has it.
+fn stored(image: &[u8], home: usize, serial: &[u8]) -> Option<Vec<u8>> {
+    let entry = named(image, home, serial)?;
     entry.is_file().then(|| content(image, &entry))
 }
 
-/// A put on a sound image; weighs 22, 11, 24, 25, 13, 14. Its blocks are those
-/// that the write of the whole file names.
+/// A put on a sound image; weighs 22, 17, 10, 11, 24, 25, 13, 14. Its blocks are
+/// those that the write of the whole file names.
 pub(crate) fn put(image: &[u8], p: &Put) -> Result<Changed, Refusal> {
-    good(&p.serial, p.data.len() <= MAX_SETTINGS)?;
-    let path = path_of(&p.serial);
-    let (opened, mut all, size) = match stored(image, &p.serial) {
+    let names = levels(p.directory(), &p.serial, p.data.len() <= MAX_SETTINGS)?;
+    let home = home(image, &names)?;
+    let path = path_of(p.directory(), &p.serial);
+    let (opened, mut all, size) = match stored(image, home, &p.serial) {
         Some(file) => (image.to_vec(), revisions(&file).ok_or(BAD_FORM)?, file.len()),
         None => (create(image, &first(&path, p.time))?.image, vec![], 0),
     };
@@ -132,17 +160,28 @@ fn first(path: &[u8], time: u64) -> Create {
     Create { path, kind: KIND, user: 0, group: 0, permissions: 0, flags: 0, time }
 }
 
-/// The revision whose data a get puts at the front of a buffer of `buffer_len`
-/// bytes; weighs 1 to 7, 22, 10, 24, 23.
+/// A get from the root.
 pub fn get(
     image: &[u8],
     serial: &[u8],
     which: Which,
     buffer_len: usize,
 ) -> Result<Revision, Refusal> {
+    get_in(image, ROOT, serial, which, buffer_len)
+}
+
+/// The revision whose data a get puts at the front of a buffer of `buffer_len`
+/// bytes; weighs 1 to 7, 22, 17, 10, 24, 23.
+pub fn get_in(
+    image: &[u8],
+    directory: &[u8],
+    serial: &[u8],
+    which: Which,
+    buffer_len: usize,
+) -> Result<Revision, Refusal> {
     sound(image)?;
-    good(serial, buffer_len >= MAX_SETTINGS)?;
-    let file = stored(image, serial).ok_or(10u32)?;
+    let names = levels(directory, serial, buffer_len >= MAX_SETTINGS)?;
+    let file = stored(image, home(image, &names)?, serial).ok_or(10u32)?;
     let mut all = revisions(&file).ok_or(BAD_FORM)?;
     match which {
         Which::Latest => all.pop(),

@@ -95,7 +95,7 @@ impl Change {
             Change::SetAttributes(s) => s.path.clone(),
             Change::ClearAttributes(c) => c.path.clone(),
             Change::ClearFlags(c) => c.path.clone(),
-            Change::Put(p) => store::path_of(&p.serial),
+            Change::Put(p) => store::path_of(p.directory(), &p.serial),
         }
     }
 }

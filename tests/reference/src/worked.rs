@@ -80,5 +80,13 @@ pub fn clear_flags(path: &[u8]) -> Change {
 }
 
 pub fn put(serial: &[u8], data: &[u8]) -> Change {
-    Change::Put(Put { serial: serial.to_vec(), data: data.to_vec(), time: 9 })
+    put_of(None, serial, data)
+}
+
+pub fn put_in(directory: &[u8], serial: &[u8], data: &[u8]) -> Change {
+    put_of(Some(directory.to_vec()), serial, data)
+}
+
+fn put_of(directory: Option<Vec<u8>>, serial: &[u8], data: &[u8]) -> Change {
+    Change::Put(Put { directory, serial: serial.to_vec(), data: data.to_vec(), time: 9 })
 }

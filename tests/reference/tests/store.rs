@@ -306,7 +306,10 @@ fn no_free_block() {
 fn a_run_with_puts() {
     let mut run = Replay::new(fresh(16, 2));
     let gave = |slot, record| Answer::Changed { number: 0, slot, record };
-    let ask = |which, length| Call::Get { serial: b"SN1".to_vec(), which, buffer: vec![7; length] };
+    let ask = |which, length| {
+        let (directory, serial) = (None, b"SN1".to_vec());
+        Call::Get { directory, serial, which, buffer: vec![7; length] }
+    };
     let mut buffer = b"abc".to_vec();
     buffer.resize(210, 7);
     assert_eq!(run.call(&Call::Change(put(b"SN1", b"abc"))), gave(1, 2068));
@@ -321,4 +324,89 @@ fn a_run_with_puts() {
     let none = Answer::Got { number: 10, revision: 0, length: 0, buffer: vec![7; 200] };
     assert_eq!(run.call(&ask(Which::Latest, 200)), none);
     assert!(run.replayed() == &fresh(16, 2));
+}
+
+/// The number and the data of a revision in a directory, or the refusal.
+fn got_in(state: &State, directory: &[u8], serial: &[u8]) -> Result<(u32, Vec<u8>), u32> {
+    get_in(&state.image, directory, serial, Which::Latest, 200).map(|r| (r.number, r.data))
+}
+
+#[test]
+fn the_root_by_its_path() {
+    let start = after(&fresh(16, 2), &[put(b"SN1", b"abc")]);
+    for data in [&b""[..], b"def", &[7; 200]] {
+        let one = after(&start, &[put(b"SN1", data), put(b"SN2", data)]);
+        let other = after(&start, &[put_in(b"/", b"SN1", data), put_in(b"/", b"SN2", data)]);
+        assert!(one == other);
+        assert_eq!(got_in(&one, b"/", b"SN1"), got(&one, b"SN1", Which::Latest));
+    }
+    assert_eq!(refused(&start, &put_in(b"/", b"SN 1", b"x")), 22);
+}
+
+/// The lines of docs/FORMAT.md, section 14, for a directory.
+#[test]
+fn one_serial_number_in_two_directories() {
+    // Block 4 is the directory's; its two slots are free.
+    let start = after(&fresh(16, 2), &[create_directory(b"/west", 1), put(b"SN1", b"abc")]);
+    let result = apply(&start, &put_in(b"/west", b"SN1", b"d"));
+    // Blocks 0, 1, 4 and 6.
+    assert_eq!(numbers(&result), (0, 1, 2068));
+    let state = result.unwrap().state;
+    assert_eq!(lookup(&state.image, b"/west/SN1").unwrap(), Found { slot: 1, size: 11, blocks: 1 });
+    assert_eq!(state.image[4 * BLOCK + SLOT..][..4], [0x60, 0, 0, 0]);
+    assert_eq!(got_in(&state, b"/west", b"SN1"), Ok((1, b"d".to_vec())));
+    assert_eq!(got_in(&state, b"/", b"SN1"), Ok((1, b"abc".to_vec())));
+    // Each has its own numbers.
+    let more = after(&state, &[put_in(b"/west", b"SN1", b"e"), put(b"SN1", b"f")]);
+    assert_eq!(got_in(&more, b"/west", b"SN1"), Ok((2, b"e".to_vec())));
+    assert_eq!(got(&more, b"SN1", Which::Latest), Ok((2, b"f".to_vec())));
+    let third = after(&more, &[put(b"SN1", b"g")]);
+    assert_eq!(got_in(&third, b"/west", b"SN1"), Ok((2, b"e".to_vec())));
+    // A second box fills the directory; a third has no slot, the root has one.
+    let full = after(&third, &[put_in(b"/west", b"SN2", b"")]);
+    assert_eq!(refused(&full, &put_in(b"/west", b"SN3", b"")), 13);
+    assert_eq!(refused(&full, &put(b"SN3", b"")), 0);
+    assert_eq!(refused(&full, &put_in(b"/west", b"SN1", b"")), 0);
+    let mut back = full;
+    while let Ok(undone) = undo(&back) {
+        back = undone.state;
+    }
+    assert!(back == fresh(16, 2));
+}
+
+#[test]
+fn the_directory_of_a_call() {
+    let levels: Vec<Vec<u8>> = (1..=8).map(|level| b"/a".repeat(level)).collect();
+    let made: Vec<Change> = levels.iter().map(|path| create_directory(path, 1)).collect();
+    let state = after(&fresh(40, 2), &made);
+    let state = after(&state, &[create(b"/file")]);
+    for bad in [&b""[..], b"a", b"//", b"/a/", b"a/a", b"/a//a", &[b"/", &[b'x'; 81][..]].concat()]
+    {
+        assert_eq!(refused(&state, &put_in(bad, b"SN1", b"x")), 22, "{bad:?}");
+        assert_eq!(got_in(&state, bad, b"SN1"), Err(22), "{bad:?}");
+    }
+    // Each of the eight levels holds settings; a ninth is one too many.
+    for path in &levels {
+        let one = after(&state, &[put_in(path, b"SN1", b"x")]);
+        assert_eq!(got_in(&one, path, b"SN1"), Ok((1, b"x".to_vec())));
+        assert_eq!(got_in(&one, b"/", b"SN1"), Err(10));
+    }
+    let ninth = b"/a".repeat(9);
+    assert_eq!(refused(&state, &put_in(&ninth, b"SN1", b"x")), 17);
+    assert_eq!(got_in(&state, &ninth, b"SN1"), Err(17));
+    // 22 comes before 17, 17 before 10, and 10 before 11, 24 and 13.
+    assert_eq!(refused(&state, &put_in(&ninth, b"", b"x")), 22);
+    assert_eq!(refused(&state, &put_in(&b"/b".repeat(9), b"SN1", b"x")), 17);
+    for lost in [&b"/b"[..], b"/file", b"/a/b", b"/file/a"] {
+        assert_eq!(refused(&state, &put_in(lost, b"a", b"x")), 10);
+        assert_eq!(got_in(&state, lost, b"a"), Err(10));
+    }
+    // `/a` holds the directory `a`: its name is taken, and there is no file of it.
+    assert_eq!(refused(&state, &put_in(b"/a", b"a", b"x")), 11);
+    assert_eq!(got_in(&state, b"/a", b"a"), Err(10));
+    // The names of all levels may be of 80 bytes.
+    let name = [b"/", &[b'n'; 80][..]].concat();
+    let long: Vec<Change> = (1..=8).map(|i| create_directory(&name.repeat(i), 1)).collect();
+    let deep = after(&after(&fresh(40, 2), &long), &[put_in(&name.repeat(8), &[b'S'; 16], b"x")]);
+    assert_eq!(got_in(&deep, &name.repeat(8), &[b'S'; 16]), Ok((1, b"x".to_vec())));
 }

@@ -213,9 +213,9 @@ unfolding encoded entryHead
 entered-written s b ys k v a e l lb w =
     headed s b ys (entryHead (entryAnswer v [])) k 64 l lb (length-entryHead (entryAnswer v [])) w ∙ ap (λ (x : EntryAnswer). encoded (entered x)) e
 
-pub got-written : (s b : List ℕ) (k number revision size : ℕ) (a : GetAnswer) → gotAnswer number revision size b ≡ a → length s ≡ 16 + length b → length b ≡ k
-    → splice (putMid 16 k s b) 0 (numbers number revision size 0) ≡ encoded (got a)
+pub got-written : (s b : List ℕ) (k number revision size : ℕ) (a : Answer) → got (gotAnswer number revision size b) ≡ a → length s ≡ 16 + length b → length b ≡ k
+    → splice (putMid 16 k s b) 0 (numbers number revision size 0) ≡ encoded a
 unfolding encoded
 got-written s b k number revision size a e l lb =
     ap (λ (x : List ℕ). splice x 0 (numbers number revision size 0)) (putMid-splice s 16 k b lb)
-    ∙ splice-back s (numbers number revision size 0) b 16 l (length-numbers number revision size 0) ∙ ap (λ (x : GetAnswer). encoded (got x)) e
+    ∙ splice-back s (numbers number revision size 0) b 16 l (length-numbers number revision size 0) ∙ ap encoded e

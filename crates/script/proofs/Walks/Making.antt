@@ -1,17 +1,17 @@
 -- One call of a script made: from what the call promises and what was written of its answer.
-use Prim.Native.Nat.{ℕ, zero, suc, _≤_}
+use Prim.Native.Nat.{ℕ, zero, suc, _+_, _≤_}
 use mathlib.Core.Path.{_≡_, refl, sym, ap, subst, _∙_}
 use mathlib.Core.List.{List}
 use mathlib.Core.Bool.{true, false}
 use mathlib.Core.Logic.{⊎-elim}
 use native.Mathlib.Omega.{arith}
 use lib.ListN.{length}
-use Rattle.layout.specs.Bytes.{splice}
-use Rattle.store.specs.Change.{Change}
+use Rattle.layout.specs.Bytes.{be64, splice}
+use Rattle.store.specs.Change.{Change, putIn}
 use Rattle.store.specs.Asked.{asked}
 use Rattle.store.specs.declared.change.Change.{Change as Kind}
 use Rattle.journal.specs.Run.{Call, Answer, State, Look, change, undo, look, step, answer, afterChange, changeAnswer, afterUndo, undoAnswer, lookAnswer, state}
-use Rattle.script.specs.Script.{opAt, nameAt, dataAt, changeAt, callAt, shows, showAt, itemCall, answerSize, numbers, encoded, encodedItem}
+use Rattle.script.specs.Script.{opAt, nameAt, directoryAt, serialAt, dataAt, putAt, changeAt, callAt, shows, showAt, itemCall, answerSize, numbers, encoded, encodedItem}
 use Rattle.write_list.specs.List.{Listed, listed, writeList}
 use Rattle.journal.specs.Kinds.{KindCall, further, stepOf, answerOf}
 use Rattle.write_list.specs.Runs.{lists}
@@ -43,6 +43,11 @@ look-answered image journal part call l e answered = answered ∙ sym (ap (λ (c
 pub item-change : (s : List ℕ) (at : ℕ) (what : Kind) (name bytes : List ℕ) → name ≡ nameAt s at → bytes ≡ dataAt s at
     → asked what (nameAt s at) (dataAt s at) ≡ changeAt s at → looks (opAt s at) ≡ false → (opAt s at ≡ 8 → ⊥) → callAt s at ≡ change (asked what name bytes)
 item-change s at what name bytes n b a h ne = is-change s at h ne ∙ ap change (sym a) ∙ rw (n, b)
+
+pub item-put : (s : List ℕ) (at : ℕ) (directory serial bytes : List ℕ) (time : ℕ) → directory ≡ directoryAt s at → serial ≡ serialAt s at
+    → time ≡ be64 s (at + 17) → bytes ≡ dataAt s at → change (putAt s at) ≡ change (putIn directory serial time bytes)
+unfolding putAt
+item-put s at directory serial bytes time d n t b = rw (d, n, t, b)
 
 -- a call that only looks leaves image and journal
 one-of : {P : Type 0} (x : ℕ) → 1 ≤ x → x ≤ 4 → (x ≡ 1 → P) → (x ≡ 2 → P) → (x ≡ 3 → P) → (x ≡ 4 → P) → P

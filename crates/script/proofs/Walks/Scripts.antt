@@ -9,10 +9,11 @@ use native.Mathlib.Decide.{ℕ-discrete}
 use borrow.Author.Tests.{le-leb, lt-leb, leb-true, leb-false, ne-eqb, eqb-true, eqb-false}
 use lib.Dec.{leb, eqb}
 use lib.ListN.{length}
-use Rattle.layout.specs.Lists.{every}
+use Rattle.layout.specs.Lists.{within, every}
 use Rattle.layout.specs.Bytes.{be32, be64}
-use Rattle.journal.specs.Run.{Call, State, change, undo, look, checkImage, findFile, readFile, lookAt, readAttributesOf, showVolume, showEntry, getSettings, filled, lookAnswer, answer}
-use Rattle.script.specs.Script.{lastOp, opAt, nameAt, dataAt, dataLength, itemSize, changeAt, callAt, shows, whichAt, showAt, itemCall, itemOk, itemsFrom, callsFrom, answerSize, itemRoom, answersSize}
+use Rattle.store.specs.Get.{theLatest, theNumber, getIn, get}
+use Rattle.journal.specs.Run.{Call, State, change, undo, look, checkImage, findFile, readFile, lookAt, readAttributesOf, showVolume, showEntry, getSettingsIn, getSettings, filled, got, lookAnswer, answer}
+use Rattle.script.specs.Script.{lastOp, opAt, nameAt, directoryAt, serialAt, dataAt, dataLength, itemSize, putAt, changeAt, callAt, shows, whichAt, getAt, showAt, itemCall, itemOk, itemsFrom, callsFrom, answerSize, itemRoom, answersSize}
 use Rattle.journal.specs.Kinds.{call, further}
 use Rattle.script.specs.Walks.Scripts.{looks, fills, headSize, filledAt}
 use Rattle.layout.proofs.Laws.Tests.{and-split, or-split, true-not-false}
@@ -38,7 +39,7 @@ module _ (x : ℕ) where
 
   -- the looks from op 16 on
   pub shows-split : shows x ≡ true → 16 ≤ x
-  shows-split h = leb-true 16 x (and-split (not (eqb x 18)) (leb 16 x) h .1)
+  shows-split h = leb-true 16 x (and-split (leb 16 x) (leb x 23) (and-split (not (eqb x 18 || eqb x 21)) (within 16 23 x) h .1) .0)
 
   neither : (a b : Bool) → a || b ≡ false → (a ≡ false) × (b ≡ false)
   neither true b h = absurd (true-not-false refl h)
@@ -145,6 +146,10 @@ module _ (s : List ℕ) (at : ℕ) where
         ne-eqb (opAt s at) 8 ne,
       )
 
+  pub is-put-in : opAt s at ≡ 21 → callAt s at ≡ change (putAt s at)
+  unfolding callAt changeAt
+  is-put-in e = rw e
+
   pub is-undo : opAt s at ≡ 8 → callAt s at ≡ undo
   unfolding callAt
   is-undo e = rw e
@@ -214,20 +219,51 @@ module _ (s : List ℕ) (at : ℕ) where
   unfolding showAt
   shows-entry e = rw e
 
-  pub shows-settings : (opAt s at ≡ 16 → ⊥) → (opAt s at ≡ 17 → ⊥) → showAt s at ≡ getSettings (nameAt s at) (whichAt s at) (dataAt s at)
+  pub shows-settings : (opAt s at ≡ 16 → ⊥) → (opAt s at ≡ 17 → ⊥) → showAt s at ≡ getAt s at
   unfolding showAt
   shows-settings m n = rw (ne-eqb (opAt s at) 16 m, ne-eqb (opAt s at) 17 n)
+
+  -- the revision that a get asks for; a get in a directory, and one in the root
+  pub which-19 : opAt s at ≡ 19 → whichAt s at ≡ theNumber (be32 s (at + 13))
+  unfolding whichAt
+  which-19 e = rw e
+
+  pub which-22 : opAt s at ≡ 22 → whichAt s at ≡ theNumber (be32 s (at + 13))
+  unfolding whichAt
+  which-22 e = rw e
+
+  pub which-latest : (opAt s at ≡ 19 → ⊥) → (opAt s at ≡ 22 → ⊥) → whichAt s at ≡ theLatest
+  unfolding whichAt
+  which-latest m n = rw (ne-eqb (opAt s at) 19 m, ne-eqb (opAt s at) 22 n)
+
+  pub get-placed : (image : List ℕ) → 22 ≤ opAt s at → lookAnswer image (getAt s at) ≡ got (getIn image (directoryAt s at) (serialAt s at) (whichAt s at) (dataAt s at))
+  unfolding lookAnswer getAt
+  get-placed image h = rw (le-leb 22 (opAt s at) h)
+
+  pub get-rooted : (image : List ℕ) → opAt s at < 22 → lookAnswer image (getAt s at) ≡ got (get image (nameAt s at) (whichAt s at) (dataAt s at))
+  unfolding lookAnswer getAt
+  get-rooted image h = rw (lt-leb 22 (opAt s at) h)
+
+  size-get : at + itemSize s at ≤ length s → answerSize (look (getAt s at)) ≡ 16 + dataLength s at
+  unfolding answerSize getAt
+  size-get h = go (leb 22 (opAt s at))
+    where
+      go : (t : Bool)
+          → answerSize (look (cond t (getSettingsIn (directoryAt s at) (serialAt s at) (whichAt s at) (dataAt s at)) (getSettings (nameAt s at) (whichAt s at) (dataAt s at))))
+          ≡ 16 + dataLength s at
+      go true = ap (λ (x : ℕ). 16 + x) (length-data h)
+      go false = ap (λ (x : ℕ). 16 + x) (length-data h)
 
   pub size-show : at + itemSize s at ≤ length s → answerSize (look (showAt s at)) ≡ headSize (opAt s at) + dataLength s at
   unfolding answerSize showAt
   size-show h = go (eqb (opAt s at) 16) (eqb (opAt s at) 17)
     where
       go : (t u : Bool)
-          → answerSize (look (cond t (showVolume (dataAt s at)) (cond u (showEntry (nameAt s at) (be64 s (at + 9)) (dataAt s at)) (getSettings (nameAt s at) (whichAt s at) (dataAt s at)))))
+          → answerSize (look (cond t (showVolume (dataAt s at)) (cond u (showEntry (nameAt s at) (be64 s (at + 9)) (dataAt s at)) (getAt s at))))
           ≡ cond t 32 (cond u 64 16) + dataLength s at
       go true u = ap (λ (x : ℕ). 32 + x) (length-data h)
       go false true = ap (λ (x : ℕ). 64 + x) (length-data h)
-      go false false = ap (λ (x : ℕ). 16 + x) (length-data h)
+      go false false = size-get h
 
   pub room-is-show : shows (opAt s at) ≡ true → itemRoom (itemCall s at) ≡ answerSize (look (showAt s at))
   unfolding itemRoom

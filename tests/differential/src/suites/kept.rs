@@ -19,7 +19,7 @@ pub fn run(rng: &mut Rng, _: u64, t: &mut Tester) {
         let changes = changes(rng, &state.image);
         let list = any_list(rng, &state.image);
         let piece = any_append(rng, &state.image);
-        let (serial, which, buffer) = any_get(rng, &state.image);
+        let get = any_get(rng, &state.image);
         if rng.once_in(3) {
             damage_in_place(rng, &mut state.image);
         }
@@ -34,7 +34,7 @@ pub fn run(rng: &mut Rng, _: u64, t: &mut Tester) {
                 t.append_in(&mut pair, &state, &piece);
             }
             4 => {
-                t.get_in(&pair.image, &state.image, &serial, which, &buffer);
+                t.get_in(&pair.image, &state.image, &get);
             }
             1 => {
                 t.change_in(&mut pair, &state, &rng.pick(&changes));

@@ -61,6 +61,7 @@ pub const SUITES: &[Suite] = &[
     Suite { name: "store_lengths", rounds: |_| 1, run: store::lengths },
     Suite { name: "store_forms", rounds: |_| 1, run: store::forms },
     Suite { name: "store_order", rounds: |n| n.div_ceil(50), run: store::order },
+    Suite { name: "store_apart", rounds: |n| n.div_ceil(5), run: store::apart },
     Suite { name: "store_long", rounds: |n| n.div_ceil(250), run: store::long },
     Suite { name: "order", rounds: |n| n.div_ceil(25), run: order::all },
     Suite { name: "orders", rounds: |n| n, run: orders::run },

@@ -10,7 +10,7 @@ use crate::lent::{difference, Lent};
 use crate::library::{self, Pair};
 use crate::report::Entry;
 use crate::rng::Rng;
-use crate::tester::{found, get_entry, Tester};
+use crate::tester::{found, get_entry, Get, Tester};
 use reference::path::Want;
 use reference::{Answer, Call, Replay, State};
 use std::thread;
@@ -167,8 +167,8 @@ fn any_look(rng: &mut Rng, image: &[u8]) -> Call {
     match rng.below(9) {
         0 => Call::Check,
         5 | 6 => {
-            let (serial, which, buffer) = any_get(rng, image);
-            Call::Get { serial, which, buffer }
+            let Get { directory, serial, which, buffer } = any_get(rng, image);
+            Call::Get { directory, serial, which, buffer }
         }
         1 => Call::Lookup { path },
         7 => Call::Info { buffer: any_label_buffer(rng) },
@@ -200,7 +200,9 @@ fn brief(call: &Call) -> String {
         Call::Change(SetAttributes(s)) => format!("set of {} bytes of attributes", s.data.len()),
         Call::Change(ClearAttributes(_)) => "clear of attributes".into(),
         Call::Change(ClearFlags(_)) => "clear of flags".into(),
-        Call::Change(Put(p)) => format!("put of {} bytes", p.data.len()),
+        Call::Change(Put(p)) => {
+            format!("put of {} bytes in {}", p.data.len(), p.directory().escape_ascii())
+        }
         Call::WriteList(list) => format!("list of {} bytes", list.len()),
         Call::Append(a) => format!("piece of {} bytes", a.piece.len()),
         Call::Undo => "undo".into(),
@@ -208,7 +210,10 @@ fn brief(call: &Call) -> String {
         Call::Lookup { .. } => "lookup".into(),
         Call::Read { offset, buffer, .. } => format!("read of {} bytes at {offset}", buffer.len()),
         Call::LookInPlace { index, .. } => format!("look in place at {index}"),
-        Call::Get { which, .. } => format!("get of {which:?}"),
+        Call::Get { directory, which, .. } => {
+            let home = directory.as_deref().unwrap_or_default();
+            format!("get of {which:?} in {}", home.escape_ascii())
+        }
         Call::ReadAttributes { buffer, .. } => format!("read attributes into {}", buffer.len()),
         Call::Info { buffer } => format!("info into {}", buffer.len()),
         Call::Entry { slot, buffer, .. } => format!("entry from {slot} into {}", buffer.len()),
@@ -318,14 +323,23 @@ fn look_with_library(image: &Lent, call: &Call) -> (Entry, Answer, Vec<Option<St
             let (answer, troubles) = fill_with_library(path, buffer, fill);
             (Entry::ReadAttributes, answer, troubles)
         }
-        Call::Get { serial, which, buffer } => {
+        Call::Get { directory, serial, which, buffer } => {
             let (lent, mut lent_buffer) = (Lent::new(serial, 5), Lent::new(buffer, 7));
-            let got = library::get(image, &lent, *which, &mut lent_buffer);
+            let home = directory.clone().unwrap_or_default();
+            let lent_home = Lent::new(&home, 3);
+            let got = match directory {
+                None => library::get(image, &lent, *which, &mut lent_buffer),
+                Some(_) => library::get_in(image, &lent_home, &lent, *which, &mut lent_buffer),
+            };
             let after = lent_buffer.content().to_vec();
-            let troubles =
-                vec![lent.trouble("serial", serial), lent_buffer.trouble("buffer", &after)];
+            let troubles = vec![
+                lent_home.trouble("directory", &home),
+                lent.trouble("serial", serial),
+                lent_buffer.trouble("buffer", &after),
+            ];
             let (number, revision, length) = (got.number, got.revision, got.length);
-            (get_entry(*which), Answer::Got { number, revision, length, buffer: after }, troubles)
+            let answer = Answer::Got { number, revision, length, buffer: after };
+            (get_entry(directory.is_some(), *which), answer, troubles)
         }
         Call::LookInPlace { path, index } => {
             let lent = Lent::new(path, 8);

@@ -157,7 +157,7 @@ fn spoil(rng: &mut Rng, script: &mut Script) {
     let (any, last) = (rng.pick(&script.items), script.items[script.items.len() - 1]);
     let end = script.bytes.len();
     match rng.below(5) {
-        0 => script.bytes[any] = rng.pick(&[0, 21, 255]),
+        0 => script.bytes[any] = rng.pick(&[0, 24, 255]),
         1 => script.bytes.truncate(rng.between(last + 1, end - 1)),
         2 => script.bytes.extend(vec![8; rng.between(1, HEADER - 1)]),
         3 => put_number(&mut script.bytes, last + PATH_LENGTH, (end - last) as u32),
@@ -183,6 +183,13 @@ fn outcome(status: u8, state: &State, answers: &[u8]) -> Vec<u8> {
 fn item_of(rng: &mut Rng, call: &Call) -> Vec<u8> {
     // What an op does not use may be anything, but the lengths count.
     let mut header = rng.bytes(HEADER);
+    // Directory and serial number are one name; the flags have the directory's length.
+    let placed = placed_name(call);
+    if let (Some(directory), Some(name)) = (directory_of(call), &placed) {
+        let told = rng.pick(&[0, 0, 1, u32::MAX / 2]);
+        let whole = directory.len() == name.len();
+        put_number(&mut header, 5, directory.len() as u32 + if whole { told } else { 0 });
+    }
     let (op, path, data): (u8, &[u8], &[u8]) = match call {
         Call::Check => (1, &[], &[]),
         Call::Lookup { path } => (2, path, &[]),
@@ -223,19 +230,44 @@ fn item_of(rng: &mut Rng, call: &Call) -> Vec<u8> {
         }
         Call::Change(Change::Put(p)) => {
             header[17..25].copy_from_slice(&p.time.to_be_bytes());
-            (18, &p.serial, &p.data)
+            let op = if p.directory.is_some() { 21 } else { 18 };
+            (op, placed.as_deref().unwrap_or(&p.serial), &p.data)
         }
-        Call::Get { serial, which: Which::Number(revision), buffer } => {
-            put_number(&mut header, 13, *revision);
-            (19, serial, buffer)
+        Call::Get { directory, serial, which, buffer } => {
+            let op = match which {
+                Which::Number(revision) => {
+                    put_number(&mut header, 13, *revision);
+                    19
+                }
+                Which::Latest => 20,
+            };
+            let op = if directory.is_some() { op + 3 } else { op };
+            (op, placed.as_deref().unwrap_or(serial), buffer)
         }
-        Call::Get { serial, which: Which::Latest, buffer } => (20, serial, buffer),
         Call::Append(_) => unreachable!("a script has no op for a piece"),
     };
     header[0] = op;
     put_number(&mut header, PATH_LENGTH, path.len() as u32);
     put_number(&mut header, DATA_LENGTH, data.len() as u32);
     [&header[..], path, data].concat()
+}
+
+/// The directory that a put or a get brings.
+fn directory_of(call: &Call) -> Option<&[u8]> {
+    match call {
+        Call::Change(Change::Put(p)) => p.directory.as_deref(),
+        Call::Get { directory, .. } => directory.as_deref(),
+        _ => None,
+    }
+}
+
+/// The directory, and behind it the serial number.
+fn placed_name(call: &Call) -> Option<Vec<u8>> {
+    match call {
+        Call::Change(Change::Put(p)) => Some([directory_of(call)?, &p.serial].concat()),
+        Call::Get { serial, .. } => Some([directory_of(call)?, serial].concat()),
+        _ => None,
+    }
 }
 
 /// The fields that both creates bring.

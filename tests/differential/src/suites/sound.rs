@@ -68,8 +68,7 @@ fn look_once(rng: &mut Rng, t: &mut Tester, image: &[u8]) {
     let buffer = any_buffer(rng, size);
     let index = any_index(rng, size);
     t.look(image, &path, offset, &buffer, index);
-    let (serial, which, buffer) = any_get(rng, image);
-    t.get(image, &serial, which, &buffer);
+    t.get(image, &any_get(rng, image));
     let blocks = attribute_blocks(image, &path);
     t.read_attributes(image, &path, &any_attributes_buffer(rng, blocks));
     t.info(image, &any_label_buffer(rng));

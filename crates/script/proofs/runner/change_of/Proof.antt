@@ -63,7 +63,7 @@ returns-9 : tie.Need-returns-9
 unfolding changeAt
 returns-9 c =
     let b = c .before .before in
-    rw (ne-eqb _ 5 (b .before .before .before .before .before .if1 .left), ne-eqb _ 6 (b .before .before .before .before .if2 .left), ne-eqb _ 9 (b .before .before .before .if3 .left), ne-eqb _ 10 (b .before .before .if4 .left), ne-eqb _ 11 (b .before .if5 .left), ne-eqb _ 12 (b .if6 .left), ne-eqb _ 14 (c .before .if7 .left), ne-eqb _ 18 (c .if8 .left))
+    rw (ne-eqb _ 5 (b .before .before .before .before .before .if1 .left), ne-eqb _ 6 (b .before .before .before .before .if2 .left), ne-eqb _ 9 (b .before .before .before .if3 .left), ne-eqb _ 10 (b .before .before .if4 .left), ne-eqb _ 11 (b .before .if5 .left), ne-eqb _ 12 (b .if6 .left), ne-eqb _ 14 (c .before .if7 .left), ne-eqb _ 18 (c .if8 .left), ne-eqb _ 21 (c .before .before .before .before .before .before .before .before .before .before .before .pre .1))
 
 pub change-of-spec : {M : Type 1} → statement M
 change-of-spec =
