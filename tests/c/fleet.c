@@ -141,9 +141,25 @@ static void full(void)
     expect(p.number == BULGEFS_VOLUME_FULL && p.revision == 0 && p.record == 0, "one box more");
 }
 
+/* The numbers of the README's table. */
+static void stated(void)
+{
+    const size_t directories = DIRECTORIES * DIRECTORY_BLOCKS + ROOT_BLOCKS;
+    expect(BULGEFS_IMAGE_SIZE(BULGEFS_IMAGE_BLOCKS(BOXES * 3u + directories)) == 1516544
+               && BULGEFS_FILE_BLOCKS(BULGEFS_SETTINGS_SIZE(16u, 60u)) == 3, "image for 60 bytes");
+    expect(BULGEFS_IMAGE_SIZE(BULGEFS_IMAGE_BLOCKS(BOXES * 7u + directories)) == 3374080
+               && IMAGE == 3374080, "image for 200 bytes");
+    expect(BULGEFS_MIN_JOURNAL + BOXES * BULGEFS_PUTS_SIZE(16u, 60u) == 27457205, "journal for 60 bytes");
+    expect(BULGEFS_MIN_JOURNAL + BOXES * BULGEFS_PUTS_SIZE(16u, 200u) == 50212805, "journal for 200 bytes");
+    expect(BULGEFS_JOURNAL_SIZE(1u, BULGEFS_PUT_BLOCKS(3u)) == 3621
+               && BULGEFS_JOURNAL_SIZE(1u, BULGEFS_PUT_BLOCKS(7u)) == 5685, "journal for one put");
+    expect(BULGEFS_MAX_FILES(DIRECTORY_BLOCKS) >= IN_EACH && BULGEFS_MAX_FILES(64u) == 254, "names");
+}
+
 int main(void)
 {
     unsigned puts = 0;
+    stated();
     start();
     /* All boxes in turn, so that each box's blocks lie far apart. */
     for (unsigned r = 0; r < 16; r++)

@@ -2,6 +2,7 @@
 ghost use mathlib.Core.Path.{_≡_};
 ghost use Prim.Native.Nat.{_+_, _≤_, _<_};
 ghost use lib.ListN.{length};
+ghost use Rattle.layout.specs.Bytes.{be32};
 ghost use Rattle.store.specs.Get.{gotAnswer, getIn, get};
 ghost use Rattle.journal.specs.Run.{lookAnswer, got};
 ghost use Rattle.script.specs.Script.{Fits, opAt, nameAt, directoryLength, directoryAt, serialAt, dataAt, dataLength, whichAt, getAt, encoded};
@@ -38,6 +39,14 @@ pub fn serial_of(script: &[u8], at: usize) -> &[u8]
     &script[a..e]
 }
 
+// The number of the revision that the item at `at` asks for.
+fn revision_of(script: &[u8], at: usize) -> u32
+    requires { ⌜ Fits (now script) at ⌝ }
+    ensures { λ r. ⌜ r ≡ be32 (now (script .entry)) (at + 13) ⌝ }
+{
+    get32(script, at + 13)
+}
+
 // Gets the revision that the item at `at` asks for, from the root.
 fn get_from_root(script: &[u8], at: usize, image: &[u8], buffer: &mut [u8]) -> store::get::Got
     requires { ⌜ (Fits (now script) at) × (opAt (now script) at < 22) ⌝ }
@@ -45,7 +54,7 @@ fn get_from_root(script: &[u8], at: usize, image: &[u8], buffer: &mut [u8]) -> s
 {
     let serial = super::items::name_of(script, at);
     if script[at] == 19 {
-        let revision = get32(script, at + 13);
+        let revision = revision_of(script, at);
         return store::get::get(image, serial, revision, buffer);
     }
     store::get::get_latest(image, serial, buffer)
@@ -59,7 +68,7 @@ fn get_from_directory(script: &[u8], at: usize, image: &[u8], buffer: &mut [u8])
     let directory = directory_of(script, at);
     let serial = serial_of(script, at);
     if script[at] == 22 {
-        let revision = get32(script, at + 13);
+        let revision = revision_of(script, at);
         return store::get::get_in(image, directory, serial, revision, buffer);
     }
     store::get::get_latest_in(image, directory, serial, buffer)

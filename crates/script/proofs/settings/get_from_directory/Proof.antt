@@ -14,11 +14,8 @@ serial-of-requires c κs = search needs
 shared-slice-read-if1 : tie.Need-shared-slice-read-if1
 shared-slice-read-if1 c = search needs
 
-add-get32 : tie.Need-add-get32
-add-get32 c = search needs
-
-get32-requires : tie.Need-get32-requires
-get32-requires c κs = search needs
+revision-of-requires : tie.Need-revision-of-requires
+revision-of-requires c κs = search needs
 
 get-in-requires : tie.Need-get-in-requires
 get-in-requires c κs = search needs
@@ -29,7 +26,7 @@ same-length c = search needs
 returns : tie.Need-returns
 returns c =
     let a = c .before .before .before .before .before .before .before .before .before .before .before .before .args in
-    c .before .before .get-in .ensures ∙ rw (c .before .before .before .before .before .before .before .before .directory-of .ensures, c .before .before .before .before .before .before .before .serial-of .ensures, c .before .before .before .before .get32 .ensures, which-22 (a .script .now) (a .at) (c .before .before .before .before .before .if1 .taken))
+    c .before .before .get-in .ensures ∙ rw (c .before .before .before .before .before .before .before .before .directory-of .ensures, c .before .before .before .before .before .before .before .serial-of .ensures, c .before .before .before .before .revision-of .ensures, which-22 (a .script .now) (a .at) (c .before .before .before .before .before .if1 .taken))
 
 get-latest-in-requires : tie.Need-get-latest-in-requires
 get-latest-in-requires c κs = search needs
@@ -50,8 +47,7 @@ get-from-directory-spec =
     directory-of-requires
     serial-of-requires
     shared-slice-read-if1
-    add-get32
-    get32-requires
+    revision-of-requires
     get-in-requires
     same-length
     returns

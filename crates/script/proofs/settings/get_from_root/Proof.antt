@@ -11,11 +11,8 @@ name-of-requires c κs = search needs
 shared-slice-read-if1 : tie.Need-shared-slice-read-if1
 shared-slice-read-if1 c = search needs
 
-add-get32 : tie.Need-add-get32
-add-get32 c = search needs
-
-get32-requires : tie.Need-get32-requires
-get32-requires c κs = search needs
+revision-of-requires : tie.Need-revision-of-requires
+revision-of-requires c κs = search needs
 
 get-requires : tie.Need-get-requires
 get-requires c κs = search needs
@@ -26,7 +23,7 @@ same-length c = search needs
 returns : tie.Need-returns
 returns c =
     let a = c .before .before .before .before .before .before .before .before .before .before .before .args in
-    c .before .before .get .ensures ∙ rw (c .before .before .before .before .before .before .before .name-of .ensures, c .before .before .before .before .get32 .ensures, which-19 (a .script .now) (a .at) (c .before .before .before .before .before .if1 .taken))
+    c .before .before .get .ensures ∙ rw (c .before .before .before .before .before .before .before .name-of .ensures, c .before .before .before .before .revision-of .ensures, which-19 (a .script .now) (a .at) (c .before .before .before .before .before .if1 .taken))
 
 get-latest-requires : tie.Need-get-latest-requires
 get-latest-requires c κs = search needs
@@ -46,8 +43,7 @@ get-from-root-spec =
     (tie.spec
     name-of-requires
     shared-slice-read-if1
-    add-get32
-    get32-requires
+    revision-of-requires
     get-requires
     same-length
     returns
