@@ -12,7 +12,7 @@
 #include "bulgefs.h"
 
 enum { DIRECTORIES = 9, IN_EACH = 100, BOXES = DIRECTORIES * IN_EACH, MORE = 60,
-       DIRECTORY_BLOCKS = 26, ROOT_BLOCKS = 3 };
+       DIRECTORY_BLOCKS = 26, ROOT_BLOCKS = 3, EVERY = 8 };
 
 /* The sizes that the header and the README state, with room for the directories and for MORE puts. */
 #define FILE_BLOCKS BULGEFS_FILE_BLOCKS(BULGEFS_SETTINGS_SIZE(16u, 200u))
@@ -41,7 +41,7 @@ static box boxes[BOXES];
 static uint8_t image[IMAGE], formatted[IMAGE], made[IMAGE], other[IMAGE], journal[JOURNAL];
 static uint64_t sums[16 * BOXES + MORE + 1];
 
-/* A sum over an image's bytes, to tell it from the images before and after. */
+/* A sum over an image's bytes, to tell it from the images before and after; taken before every eighth put. */
 static uint64_t sum_of(const uint8_t *bytes, size_t len)
 {
     uint64_t sum = 0, word;
@@ -51,6 +51,12 @@ static uint64_t sum_of(const uint8_t *bytes, size_t len)
         sum ^= sum >> 29;
     }
     return sum;
+}
+
+static void note(unsigned puts)
+{
+    if (puts % EVERY == 0)
+        sums[puts] = sum_of(image, sizeof image);
 }
 
 static size_t directory_of(unsigned i, char *text)
@@ -164,7 +170,7 @@ int main(void)
     /* All boxes in turn, so that each box's blocks lie far apart. */
     for (unsigned r = 0; r < 16; r++)
         for (unsigned i = 0; i < BOXES; i++) {
-            sums[puts++] = sum_of(image, sizeof image);
+            note(puts++);
             put(i);
         }
     expect(bulgefs_check(image, sizeof image) == 0, "sound");
@@ -173,7 +179,7 @@ int main(void)
     full();
     /* More than 16 of every fifteenth box: nothing of another box or directory changes. */
     for (unsigned i = 0; i < BOXES; i += BOXES / MORE) {
-        sums[puts++] = sum_of(image, sizeof image);
+        note(puts++);
         put(i);
     }
     for (unsigned i = 0; i < BOXES; i++)
@@ -184,7 +190,9 @@ int main(void)
     expect(j.number == 0 && j.records == puts + DIRECTORIES && j.used <= JOURNAL, "journal");
     while (puts > 0) {
         bulgefs_changed u = bulgefs_undo(image, sizeof image, journal, sizeof journal);
-        expect(u.number == 0 && sum_of(image, sizeof image) == sums[--puts], "undo of a put");
+        puts--;
+        expect(u.number == 0 && (puts % EVERY != 0 || sum_of(image, sizeof image) == sums[puts]),
+               "undo of a put");
     }
     expect(memcmp(image, made, sizeof image) == 0, "as before the puts");
     for (unsigned d = 0; d < DIRECTORIES; d++)
