@@ -5,7 +5,7 @@ ghost use lib.ListN.{length};
 ghost use Rattle.layout.specs.Bytes.{be32};
 ghost use Rattle.store.specs.Get.{gotAnswer, getIn, get};
 ghost use Rattle.journal.specs.Run.{lookAnswer, got};
-ghost use Rattle.script.specs.Script.{Fits, opAt, nameAt, directoryLength, directoryAt, serialAt, dataAt, dataLength, whichAt, getAt, encoded};
+ghost use Rattle.script.specs.Script.{Fits, opAt, nameAt, directoryLength, directoryAt, serialAt, dataLength, whichAt, getAt, encoded};
 use super::answers::Numbers;
 use layout::number::get32;
 

@@ -34,7 +34,9 @@ type Home = Option<Vec<u8>>;
 /// slot in it, and with so many free blocks, if a number is given. The directory is
 /// the root, or one of up to eight levels.
 fn volume(rng: &mut Rng, what: &Standing, open: bool, free: Option<usize>) -> (Vec<u8>, Home) {
-    let levels = rng.pick(&[0, 0, 1, 1, 2, 8]);
+    // A directory of the eighth level has room for files alone.
+    let deepest = if let Standing::Folder = what { 7 } else { 8 };
+    let levels = rng.pick(&[0, 0, 1, 1, 2, deepest]);
     let (image, directory) = volume_at(rng, what, open, free, levels);
     let brings = levels > 0 || rng.once_in(2);
     (image, brings.then_some(directory))
