@@ -518,20 +518,16 @@ static void call_serial_in(const material *m, const buffer *directory, const uin
     give_back(&serial);
 }
 
-/* The same by the calls of the root, and by those with a directory: "/", the path, and its first bytes. */
+/* The same by the calls of the root, and by those with a directory: "/", the path, or its first bytes. */
 static void call_serial(const material *m, const uint8_t *name, size_t name_len, size_t len)
 {
+    uint32_t way = random_below(3);
+    size_t part = way == 1 ? m->path_len : random_below((uint32_t)m->path_len + 1);
+    buffer directory = way == 0 ? lend_const((const uint8_t *)"/", 1) : lend_const(m->path, part);
     call_serial_in(m, NULL, name, name_len, len);
-    buffer root = lend_const((const uint8_t *)"/", 1);
-    buffer path = lend_const(m->path, m->path_len);
-    buffer part = lend_const(m->path, random_below((uint32_t)m->path_len + 1));
-    call_serial_in(m, &root, name, name_len, len);
-    call_serial_in(m, &path, name, name_len, len);
-    call_serial_in(m, &part, name, name_len, len);
-    expect(unchanged(&root) && unchanged(&path) && unchanged(&part), "put_settings: directory stays");
-    give_back(&root);
-    give_back(&path);
-    give_back(&part);
+    call_serial_in(m, &directory, name, name_len, len);
+    expect(unchanged(&directory), "put_settings: directory stays");
+    give_back(&directory);
 }
 
 /* The path as a serial number, its last bytes, and the serial number of fill_volume. */

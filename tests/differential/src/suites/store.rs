@@ -105,7 +105,7 @@ fn deeper(
     let (mut home, mut path) = (root(image), vec![]);
     for level in 0..levels {
         let slots = free_slots(image, home);
-        let name = rng.pick(&[format!("venue {level}"), format!("SN{level}"), "n".repeat(80)]);
+        let name = rng.pick(&[format!("venue {level}"), format!("hall{level}"), "n".repeat(80)]);
         let blocks: Vec<usize> = (0..rng.between(2, 4)).filter_map(|_| pool.pop()).collect();
         let at = rng.pick(&slots);
         home = images::put_folder(rng, image, at, home, name.as_bytes(), &blocks);
