@@ -59,7 +59,7 @@ fn volume_at(
         rng.shuffle(&mut pool);
         let taken = tree(&image)[0].entries.iter().any(|e| e.name == SERIAL);
         let slots = free_slots(&image, root(&image));
-        if slots.len() > 3 && pool.len() >= size.div_ceil(BLOCK) + 40 && !taken {
+        if slots.len() > 3 && pool.len() >= size.div_ceil(BLOCK) + 50 && !taken {
             break (image, pool);
         }
     };
