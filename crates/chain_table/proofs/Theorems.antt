@@ -11,8 +11,7 @@ use lib.Dec.{eqb}
 use lib.ListN.{length, getD, set}
 use Rattle.layout.specs.Lists.{has, lastOr}
 use Rattle.layout.specs.Geometry.{blockCount, tableBlocks}
-use Rattle.layout.specs.Table.{next, setNext, chain, endsAfter, chainOk, freeBlocks, occupied}
-use Rattle.layout.specs.Walks.Chains.{allOnes, restFree}
+use Rattle.layout.specs.Table.{next, setNext, chain, endsAfter, chainOk, freeBlocks, occupied, allOnes, restFree}
 use Rattle.layout.proofs.Laws.Tests.{accept-refused}
 use Rattle.volume.specs.Entries.{linked, taken, grown, freed, released}
 use Rattle.volume.specs.Search.{lowestFree}

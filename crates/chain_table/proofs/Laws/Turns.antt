@@ -13,8 +13,8 @@ use lib.Seq.{drop-cons, drop-length, getD-set-same, getD-set-other}
 use borrow.Author.Tests.{eq-eqb, ne-eqb}
 use Rattle.layout.specs.Lists.{joined}
 use Rattle.layout.specs.Bytes.{bytes4, splice}
-use Rattle.layout.specs.Table.{chain, occupied}
-use Rattle.layout.specs.Walks.Chains.{restFree, countUsed}
+use Rattle.layout.specs.Table.{chain, occupied, restFree}
+use Rattle.layout.specs.Walks.Chains.{countUsed}
 use Rattle.layout.proofs.Laws.Bytes.{length-bytes4, splice-nil, splice-append, length-joined4}
 use Rattle.layout.proofs.Laws.Chains.{nth, length-chain}
 use Rattle.layout.proofs.Laws.Lists.{interval-next}
