@@ -1,10 +1,8 @@
 -- A piece is the write that it is, and with that the theorem over runs with pieces.
 use Prim.Native.Nat.{ℕ, zero, suc, _+_, _*_, _≤_}
-use mathlib.Core.Bool.{cond}
 use mathlib.Core.List.{List, [], _∷_, _++_}
-use mathlib.Core.Path.{_≡_, refl, ap, _∙_}
+use mathlib.Core.Path.{_≡_, refl}
 use native.Mathlib.Omega.{arith}
-use lib.Dec.{eqb}
 use lib.ListN.{length, length-append}
 use borrow.Author.Tests.{ne-eqb}
 use Rattle.layout.specs.Lists.{joined}
@@ -19,7 +17,7 @@ use Rattle.journal.specs.Kinds.{StandsFor}
 use Rattle.journal.specs.Back.{TellsRight}
 use Rattle.journal.proofs.Theorems.{every-free-run}
 use Rattle.append.specs.Append.{pieceWrite, afterAppend, appendAnswer}
-use Rattle.append.specs.Runs.{Piece, pieceCalls, pieces, pieceTell, PieceRunTheorem}
+use Rattle.append.specs.Runs.{pieceCalls, pieces, pieceTell, PieceRunTheorem}
 
 piece-run : (p : State) (path piece : List ℕ) (time : ℕ) → afterAppend p path piece time ≡ run p (pieceCalls p path piece time)
 unfolding afterAppend pieceCalls run step
