@@ -1,6 +1,6 @@
 -- Runs in which journals are asked and marks are gone back to (FORMAT.md, 11): an info is a look; an undo to a mark is, in a run, the undos that it does. And the
 -- claims: back to the start, and back to any moment of a run whose changes all still stand.
-use Prim.Native.Nat.{ℕ, _+_, _≤_}
+use Prim.Native.Nat.{ℕ, _+_, _-_, _≤_}
 use mathlib.Core.List.{List, [], _∷_, _++_}
 use mathlib.Core.Path.{_≡_}
 use lib.ListN.{length}
@@ -11,7 +11,7 @@ use Rattle.journal.specs.Journal.{started}
 use Rattle.journal.specs.Run.{State, Call}
 use Rattle.journal.specs.Replay.{standingAfter, standing}
 use Rattle.journal.specs.Kinds.{Kind, KindCall, runOf, AllFit, asCalls, standingOf, FreeRunTheorem}
-use Rattle.journal.specs.Back.{undos}
+use Rattle.journal.specs.Back.{undos, Tell}
 use Rattle.back.specs.Marks.{InfoAnswer, journalInfo}
 use Rattle.back.specs.UndoTo.{backed, undoTo}
 
@@ -41,6 +41,13 @@ backs = record {
   calls = λ p mark. undos (undoTo p mark .done);
   Fits = λ p mark. Unit {0};
 }
+
+-- how a program counts the changes that stand: an info leaves the count, an undo to a mark lowers it by as many as it says
+abbrev pub infoTell : Tell infos
+infoTell k r = k
+
+abbrev pub backTell : Tell backs
+backTell k r = k - r .done
 
 abbrev pub InfoRunTheorem : Type 0
 InfoRunTheorem = FreeRunTheorem infos

@@ -2,15 +2,16 @@
 use mathlib.Core.Path.{refl}
 use Rattle.journal.specs.Run.{step, run}
 use Rattle.journal.specs.Kinds.{StandsFor, oneOf}
-use Rattle.journal.proofs.Laws.Kinds.{one-of}
-use Rattle.journal.specs.Back.{KindBackTheorem}
-use Rattle.journal.proofs.Theorems.{every-kind-run, undone-all-kinds}
-use Rattle.write_list.proofs.Laws.Runs.{lists-stand}
-use Rattle.append.proofs.Laws.Runs.{pieces-stand}
-use Rattle.chain_table.proofs.Laws.Runs.{transfers-stand}
-use Rattle.back.proofs.Laws.Runs.{infos-stand, backs-stand}
+use Rattle.journal.proofs.Laws.Kinds.{one-of, one-tells}
+use Rattle.journal.specs.Replay.{standingAfter, standing}
+use Rattle.journal.specs.Back.{KindBackTheorem, TellsRight}
+use Rattle.journal.proofs.Theorems.{every-kind-run, undone-all-kinds, undone-counted-kinds}
+use Rattle.write_list.proofs.Laws.Runs.{lists-stand, lists-told}
+use Rattle.append.proofs.Laws.Runs.{pieces-stand, pieces-told}
+use Rattle.chain_table.proofs.Laws.Runs.{transfers-stand, transfers-told}
+use Rattle.back.proofs.Laws.Runs.{infos-stand, backs-stand, infos-told, backs-told}
 use Rattle.back.proofs.Theorems as back
-use Rattle.bulgefs.specs.Runs.{FurtherKind, list, append, readOn, table, journalInfo, undoTo, readings, kindOf, EveryRunTheorem, EveryInfoTheorem, EveryStartTheorem, EveryMarkTheorem, EveryNeverBelowTheorem}
+use Rattle.bulgefs.specs.Runs.{FurtherKind, list, append, readOn, table, journalInfo, undoTo, readings, kindOf, tellOf, EveryRunTheorem, EveryCountTheorem, EveryInfoTheorem, EveryStartTheorem, EveryMarkTheorem, EveryNeverBelowTheorem}
 
 readings-stand : StandsFor readings
 unfolding run step
@@ -31,6 +32,23 @@ every-run = every-kind-run (oneOf kindOf) (one-of kindOf kinds-stand)
 -- After every such run, as many undos as changes stand give image and whole journal of the start.
 pub undone-all : KindBackTheorem (oneOf kindOf)
 undone-all = undone-all-kinds (oneOf kindOf) (one-of kindOf kinds-stand)
+
+readings-told : TellsRight readings (tellOf readOn)
+unfolding standing standingAfter
+readings-told start changes r = refl
+
+kinds-told : (i : FurtherKind) → TellsRight (kindOf i) (tellOf i)
+kinds-told list = lists-told
+kinds-told append = pieces-told
+kinds-told readOn = readings-told
+kinds-told table = transfers-told
+kinds-told journalInfo = infos-told
+kinds-told undoTo = backs-told
+
+-- As many as a program counts by its answers do it too: one more at a change that answers 0, one less at an undo that answers 0, as many more as a list did, one
+-- more at an append with a record's length, as many less as an undo to a mark took back.
+pub undone-counted : EveryCountTheorem
+undone-counted = undone-counted-kinds (oneOf kindOf) (one-of kindOf kinds-stand) (λ k r. tellOf (r .0) k (r .1)) (one-tells kindOf tellOf kinds-told)
 
 -- After every such run, an info of the journal answers 0 and as many records as changes stand.
 pub all-told : EveryInfoTheorem

@@ -6,10 +6,11 @@ use mathlib.Core.List.{List, [], _∷_}
 use Rattle.layout.specs.Looks.{ReadAnswer, read}
 use Rattle.journal.specs.Run.{look, readFile}
 use Rattle.journal.specs.Kinds.{Kind, KindRunTheorem, oneOf}
-use Rattle.write_list.specs.Runs.{lists}
-use Rattle.append.specs.Runs.{pieces}
-use Rattle.chain_table.specs.Runs.{transfers}
-use Rattle.back.specs.Runs.{infos, backs, ToldTheorem, ToStartTheorem, ToMarkTheorem, NeverBelowTheorem}
+use Rattle.journal.specs.Back.{Tell, KindCountTheorem}
+use Rattle.write_list.specs.Runs.{lists, listTell}
+use Rattle.append.specs.Runs.{pieces, pieceTell}
+use Rattle.chain_table.specs.Runs.{transfers, transferTell}
+use Rattle.back.specs.Runs.{infos, backs, infoTell, backTell, ToldTheorem, ToStartTheorem, ToMarkTheorem, NeverBelowTheorem}
 
 -- Read on (FORMAT.md, 7.3): "the reader answers as 01's read at its place, which moves on by the count". The place is the caller's, and the next one part of the answer.
 pub record Reading : Type 0 where
@@ -51,6 +52,18 @@ kindOf undoTo = backs
 -- DEMAND 3 over every run of calls; only a store of other numbers than the image's own ends one
 abbrev pub EveryRunTheorem : Type 0
 EveryRunTheorem = KindRunTheorem (oneOf kindOf)
+
+-- how a program counts the changes that stand by the answers of each kind: after every such run as many undos give image and whole journal of the start
+abbrev pub tellOf : (i : FurtherKind) → Tell (kindOf i)
+tellOf list = listTell
+tellOf append = pieceTell
+tellOf readOn = λ k r. k
+tellOf table = transferTell
+tellOf journalInfo = infoTell
+tellOf undoTo = backTell
+
+abbrev pub EveryCountTheorem : Type 0
+EveryCountTheorem = KindCountTheorem (oneOf kindOf) (λ k r. tellOf (r .0) k (r .1))
 
 -- After every such run, an info answers 0 and as many records as changes stand
 abbrev pub EveryInfoTheorem : Type 0

@@ -465,8 +465,8 @@ pub extern "C" fn bulgefs_undo(image: &mut [u8], journal: &mut [u8]) -> Changed
             number: 0,
             size: size,
         },
-        journal::calls::Undone::Refused(number) => Changed {
-            number: number,
+        journal::calls::Undone::Refused(why) => Changed {
+            number: why,
             size: 0,
         },
     }

@@ -1,27 +1,28 @@
 -- What is promised of the table held as numbers (FORMAT.md, 12): load then store changes no byte; a store stores; each question and change on the numbers
 -- gives what the byte form gives, over any n.
-use Prim.Native.Nat.{ℕ, _+_, _*_, _≤_, _<_}
-use mathlib.Core.Bool.{true}
+use Prim.Native.Nat.{ℕ, _+_, _-_, _*_, _≤_, _<_}
+use mathlib.Core.Bool.{true, not, _&&_, _||_}
 use mathlib.Core.List.{List}
 use mathlib.Core.Logic.{_⊎_, inl, inr}
 use mathlib.Core.Path.{_≡_, ap}
 use native.Mathlib.Decide.{ℕ-discrete}
 use native.Mathlib.Omega.{arith}
 use lib.Dec.{eqb}
-use lib.ListN.{length, getD, set}
-use Rattle.layout.specs.Lists.{has, lastOr}
+use lib.ListN.{length, getD, set, List·getD-eq-default}
+use Rattle.layout.specs.Limits.{minBlocks}
+use Rattle.layout.specs.Lists.{interval, every, has, lastOr}
 use Rattle.layout.specs.Geometry.{blockCount, tableBlocks}
-use Rattle.layout.specs.Table.{next, setNext, chain, endsAfter, chainOk, freeBlocks, occupied}
-use Rattle.layout.specs.Walks.Chains.{allOnes, restFree}
+use Rattle.layout.specs.Table.{next, setNext, chain, endsAfter, chainOk, freeBlocks, occupied, allOnes, restFree}
+use Rattle.layout.specs.Check.{allChains, owned, tableOk, stage6}
 use Rattle.layout.proofs.Laws.Tests.{accept-refused}
 use Rattle.volume.specs.Entries.{linked, taken, grown, freed, released}
 use Rattle.volume.specs.Search.{lowestFree}
-use Rattle.chain_table.specs.Numbers.{valueIn, entriesOf, Held, linkedIn, takenIn, grownIn, freedIn, releasedIn}
+use Rattle.chain_table.specs.Numbers.{valueIn, entriesOf, Held, Own, linkedIn, takenIn, grownIn, freedIn, releasedIn}
 use Rattle.chain_table.specs.Transfer.{tableRefusal, loadTable, storeTable}
 use Rattle.chain_table.specs.Runs.{TableRunTheorem}
 use Rattle.layout.proofs.Laws.Lists.{in-has-eqb}
 use Rattle.layout.proofs.Laws.Values.{chain-same, ends-same, occupied-agree, ones-same, restFree-same}
-use Rattle.chain_table.proofs.Laws.Values.{chain-ok-same, free-same, lowest-same}
+use Rattle.chain_table.proofs.Laws.Values.{chain-ok-same, free-same, lowest-same, owned-same, table-ok-same, rest-owned}
 use Rattle.chain_table.proofs.Laws.Numbers.{held-entries}
 use Rattle.chain_table.proofs.Laws.Looks.{store-looks as looks, store-looks-only as looks-only}
 use Rattle.chain_table.proofs.Laws.Stores.{store-held as stores, store-others as others, store-length as long}
@@ -46,7 +47,7 @@ pub store-length : (s xs : List ℕ) → length (storeTable s xs .image) ≡ len
 store-length = long
 
 -- a store of the image's own numbers only looks, and so does one that is refused
-pub store-looks : (s xs : List ℕ) → ((i : ℕ) → getD s i 0 < 256) → Held s xs (blockCount s) ⊎ (tableRefusal s (length xs) ≡ 0 → ⊥) → storeTable s xs .image ≡ s
+pub store-looks : (s xs : List ℕ) → Own s xs ⊎ (tableRefusal s (length xs) ≡ 0 → ⊥) → storeTable s xs .image ≡ s
 store-looks = looks
 
 -- and a store that changes no byte is one of these
@@ -55,18 +56,18 @@ pub store-looks-only : (s xs : List ℕ) → ((b : ℕ) → valueIn xs b < 0x100
 store-looks-only = looks-only
 
 -- a refused load leaves the numbers, with which the store is refused too
-load-refused : (s xs : List ℕ) → ((i : ℕ) → getD s i 0 < 256) → (loadTable s xs .number ≡ 0 → ⊥) → storeTable s (loadTable s xs .numbers) .image ≡ s
+load-refused : (s xs : List ℕ) → (loadTable s xs .number ≡ 0 → ⊥) → storeTable s (loadTable s xs .numbers) .image ≡ s
 unfolding loadTable
-load-refused s xs bytes e =
-    rw (accept-refused (tableRefusal s (length xs)) (entriesOf (next s) (blockCount s)) xs e) (store-looks s xs bytes (inr e))
+load-refused s xs e =
+    rw (accept-refused (tableRefusal s (length xs)) (entriesOf (next s) (blockCount s)) xs e) (store-looks s xs (inr e))
 
 -- LOAD THEN STORE changes no byte, of a sound image and of any other
 pub load-store : (s xs : List ℕ) → ((i : ℕ) → getD s i 0 < 256) → storeTable s (loadTable s xs .numbers) .image ≡ s
 load-store s xs bytes = go (ℕ-discrete (loadTable s xs .number) 0)
   where
     go : Dec (loadTable s xs .number ≡ 0) → storeTable s (loadTable s xs .numbers) .image ≡ s
-    go (yes e) = store-looks s (loadTable s xs .numbers) bytes (inl (load-held s xs e))
-    go (no e) = load-refused s xs bytes e
+    go (yes e) = store-looks s (loadTable s xs .numbers) (inl (record { bytes = bytes; held = load-held s xs e }))
+    go (no e) = load-refused s xs e
 
 -- IN A RUN a load, and a store of the image's own numbers or a refused one, is a call that only looks: image, whole journal and every answer are the replay's
 pub every-table-run : TableRunTheorem
@@ -108,6 +109,25 @@ module _ {s xs : List ℕ} {n : ℕ} (held : Held s xs n) where
 
   pub rest-of-numbers : (m : List ℕ) (a k : ℕ) → a + k ≤ n → restFree (valueIn xs) m a k ≡ restFree (next s) m a k
   rest-of-numbers = restFree-same (valueIn xs) (next s) n (held .same)
+
+  -- the blocks of chains, where the chains are right
+  pub owned-of-numbers : (cs : List (ℕ × ℕ)) → every (λ c. chainOk (next s) n (c .0) (c .1)) cs ≡ true → owned (valueIn xs) cs ≡ owned (next s) cs
+  owned-of-numbers = owned-same (valueIn xs) (next s) n (held .same)
+
+  -- STAGE 6 of any chains: what the numbers say, and that the table's entries from n on are 0. No number stands for these.
+  pub table-ok-of-numbers : minBlocks ≤ n → (cs : List (ℕ × ℕ)) → tableOk (next s) n cs ≡ (tableOk (valueIn xs) n cs && every (λ b. eqb (next s b) 0) (interval n (128 * tableBlocks n - n)))
+  table-ok-of-numbers low = table-ok-same (valueIn xs) (next s) n (held .same) low (λ b h. List·getD-eq-default xs 0 (omega (arith, held .size)))
+
+-- stage 6 of an image, by its numbers and its own chains
+pub stage6-of-numbers : (s xs : List ℕ) → Held s xs (blockCount s) → minBlocks ≤ blockCount s
+    → stage6 s ≡ (tableOk (valueIn xs) (blockCount s) (allChains s) && every (λ b. eqb (next s b) 0) (interval (blockCount s) (128 * tableBlocks (blockCount s) - blockCount s)))
+unfolding stage6
+stage6-of-numbers s xs held low = table-ok-of-numbers held low (allChains s)
+
+-- `rest_free` asks stage 6's last clause by marks: where the blocks os are marked, and no others, its answer is that clause's.
+pub rest-of-owned : (v : ℕ → ℕ) (m os : List ℕ) → ((b : ℕ) → eqb (getD m b 0) 0 ≡ not (has eqb b os)) → (a k : ℕ)
+    → restFree v m a k ≡ every (λ b. eqb (v b) 0 || has eqb b os) (interval a k)
+rest-of-owned = rest-owned
 
 -- EVERY CHANGE on the numbers leaves those of the bytes that are changed alike
 module _ {s xs : List ℕ} {n : ℕ} (held : Held s xs n) (whole : length s ≡ 512 * n) (low : 3 ≤ n) where

@@ -6,6 +6,7 @@ use mathlib.Core.Path.{_≡_}
 use lib.ListN.{length, getD, set}
 use Rattle.layout.specs.Lists.{interval, joined}
 use Rattle.layout.specs.Bytes.{bytes4, splice}
+use Rattle.layout.specs.Geometry.{blockCount}
 use Rattle.layout.specs.Table.{next}
 
 -- the value of entry b; past the last number it is 0
@@ -24,6 +25,11 @@ stored s xs = splice s 512 (joined bytes4 xs)
 pub record Held (s xs : List ℕ) (n : ℕ) : Type 0 where
   pub size : length xs ≡ n
   pub same : (b : ℕ) → b < n → valueIn xs b ≡ next s b
+
+-- the image's own numbers; it is bytes, as every image lent to a call is
+pub record Own (s xs : List ℕ) : Type 0 where
+  pub bytes : (i : ℕ) → getD s i 0 < 256
+  pub held : Held s xs (blockCount s)
 
 -- the volume's changes of the table, on the numbers: block b linked after the block `last` (0: there is none), taken, freed
 unfoldable pub linkedIn : List ℕ → ℕ → ℕ → List ℕ

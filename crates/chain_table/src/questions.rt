@@ -6,8 +6,7 @@ ghost use lib.Dec.{eqb};
 ghost use lib.ListN.{length, getD};
 ghost use Rattle.layout.specs.Lists.{lastOr};
 ghost use Rattle.layout.specs.Geometry.{tableBlocks};
-ghost use Rattle.layout.specs.Table.{chain, endsAfter, occupied};
-ghost use Rattle.layout.specs.Walks.Chains.{allOnes, restFree};
+ghost use Rattle.layout.specs.Table.{chain, endsAfter, occupied, allOnes, restFree};
 ghost use Rattle.volume.specs.Search.{lowestFree};
 ghost use Rattle.chain_table.specs.Numbers.{valueIn};
 

@@ -10,7 +10,7 @@ use Rattle.store.specs.Change.{Change}
 use Rattle.journal.specs.Journal.{started}
 use Rattle.journal.specs.Run.{Call, undo, Answer, changed, undone, checked, found, filled, shown, described, entered, got, State, recordOf, changeRefusal, afterChange, answer, run, answers}
 use Rattle.journal.specs.Replay.{replayed, standing}
-use Rattle.journal.specs.Kinds.{Kind, KindCall, runOf, AllFit, standingOf}
+use Rattle.journal.specs.Kinds.{Kind, KindCall, KindAnswer, answered, replied, runOf, answersOf, AllFit, standingOf}
 
 abbrev pub undos : ℕ → List Call
 undos k = replicate k undo
@@ -62,6 +62,27 @@ KindBackTheorem K =
     (image : List ℕ) (size : ℕ) (calls : List (KindCall K)) → check image ≡ 0 → minJournal ≤ size → size ≤ maxJournal
     → let start : State = record { image = image; journal = started size } in
     AllFit start calls → KindBackToStart start calls
+
+-- The program's count over such a run. A kind's replies move it in a way of their own, `tell`, which is right if it follows the changes that stand: where so
+-- many of them do, the count after a reply is that of the changes that stand after the calls that the further call is.
+abbrev pub Tell : Kind → Type 0
+Tell K = ℕ → K .Reply → ℕ
+
+unfoldable pub countOf : {K : Kind} → Tell K → ℕ → List (KindAnswer K) → ℕ
+countOf tell k [] = k
+countOf tell k (answered a ∷ more) = countOf tell (countAfter k a) more
+countOf tell k (replied r ∷ more) = countOf tell (tell k r) more
+
+abbrev pub TellsRight : (K : Kind) → Tell K → Type 0
+TellsRight K tell =
+    (start : State) (changes : List Change) (c : K .Further)
+    → tell (length changes) (K .reply (replayed start changes) c) ≡ length (standing start changes (K .calls (replayed start changes) c))
+
+abbrev pub KindCountTheorem : (K : Kind) → Tell K → Type 0
+KindCountTheorem K tell =
+    (image : List ℕ) (size : ℕ) (calls : List (KindCall K)) → check image ≡ 0 → minJournal ≤ size → size ≤ maxJournal
+    → let start : State = record { image = image; journal = started size } in
+    AllFit start calls → run (runOf start calls) (undos (countOf tell 0 (answersOf start calls))) ≡ start
 
 -- changes in order, each accepted on the state that those before it left
 unfoldable pub AllAccepted : State → List Change → Type 0

@@ -10,7 +10,7 @@ use Rattle.layout.specs.Refusals.{require, firstOf}
 use Rattle.layout.specs.Bytes.{be32, part}
 use Rattle.layout.specs.Limits.{minBlocks, maxBlocks, maxDirectory, maxLevels, maxAttributes}
 use Rattle.layout.specs.Geometry.{signature, blockCount, tableBlocks, rootBlock, blocksFor}
-use Rattle.layout.specs.Table.{next, chain, chainOk, occupied}
+use Rattle.layout.specs.Table.{next, chain, chainOk, occupied, allOnes}
 use Rattle.layout.specs.Directory.{slotAt, slots, typeOf, firstBlock, sizeOf, blocksOf, attributeBlock, attributeSize, selfOf, parentOf, isFree, isFile, isDirectory, nameOf, nameOk, files, directory, dirs}
 
 -- 1. "Length is 512·n with n in range."
@@ -138,7 +138,7 @@ unfoldable pub tableOk : (ℕ → ℕ) → ℕ → List (ℕ × ℕ) → Bool
 tableOk v n cs =
     let t = tableBlocks n in
     let os = owned v cs in
-    every (λ c. chainOk v n (c .0) (c .1)) cs && (distinct eqb os && (every (λ b. eqb (v b) 1) (interval 0 (t + 1))
+    every (λ c. chainOk v n (c .0) (c .1)) cs && (distinct eqb os && (allOnes v 0 (t + 1)
     && every (λ b. eqb (v b) 0 || has eqb b os) (interval (t + 1) (128 * t - (t + 1)))))
 
 unfoldable pub stage6 : List ℕ → Bool

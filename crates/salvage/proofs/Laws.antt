@@ -9,3 +9,4 @@ pub mod Result
 pub mod Fixed
 pub mod Holders
 pub mod Kept
+pub mod Coded

@@ -1,23 +1,27 @@
 -- THE THEOREMS OF SALVAGE (FORMAT.md, 16), for readers.
 use Prim.Native.Nat.{ℕ, zero, suc, _-_, _*_, _≤_, _<_}
-use mathlib.Core.Bool.{true, not}
+use mathlib.Core.Bool.{true, false, not}
 use mathlib.Core.List.{List}
 use mathlib.Core.Path.{_≡_, refl, sym, ap, _∙_}
+use native.Mathlib.Omega.{arith}
+use lib.Dec.{eqb}
 use lib.ListN.{length, getD}
-use Rattle.layout.specs.Lists.{every}
+use Rattle.layout.specs.Lists.{every, has}
 use Rattle.layout.specs.Bytes.{zeros, splice, part, block}
 use mathlib.Core.Logic.{_⊎_, inl, inr, ⊎-elim, _≢_}
-use Rattle.layout.proofs.Laws.Lists.{In}
+use Rattle.layout.proofs.Laws.Lists.{has-eqb-in, in-has-eqb, false-has}
 use Rattle.layout.specs.Geometry.{blockCount, tableBlocks}
 use Rattle.layout.specs.Table.{next}
 use Rattle.layout.specs.Directory.{root, slotAt, slots, typeOf, isDirectory, attributeSize, isFile, fileBlocks, attributeBlocks, content, attributes}
-use Rattle.salvage.proofs.Laws.Kept.{Gone, Outside, entry-kept, held-content, held-attributes, outside-kept, gone-blank, free-kept, codes-length, values-kept, code-moved, first-code, end-moved}
+use Rattle.salvage.proofs.Laws.Kept.{entry-kept, held-content, held-attributes, outside-kept, gone-blank, free-kept, codes-length, values-kept, code-moved, first-code, end-moved}
 use Rattle.salvage.proofs.Laws.Steps.{Moved}
-use Rattle.salvage.proofs.Laws.Holders.{Holds, holder, holder-apart, one-holder}
+use Rattle.salvage.proofs.Laws.Holders.{holder, holder-apart, one-holder}
+use Rattle.salvage.proofs.Laws.Coded as coded
 use Rattle.salvage.proofs.Laws.Fixed.{sound-given, image-kept, codes-zero}
 use Rattle.layout.specs.Refusals.{accept}
 use Rattle.layout.specs.Check.{check}
 use Rattle.salvage.specs.Salvage.{salvageRefusal, slotsDone, salvageImage, salvageCodes, SalvageAnswer, salvage}
+use Rattle.salvage.specs.Claims.{Gone, Outside, Holds, caseIn, before, OnlyCleared}
 use Rattle.salvage.proofs.Laws.Result.{Given, given, accepts, salvaged-sound, root-again, given-again}
 
 -- what an accepted call hands back
@@ -123,22 +127,44 @@ module _ (s report : List ℕ) (e : salvage s report .number ≡ 0) where
   -- "0 where nothing changed": with code 0 the table's entries of a file's blocks stay too; with another code the entry is free now and was not, or its
   -- attributes are gone, or the value of one of its blocks was not 1 and is 1 now.
   pub code-zero-values : (k : ℕ) → 1 ≤ k → k ≤ 4 * dirSize s - 2 → codeOf s k ≡ 0 → isFile (typeOf s (rootSlot s k)) ≡ true → (x : ℕ)
-      → In x (fileBlocks s (rootSlot s k)) ⊎ In x (attributeBlocks s (rootSlot s k)) → next s′ x ≡ next s x
-  code-zero-values k h g c f x i = rw is (values-kept s A k h g c f x i)
+      → (has eqb x (fileBlocks s (rootSlot s k)) ≡ true) ⊎ (has eqb x (attributeBlocks s (rootSlot s k)) ≡ true) → next s′ x ≡ next s x
+  code-zero-values k h g c f x i =
+      rw is (values-kept s A k h g c f x
+      (⊎-elim (λ y. inl (has-eqb-in x (fileBlocks s (rootSlot s k)) y)) (λ y. inr (has-eqb-in x (attributeBlocks s (rootSlot s k)) y)) i))
 
   pub code-tells : (k : ℕ) → 1 ≤ k → k ≤ 4 * dirSize s - 2 → codeOf s k ≢ 0
       → ((typeOf s (rootSlot s k) ≢ 0) × (typeOf s′ (rootSlot s k) ≡ 0))
       ⊎ (((attributeSize s (rootSlot s k) ≢ 0) × (attributeSize s′ (rootSlot s k) ≡ 0))
-      ⊎ ((x : ℕ) × (In x (fileBlocks s (rootSlot s k)) ⊎ In x (attributeBlocks s (rootSlot s k))) × (next s x ≢ 1) × (next s′ x ≡ 1)))
+      ⊎ ((x : ℕ) × ((has eqb x (fileBlocks s (rootSlot s k)) ≡ true) ⊎ (has eqb x (attributeBlocks s (rootSlot s k)) ≡ true)) × (next s x ≢ 1) × (next s′ x ≡ 1)))
   code-tells k h g ne = rw is (tell (code-moved s A k h g ne))
     where
       tell : Moved (codeOf s k) s (salvageImage s) (slotsDone s .claimed) (rootSlot s k)
           → ((typeOf s (rootSlot s k) ≢ 0) × (typeOf (salvageImage s) (rootSlot s k) ≡ 0))
           ⊎ (((attributeSize s (rootSlot s k) ≢ 0) × (attributeSize (salvageImage s) (rootSlot s k) ≡ 0))
-          ⊎ ((x : ℕ) × (In x (fileBlocks s (rootSlot s k)) ⊎ In x (attributeBlocks s (rootSlot s k))) × (next s x ≢ 1) × (next (salvageImage s) x ≡ 1)))
+          ⊎ ((x : ℕ) × ((has eqb x (fileBlocks s (rootSlot s k)) ≡ true) ⊎ (has eqb x (attributeBlocks s (rootSlot s k)) ≡ true)) × (next s x ≢ 1) × (next (salvageImage s) x ≡ 1)))
       tell (inl w) = inl w
       tell (inr (inl w)) = inr (inl w)
-      tell (inr (inr w)) = let E = w .1 .1 in inr (inr (w .1 .0, E .mine, E .was, E .is))
+      tell (inr (inr w)) =
+          let x = w .1 .0 in
+          let E = w .1 .1 in
+          inr (inr (x, ⊎-elim (λ i. inl (in-has-eqb x (fileBlocks s (rootSlot s k)) i)) (λ i. inr (in-has-eqb x (attributeBlocks s (rootSlot s k)) i)) (E .mine), E .was, E .is))
+
+  -- A CODE IS ITS CASE: 1 breaks stage 5, 2 its own chain cannot be claimed, 4 that of its attributes cannot, 3 a last value is put right, 0 none of these
+  -- (caseIn); the slot is then as it was given.
+  pub code-case : (k : ℕ) → 1 ≤ k → k ≤ 4 * dirSize s - 2 → (codeOf s k ≡ caseIn (root s) (before s k) k) × (part (before s k .image) (rootSlot s k) 128 ≡ part s (rootSlot s k) 128)
+  unfolding before
+  code-case zero h g = absurd (omega arith)
+  code-case (suc j) h g = let q : suc j - 1 ≡ j = omega arith in rw q (coded.code-case s A j g, coded.slot-given s A j g)
+
+  -- Codes 1 and 2 leave 128 zeros.
+  pub code-zeroed : (k : ℕ) → 1 ≤ k → k ≤ 4 * dirSize s - 2 → (codeOf s k ≡ 1) ⊎ (codeOf s k ≡ 2) → part s′ (rootSlot s k) 128 ≡ zeros 128
+  code-zeroed zero h g c = absurd (omega arith)
+  code-zeroed (suc j) h g c = rw is (coded.code-zeroed s A j g c)
+
+  -- Code 4 clears the two attribute fields; the rest of the entry and the file's content stay.
+  pub code-cleared : (k : ℕ) → 1 ≤ k → k ≤ 4 * dirSize s - 2 → codeOf s k ≡ 4 → OnlyCleared s s′ (rootSlot s k)
+  code-cleared zero h g c = absurd (omega arith)
+  code-cleared (suc j) h g c = rw is (coded.only-cleared s A j g c)
 
   -- slot 0 has code 0; the end slot's code is not 0 only where its type was wrong
   pub self-code : codeOf s 0 ≡ 0
@@ -153,9 +179,9 @@ module _ (s report : List ℕ) (e : salvage s report .number ≡ 0) where
 
   -- Every block in use afterwards is the root's, or was claimed by one kept file, in slot k.
   pub one-file : (b : ℕ) → tableBlocks (blockCount s) < b → b < blockCount s → next s′ b ≢ 0
-      → In b (root s) ⊎ ((k : ℕ) × Holds s′ (root s) k b × ((j : ℕ) → Holds s′ (root s) j b → j ≡ k) × (In b (root s) → ⊥))
+      → (has eqb b (root s) ≡ true) ⊎ ((k : ℕ) × Holds s′ (root s) k b × ((j : ℕ) → Holds s′ (root s) j b → j ≡ k) × (has eqb b (root s) ≡ false))
   one-file b low high used =
-      rw is (⊎-elim (λ i. inl i) (λ h. inr (h .0, h .1, λ j H. one-holder s A b j (h .0) H (h .1), holder-apart s A b (h .0) (h .1)))
+      rw is (⊎-elim (λ i. inl (in-has-eqb b (root s) i)) (λ h. inr (h .0, h .1, λ j H. one-holder s A b j (h .0) H (h .1), false-has b (root s) (holder-apart s A b (h .0) (h .1))))
       (holder s A b low high (rw is at used)))
 
   -- L7: a freed block is blank; "Blocks that were free before aren't touched."

@@ -22,8 +22,7 @@ pub fn put_end(image: &mut [u8], n: usize, first: usize, d: usize) -> u8
     if layout::directory::type_at(image, b, 3) == 0xFF {
         return 0;
     }
-    let at = 512 * b + 384;
-    image[at] = 0xFF;
+    volume::file::end_block(image, b);
     3
 }
 

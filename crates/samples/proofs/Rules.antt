@@ -1,7 +1,7 @@
 -- One name that opens every definition to computation: `unfolding rules`.
 use Rattle.layout.specs.Bytes.{be32, be64, bytes4, bytes8, zeros, splice}
 use Rattle.layout.specs.Geometry.{inVolume}
-use Rattle.layout.specs.Table.{next, setNext, chain, endsAfter, chainOk, freeBlocks, occupied}
+use Rattle.layout.specs.Table.{next, setNext, chain, endsAfter, chainOk, freeBlocks, occupied, allOnes, restFree}
 use Rattle.layout.specs.Directory.{slotAt, goodName, nameOf, nameOk, files, slotOf, freeSlot, directory, isEmpty, children, below, dirs, fileBlocks, content, attributeBlocks, attributes}
 use Rattle.layout.specs.Check.{stage1, stage2, stage3, directoryOk, childOk, noAttributes, attributesOk, fileOk, directoryEntryOk, slotOk, newName, visitSlots, visitEntries, visitChild, visitRoot, fileChains, chains, allChains, owned, tableOk, stage6, stage7, check}
 use Rattle.volume.specs.Entries.{entryBytes, directoryMade, setOccupied, linked, taken, grown, freed, released, entriesNamed, blocksNamed}
@@ -21,7 +21,7 @@ use Rattle.layout.specs.Looks.{lookupRefusal, lookup, readRefusal, read, extent
 use Rattle.layout.specs.Listing.{decimal, printed, entryLine, fileLine, countLine, refusedLine, listing}
 
 unfoldable pub rules : Unit {0}
-unfolding be32 be64 bytes4 bytes8 zeros splice inVolume next setNext chain endsAfter chainOk freeBlocks occupied slotAt goodName nameOf nameOk files slotOf freeSlot directory isEmpty children below dirs fileBlocks content attributeBlocks attributes
+unfolding be32 be64 bytes4 bytes8 zeros splice inVolume next setNext chain endsAfter chainOk freeBlocks occupied allOnes restFree slotAt goodName nameOf nameOk files slotOf freeSlot directory isEmpty children below dirs fileBlocks content attributeBlocks attributes
     stage1 stage2 stage3 directoryOk childOk noAttributes attributesOk fileOk directoryEntryOk slotOk newName visitSlots visitEntries visitChild visitRoot fileChains chains allChains owned tableOk stage6 stage7 check
     cut parts pathOk shallow childOf resolve home pathSlot entryOf fileRefusal directoryRefusal lookupRefusal lookup readRefusal read extentOf lookInPlace readAttributes volumeInfo isRootPath listedRefusal listedBlock usedSlot noEntry entryFields nextEntry decimal printed entryLine fileLine countLine refusedLine listing
     entryBytes directoryMade setOccupied linked taken grown freed released entriesNamed blocksNamed formatRefusal firstEntries headerBytes formatImage formatted

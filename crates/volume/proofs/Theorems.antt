@@ -20,8 +20,7 @@ use Rattle.layout.specs.Check.{check}
 use Rattle.layout.specs.Paths.{parts, pathSlot, entryOf, fileRefusal}
 use Rattle.layout.specs.Looks.{lookup, lookupRefusal, read, lookInPlace, readAttributes}
 use Rattle.volume.specs.Entries.{taken}
-use Rattle.volume.specs.Search.{lowestFree, Exact, notedFull, searched}
-use Rattle.volume.specs.Walks.Searches.{Takeable, Renoted}
+use Rattle.volume.specs.Search.{lowestFree, Full, Exact, Renoted, Takeable, notedFull, searched}
 use Rattle.volume.specs.Format.{formatRefusal, formatted}
 use Rattle.volume.specs.Write.{needed, newBlocks}
 use Rattle.volume.specs.Delete.{allBlocks}
@@ -73,6 +72,10 @@ search-any-full = noted.search-any-full
 pub notes-kept : (s : List ℕ) (n last b : ℕ) (notes notes′ : List ℕ) → Takeable s n last b → Exact (next s) n notes → Renoted (next (taken s n last b)) n (b / 128) notes notes′
     → Exact (next (taken s n last b)) n notes′
 notes-kept = noted.notes-kept
+
+-- Blocks are named without notes (`marks::next_free`): nor does the lowest free block depend on the entries of a table block that is full.
+pub naming-any-full : (v w : ℕ → ℕ) (a n : ℕ) → ((b : ℕ) → b < n → (w b ≡ v b) ⊎ (Full v n (b / 128) × Full w n (b / 128))) → lowestFree w a n ≡ lowestFree v a n
+naming-any-full = noted.lowest-any-full
 
 -- Look in place "hands back an empty part exactly if it refuses or i is not below the file's blocks", on any image.
 pub look-empty : (s path : List ℕ) (i : ℕ) → (lookupRefusal s path ≢ 0) ⊎ (blocksOf s (entryOf isFile s path) ≤ i) → lookInPlace s path i ≡ []

@@ -90,15 +90,6 @@ fn take_blocks(image: &mut [u8], d: usize) -> Span
     }
 }
 
-// Writes the end type into the last slot of block b.
-fn end_block(image: &mut [u8], b: usize)
-    requires { ⌜ 512 * b + 512 ≤ length (now image) ⌝ }
-    ensures { λ _. ⌜ now (image .exit) ≡ splice (now (image .entry)) (512 * b + 384) (0xFF ∷ []) ⌝ }
-{
-    let at = 512 * b + 384;
-    image[at] = 0xFF;
-}
-
 // Writes the self entry into the first and the end type into the last block of a directory of d blocks.
 fn put_directory(
     image: &mut [u8],
@@ -124,7 +115,7 @@ fn put_directory(
         flags: 0,
     };
     super::slot::put_slot(image, first, 0, f, name);
-    end_block(image, last);
+    super::file::end_block(image, last);
 }
 
 // Creates a directory of d blocks, its entry at the place found for it; gives its slot.

@@ -1,5 +1,6 @@
-// The entry of a file, written. The work on an entry is given the 512 bytes of its block.
+// The entry of a file and the end of a directory, written. The work on an entry is given the 512 bytes of its block.
 ghost use mathlib.Core.Path.{_≡_};
+ghost use mathlib.Core.List.{[], _∷_};
 ghost use Prim.Native.Nat.{_+_, _*_, _≤_, _<_};
 ghost use lib.ListN.{length};
 ghost use Rattle.layout.specs.Bytes.{zeros, splice};
@@ -35,6 +36,16 @@ pub fn clear_slot(image: &mut [u8], b: usize, k: usize)
     ensures { λ _. ⌜ now (image .exit) ≡ splice (now (image .entry)) (entryAt b k) (zeros 128) ⌝ }
 {
     clear_bytes(image, b, k, 0, 128);
+}
+
+// Writes the end type into the last slot of block b.
+pub fn end_block(image: &mut [u8], b: usize)
+    requires { ⌜ 512 * b + 512 ≤ length (now image) ⌝ }
+    ensures { λ _. ⌜ now (image .exit) ≡ splice (now (image .entry)) (512 * b + 384) (0xFF ∷ []) ⌝ }
+{
+    let a = 512 * b;
+    let e = a + 512;
+    super::slot::put_end(&mut image[a..e]);
 }
 
 // Writes the numbers and the modified time of the file at o of a directory's block.

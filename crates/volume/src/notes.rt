@@ -8,8 +8,7 @@ ghost use Rattle.layout.specs.Geometry.{tableBlocks};
 ghost use Rattle.layout.specs.Table.{next};
 ghost use Rattle.layout.specs.Walks.Chains.{entryIn};
 ghost use Rattle.layout.specs.Walks.Shapes.{Shape};
-ghost use Rattle.volume.specs.Search.{Noted, Exact, searched};
-ghost use Rattle.volume.specs.Walks.Searches.{Renoted};
+ghost use Rattle.volume.specs.Search.{Noted, Exact, Renoted, searched};
 use layout::limits::MAX_BLOCKS;
 
 // One for each block of the largest table.

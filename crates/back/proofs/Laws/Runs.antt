@@ -7,7 +7,7 @@ use mathlib.Core.List.{List, [], _∷_, _++_, map}
 use native.Mathlib.Omega.{arith}
 use borrow.Author.Tests.{eq-eqb}
 use lib.Dec.{eqb}
-use lib.ListN.{length, length-append}
+use lib.ListN.{length, length-append, length-drop}
 use Rattle.layout.specs.Limits.{minJournal, maxJournal}
 use Rattle.layout.specs.Lists.{has, lastOr}
 use Rattle.layout.specs.Refusals.{accept}
@@ -21,18 +21,19 @@ use Rattle.journal.specs.Journal.{used, started, recordsFrom, records, wellForm
 use Rattle.journal.specs.Run.{Call, change, undo, look, changeRefusal, undone, State, state, undoRefusal, afterUndo, undoAnswer, step, answer, run}
 use Rattle.journal.specs.Replay.{replayed, standing, standingAfter, replayAnswer, RunInvariant}
 use Rattle.journal.specs.Kinds.{Kind, KindCall, stepOf, runOf, AllFit, standingOf, callsOf, asCalls, Reached, StandsFor}
-use Rattle.journal.specs.Back.{undos}
+use Rattle.journal.specs.Back.{undos, TellsRight}
 use Rattle.journal.specs.Walks.Changes.{Ready}
 use Rattle.layout.proofs.Laws.Tests.{require-zero, firstOf-zero, true-not-false}
 use Rattle.layout.proofs.Laws.Lists.{In, in-elim, in-left, in-append, has-eqb-in, in-has-eqb, last-in}
 use Rattle.journal.proofs.Laws.Shape.{used-filled, started-filled}
 use Rattle.journal.proofs.Laws.Append.{WellFormed, well}
 use Rattle.journal.proofs.Laws.Runs.{Stand, One, one-call, run-stands}
+use Rattle.journal.proofs.Laws.Back.{standing-undos}
 use Rattle.journal.proofs.Laws.Kinds.{standing-calls}
 use Rattle.journal.proofs.Theorems as theorems
 use Rattle.back.specs.Marks.{marks, behind, lastLength, InfoAnswer, journalInfo}
 use Rattle.back.specs.UndoTo.{withoutLast, backBy, Backed, backed, backRefusal, undoTo, Undoable}
-use Rattle.back.specs.Runs.{infos, backs, InfoRunTheorem, BackRunTheorem, Told, ToldTheorem, ToStartTheorem, ToMarkTheorem, NeverBelow, StillStand, NeverBelowTheorem}
+use Rattle.back.specs.Runs.{infos, backs, infoTell, backTell, InfoRunTheorem, BackRunTheorem, Told, ToldTheorem, ToStartTheorem, ToMarkTheorem, NeverBelow, StillStand, NeverBelowTheorem}
 use Rattle.journal.proofs.Laws.Dropped.{dropped}
 use Rattle.back.proofs.Laws.Marks.{used-mark, none-behind, one-behind}
 use Rattle.back.proofs.Laws.Turns.{back-done, info-ready}
@@ -422,3 +423,13 @@ never-below K stands image size before since ok low high f n =
     ∙ standing-calls K stands kept-sound image size ok low high since cs (stand-of K stands image size ok low high before left) r
     ∙ s .whole in
     (length (s .later), moment-again K stands image size before since ok low high f (s .later) e)
+
+-- the count by the answers
+pub infos-told : TellsRight infos infoTell
+unfolding standing
+infos-told start changes c = refl
+
+pub backs-told : TellsRight backs backTell
+backs-told start changes mark =
+    let d = undoTo (replayed start changes) mark .done in
+    sym (ap (λ (l : List Change). length l) (standing-undos start d changes) ∙ length-drop d changes)

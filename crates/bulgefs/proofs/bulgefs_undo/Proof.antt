@@ -9,8 +9,8 @@ undo-requires c κs = search needs
 enum-known-size : tie.Need-enum-known-size
 enum-known-size c = search needs
 
-enum-known-number : tie.Need-enum-known-number
-enum-known-number c = search needs
+enum-known-why : tie.Need-enum-known-why
+enum-known-why c = search needs
 
 same-length : tie.Need-same-length
 same-length c = search needs
@@ -32,7 +32,7 @@ same-length-4 c = search needs
 returns-2 : tie.Need-returns-2
 returns-2 c =
     let undo = c .before .before .before .before .before .before .before .undo in
-    (undo-case _ (c .before .number .given .1) (undo .ensures .0), undo .ensures .1 .0)
+    (undo-case _ (c .before .why .given .1) (undo .ensures .0), undo .ensures .1 .0)
 
 pub bulgefs-undo-spec : {M : Type 1} → statement M
 bulgefs-undo-spec =
@@ -40,7 +40,7 @@ bulgefs-undo-spec =
     (tie.spec
     undo-requires
     enum-known-size
-    enum-known-number
+    enum-known-why
     same-length
     same-length-2
     returns

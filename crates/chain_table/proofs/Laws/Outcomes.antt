@@ -6,7 +6,7 @@ use native.Mathlib.Omega.{arith}
 use lib.ListN.{length}
 use borrow.Author.Tests.{eq-eqb, ne-eqb, eqb-true}
 use Rattle.layout.specs.Refusals.{accept}
-use Rattle.layout.specs.Geometry.{blockCount}
+use Rattle.layout.specs.Geometry.{blockCount, tableBlocks}
 use Rattle.layout.specs.Table.{next}
 use Rattle.layout.specs.Check.{check}
 use Rattle.layout.proofs.Laws.Tests.{accept-refused, firstOf-zero, firstOf-refused, require-zero}
@@ -28,7 +28,7 @@ module _ (s : List ℕ) (count : ℕ) where
   not-refused e h = rw (e, eq-eqb count (blockCount s) h)
 
   -- what an accepted call has shown
-  pub accepted : tableRefusal s count ≡ 0 → (check s ≡ 0) × (count ≡ blockCount s) × (512 + 4 * count ≤ length s)
+  pub accepted : tableRefusal s count ≡ 0 → (check s ≡ 0) × (count ≡ blockCount s) × (512 * tableBlocks count + 512 ≤ length s)
   unfolding tableRefusal
   accepted e =
       let w = firstOf-zero (check s) _ e in
@@ -37,7 +37,7 @@ module _ (s : List ℕ) (count : ℕ) where
       (w .0, n, omega (arith, h .whole, h .low))
 
 module _ (s xs : List ℕ) (number : ℕ) (e : number ≡ tableRefusal s (length xs)) where
-  pub fits : number ≡ 0 → 512 + 4 * length xs ≤ length s
+  pub fits : number ≡ 0 → 512 * tableBlocks (length xs) + 512 ≤ length s
   fits z = accepted s (length xs) (sym e ∙ z) .2
 
   pub load-not : (number ≡ 0 → ⊥) → (number ≡ loadTable s xs .number) × (xs ≡ loadTable s xs .numbers)

@@ -24,7 +24,7 @@ module _ (start : State) where
   standing-append cs (x ∷ xs) ys = standing-append (standingAfter start cs x) xs ys
 
   -- k undos take the last k changes off the list; there may be fewer
-  standing-undos : (k : ℕ) (cs : List Change) → standing start cs (undos k) ≡ drop k cs
+  pub standing-undos : (k : ℕ) (cs : List Change) → standing start cs (undos k) ≡ drop k cs
   unfolding standing standingAfter
   standing-undos zero cs = refl
   standing-undos (suc k) [] = standing-undos k [] ∙ drop-nil k
@@ -50,7 +50,7 @@ module _ (start : State) where
   count-look k s (showEntry name from buffer) = refl
   count-look k s (getSettingsIn directory serial which buffer) = refl
 
-  count-call : (cs : List Change) (c : Call) → countAfter (length cs) (replayAnswer start cs c) ≡ length (standingAfter start cs c)
+  pub count-call : (cs : List Change) (c : Call) → countAfter (length cs) (replayAnswer start cs c) ≡ length (standingAfter start cs c)
   unfolding replayAnswer standingAfter
   count-call cs (change c) = count-change cs c
   count-call [] undo = refl
@@ -64,7 +64,7 @@ module _ (start : State) where
       ap (λ (k : ℕ). count k (replayAnswers start (standingAfter start cs c) calls)) (count-call cs c) ∙ count-standing (standingAfter start cs c) calls
 
   -- changes that are all accepted all stand
-  one-stands : (cs : List Change) (c : Change) → changeRefusal (replayed start cs) c ≡ 0 → standingAfter start cs (change c) ≡ c ∷ cs
+  pub one-stands : (cs : List Change) (c : Change) → changeRefusal (replayed start cs) c ≡ 0 → standingAfter start cs (change c) ≡ c ∷ cs
   unfolding standingAfter
   one-stands cs c r = rw r
 

@@ -9,11 +9,11 @@ use Rattle.store.specs.Change.{Change}
 use Rattle.store.proofs.Laws.Sound.{KeptSound}
 use Rattle.journal.specs.Journal.{started}
 use Rattle.journal.specs.Run.{Call, change, undo, State, state, step, answer, run, answers as run-answers}
-use Rattle.journal.specs.Replay.{replayed, standing}
+use Rattle.journal.specs.Replay.{replayed, standingAfter, standing}
 use Rattle.journal.specs.Kinds.{Kind, KindCall, call, further, KindAnswer, answered, stepOf, answerOf, runOf, answersOf, FitsRun, AllFit, callsOf, asCalls, standingOf, replayAnswerOf, replayAnswersOf, Reached, StandsFor, KindRunTheorem, FreeRunTheorem, oneOf}
-use Rattle.journal.specs.Back.{undos, KindBackTheorem}
+use Rattle.journal.specs.Back.{undos, KindBackTheorem, Tell, countOf, TellsRight, KindCountTheorem}
 use Rattle.journal.proofs.Laws.Runs.{Stand, One, one-call, run-after}
-use Rattle.journal.proofs.Laws.Back.{standing-append, back-to-start}
+use Rattle.journal.proofs.Laws.Back.{standing-append, count-call, back-to-start}
 
 -- a run of two lists of calls
 pub run-append : (xs ys : List Call) (p : State) → run p (xs ++ ys) ≡ run (run p xs) ys
@@ -148,3 +148,27 @@ kind-back sound K stands image size calls ok low high f =
       answered = rw e (ap (λ (p : State). run-answers p (undos (length (standing start [] cs)))) (calls-run K stands calls start m f) ∙ b .answered);
       refused = rw e (ap (λ (p : State). answer p undo) (go (length (standing start [] cs))) ∙ b .refused);
     }
+
+-- THE COUNT by the answers is the number of changes that stand
+count-kind : (K : Kind) (tell : Tell K) → TellsRight K tell → (start : State) (cs : List (KindCall K)) (changes : List Change)
+    → countOf tell (length changes) (replayAnswersOf start changes cs) ≡ length (standingOf start changes cs)
+unfolding countOf replayAnswersOf replayAnswerOf standingOf callsOf standing
+count-kind K tell right start [] changes = refl
+count-kind K tell right start (call c ∷ cs) changes =
+    let next = standingAfter start changes c in
+    ap (λ (k : ℕ). countOf tell k (replayAnswersOf start next cs)) (count-call start changes c) ∙ count-kind K tell right start cs next
+count-kind K tell right start (further c ∷ cs) changes =
+    let next = standing start changes (K .calls (replayed start changes) c) in
+    ap (λ (k : ℕ). countOf tell k (replayAnswersOf start next cs)) (right start changes c) ∙ count-kind K tell right start cs next
+
+pub kind-counted : KeptSound → (K : Kind) → StandsFor K → (tell : Tell K) → TellsRight K tell → KindCountTheorem K tell
+kind-counted sound K stands tell right image size calls ok low high f =
+    let start : State = record { image = image; journal = started size } in
+    let r = kind-run sound K stands image size calls ok low high f in
+    ap (λ (k : ℕ). run (runOf start calls) (undos k)) (ap (λ (l : List (KindAnswer K)). countOf tell 0 l) (r .answered) ∙ count-kind K tell right start calls [])
+    ∙ kind-back sound K stands image size calls ok low high f .whole
+
+-- several kinds as one
+pub one-tells : {I : Type 0} (kinds : I → Kind) (tells : (i : I) → Tell (kinds i)) → ((i : I) → TellsRight (kinds i) (tells i))
+    → TellsRight (oneOf kinds) (λ k r. tells (r .0) k (r .1))
+one-tells kinds tells right start changes c = right (c .0) start changes (c .1)

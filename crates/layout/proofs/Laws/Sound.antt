@@ -13,7 +13,7 @@ use Rattle.layout.specs.Limits.{minBlocks, maxBlocks}
 use Rattle.layout.specs.Lists.{interval, every, has, distinct, select, keep, joined}
 use Rattle.layout.specs.Bytes.{be32}
 use Rattle.layout.specs.Geometry.{blockCount, tableBlocks}
-use Rattle.layout.specs.Table.{next, chain, chainOk, occupied}
+use Rattle.layout.specs.Table.{next, chain, chainOk, occupied, allOnes}
 use Rattle.layout.specs.Directory.{slotAt, slots, typeOf, firstBlock, blocksOf, isFree, isFile, isDirectory, files, directory, dirs, attributeBlock, attributeSize}
 use Rattle.layout.specs.Check.{stage1, stage2, stage3, fileOk, directoryEntryOk, slotOk, fileChains, chains, allChains, owned, tableOk, stage6, stage7, visitRoot, faultOf, check}
 use Rattle.layout.proofs.Laws.Chains.{nth, in-chain, chain-in, chainOk-split, chainOk-join, chain-distinct}
@@ -391,7 +391,7 @@ module _ (s : List ℕ) (n : ℕ) (T : Tree s n) (least : minBlocks ≤ n) where
     of-in a (inr F) = let h = F .place in to-join two (joined quad bs) (a - 28) a (of-entry (a - 28) (F .entry)) (inr (inl (omega arith)))
 
     ok-table : tableOk (next s) n (entryChainsOf s bs) ≡ true → Table n (Owner s) (next s) (firstBlock s) (heldAt s)
-    unfolding tableOk entryChainsOf
+    unfolding tableOk allOnes entryChainsOf
     ok-table ok =
         let t = tableBlocks n in
         let es = joined quad bs in
@@ -403,7 +403,7 @@ module _ (s : List ℕ) (n : ℕ) (T : Tree s n) (least : minBlocks ≤ n) where
         to-table n os (Owner s) in-of of-in (next s) (firstBlock s) (heldAt s) (sym (every-entries s (next s) es lined-of n) ∙ six .0) (rw o at (r .0)) (low .0) (rw o at (low .1))
 
     table-ok : Table n (Owner s) (next s) (firstBlock s) (heldAt s) → tableOk (next s) n (entryChainsOf s bs) ≡ true
-    unfolding tableOk entryChainsOf
+    unfolding tableOk allOnes entryChainsOf
     table-ok U =
         let es = joined quad bs in
         let os = joined two es in

@@ -9,8 +9,7 @@ use lib.ListN.{getD}
 use borrow.Author.Tests.{ltb-true}
 use Rattle.layout.specs.Lists.{interval, every}
 use Rattle.layout.specs.Geometry.{tableBlocks, inVolume}
-use Rattle.layout.specs.Table.{chain, endsAfter, occupied}
-use Rattle.layout.specs.Walks.Chains.{allOnes, restFree}
+use Rattle.layout.specs.Table.{chain, endsAfter, occupied, allOnes, restFree}
 use Rattle.layout.proofs.Laws.Tests.{and-split}
 use Rattle.layout.proofs.Laws.Chains.{nth, getD-chain, chain-agree}
 use Rattle.layout.proofs.Laws.Counts.{occupied-same}

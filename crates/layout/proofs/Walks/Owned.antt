@@ -11,10 +11,10 @@ use Rattle.layout.specs.Limits.{minBlocks}
 use Rattle.layout.specs.Lists.{interval, every, has, distinct, select, keep, joined}
 use Rattle.layout.specs.Bytes.{zeros, part}
 use Rattle.layout.specs.Geometry.{blockCount, tableBlocks}
-use Rattle.layout.specs.Table.{next, chainOk}
+use Rattle.layout.specs.Table.{next, chainOk, allOnes}
 use Rattle.layout.specs.Directory.{typeOf, firstBlock, blocksOf, attributeBlock, attributeSize, isFile}
 use Rattle.layout.specs.Check.{fileChains, owned, tableOk, stage6, allChains}
-use Rattle.layout.specs.Walks.Chains.{Walk, walked, follow, followAll, allOnes, countUsed}
+use Rattle.layout.specs.Walks.Chains.{Walk, walked, follow, followAll, countUsed}
 use Rattle.layout.specs.Walks.Entries.{allZero}
 use Rattle.layout.specs.Walks.Shapes.{Shape}
 use Rattle.layout.specs.Walks.Slots.{entryAt}

@@ -10,9 +10,9 @@ use borrow.Author.Tests.{eq-eqb, ne-eqb, eqb-true, eqb-false}
 use Rattle.layout.specs.Limits.{minBlocks}
 use Rattle.layout.specs.Lists.{interval, every, has, distinct}
 use Rattle.layout.specs.Geometry.{blockCount, tableBlocks}
-use Rattle.layout.specs.Table.{next, chain, chainOk, occupied}
+use Rattle.layout.specs.Table.{next, chain, chainOk, occupied, allOnes}
 use Rattle.layout.specs.Check.{owned, tableOk, stage6, allChains}
-use Rattle.layout.specs.Walks.Chains.{countUsed, allOnes, bit}
+use Rattle.layout.specs.Walks.Chains.{countUsed, bit}
 use Rattle.layout.specs.Walks.Shapes.{Shape}
 use Rattle.layout.proofs.Laws.Chains.{chainOk-split, in-chain, chain-used}
 use Rattle.layout.proofs.Laws.Counts.{occupied-most}
@@ -108,7 +108,7 @@ module _ (v : ℕ → ℕ) (n : ℕ) (low : minBlocks ≤ n) (cs : List (ℕ × 
 -- no entry from n on is in use, so that the count serves stage 7
 module _ (s : List ℕ) (n : ℕ) (shape : Shape s n) where
   table-counted : (cs : List (ℕ × ℕ)) → tableOk (next s) n cs ≡ true → countUsed (next s) 0 (128 * tableBlocks n) ≡ countUsed (next s) 0 n
-  unfolding tableOk
+  unfolding tableOk allOnes
   table-counted cs e =
       let os : List ℕ = owned (next s) cs in
       let w = and-split (every (λ c. chainOk (next s) n (c .0) (c .1)) cs) _ e in

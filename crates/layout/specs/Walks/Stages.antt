@@ -10,10 +10,10 @@ use Rattle.layout.specs.Lists.{interval, select, same, joined}
 use Rattle.layout.specs.Refusals.{require, firstOf}
 use Rattle.layout.specs.Bytes.{be32, part}
 use Rattle.layout.specs.Geometry.{tableBlocks, rootBlock}
-use Rattle.layout.specs.Table.{next}
+use Rattle.layout.specs.Table.{next, allOnes}
 use Rattle.layout.specs.Directory.{slotAt, typeOf, firstBlock, blocksOf, isFile, isDirectory, directory}
 use Rattle.layout.specs.Check.{stage1, stage2, stage3, slotOk, newName, visitRoot, faultOf, fileChains, stage6, stage7}
-use Rattle.layout.specs.Walks.Chains.{Walk, walked, follow, followAll, allOnes, countUsed}
+use Rattle.layout.specs.Walks.Chains.{Walk, walked, follow, followAll, countUsed}
 use Rattle.layout.specs.Walks.Entries.{selfOk}
 use Rattle.layout.specs.Walks.Slots.{entryAt}
 

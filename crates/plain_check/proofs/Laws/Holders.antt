@@ -12,7 +12,7 @@ use borrow.Author.Tests.{eq-eqb, eqb-true, ne-eqb, le-leb, leb-true}
 use Rattle.layout.specs.Lists.{interval, every, has, distinct}
 use Rattle.layout.specs.Limits.{minBlocks}
 use Rattle.layout.specs.Geometry.{tableBlocks}
-use Rattle.layout.specs.Table.{chain, chainOk, occupied}
+use Rattle.layout.specs.Table.{chain, chainOk, occupied, allOnes}
 use Rattle.layout.specs.Check.{owned, tableOk}
 use Rattle.layout.proofs.Laws.Tests.{and-split, and-join, or-split, true-not-false, true-or-false, eqb-self, lt-or-ge}
 use Rattle.layout.proofs.Laws.Lists.{In, in-left, in-right, in-append, every-in, every-interval, interval-every, has-eqb-in, in-has-eqb, false-has, head-apart, tail-distinct, distinct-right, distinct-append, distinct-apart}
@@ -233,7 +233,7 @@ module _ (v : ℕ → ℕ) (n : ℕ) (h₃ : minBlocks ≤ n) (cs : List Pair) (
 
 -- THE TABLE, counted
 pub table-counted : (v : ℕ → ℕ) (n : ℕ) → minBlocks ≤ n → (cs : List Pair) → plainTable v n cs ≡ tableOk v n cs
-unfolding tableOk
+unfolding tableOk allOnes
 table-counted v n h cs =
     both-ways _ _
     (λ e.

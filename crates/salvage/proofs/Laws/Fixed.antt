@@ -13,7 +13,7 @@ use Rattle.layout.specs.Limits.{maxLevels}
 use Rattle.layout.specs.Lists.{interval, every, has, distinct, lastOr}
 use Rattle.layout.specs.Bytes.{zeros}
 use Rattle.layout.specs.Geometry.{blockCount, tableBlocks, inVolume}
-use Rattle.layout.specs.Table.{next, chain, endsAfter, chainOk}
+use Rattle.layout.specs.Table.{next, chain, endsAfter, chainOk, allOnes}
 use Rattle.layout.specs.Directory.{slotAt, slots, typeOf, firstBlock, blocksOf, attributeBlock, attributeSize, isFile, isDirectory, files, directory, rootOf, children, dirs, fileBlocks, attributeBlocks}
 use Rattle.layout.specs.Check.{stage1, stage2, stage3, stage6, stage7, fileChains, chains, allChains, owned, tableOk, visitRoot, faultOf, check}
 use Rattle.layout.proofs.Laws.Tests.{and-split, and-join, require-zero, firstOf-zero, true-not-false, eqb-self}
@@ -139,7 +139,7 @@ module _ (s : List ℕ) (c : check s ≡ 0) (A : Given s) where
     high : every (λ b. eqb (next s b) 0 || has eqb b (claimedAt m)) (interval (tableBlocks n + 1) (128 * tableBlocks n - (tableBlocks n + 1))) ≡ true
 
   table : Table₁
-  unfolding stage6 tableOk
+  unfolding stage6 tableOk allOnes
   table =
       let w = rw (all-chains, all-owned) at (stages .1) in
       let a₁ = and-split (every (λ c. chainOk (next s) n (c .0) (c .1)) ((r, length ds) ∷ filesTo s ds m)) _ w in

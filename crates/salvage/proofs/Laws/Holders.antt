@@ -1,5 +1,5 @@
 -- WHOSE A BLOCK IS: every block in use above the table is the root's, or of one kept file.
-use Prim.Native.Nat.{ℕ, _-_, _*_, _≤_, _<_}
+use Prim.Native.Nat.{ℕ, _-_, _*_, _<_}
 use mathlib.Core.Bool.{true}
 use mathlib.Core.List.{List, []}
 use mathlib.Core.Logic.{_⊎_, inl, inr, ⊎-elim, _≢_}
@@ -18,15 +18,13 @@ use Rattle.layout.proofs.Laws.Tests.{eqb-self, true-or-false, true-not-false}
 use Rattle.layout.proofs.Laws.Lists.{In, in-left, in-right, in-append, has-eqb-in, in-has-eqb, distinct-right}
 use Rattle.layout.proofs.Laws.Joins.{in-interval, interval-in, in-select, select-has, of-join, join-join, join-apart}
 use Rattle.salvage.specs.Salvage.{slotsDone, salvageImage}
+use Rattle.salvage.specs.Claims.{Holds}
 use Rattle.salvage.proofs.Laws.Done.{filesTo, file-not-root}
 use Rattle.salvage.proofs.Laws.Result.{Given, place, end, done}
 
--- b is a block of the file in slot k of the directory ds, of its own chain or of its attributes'
-pub record Holds (w ds : List ℕ) (k b : ℕ) : Type 0 where
-  pub least : 1 ≤ k
-  pub most : k ≤ 4 * length ds - 2
-  pub file : isFile (typeOf w (slotAt ds k)) ≡ true
-  pub block : In b (fileBlocks w (slotAt ds k)) ⊎ In b (attributeBlocks w (slotAt ds k))
+-- the block as a member of one of the file's chains
+pub holds-in : (w ds : List ℕ) (k b : ℕ) → Holds w ds k b → In b (fileBlocks w (slotAt ds k)) ⊎ In b (attributeBlocks w (slotAt ds k))
+holds-in w ds k b H = ⊎-elim (λ i. inl (has-eqb-in b (fileBlocks w (slotAt ds k)) i)) (λ i. inr (has-eqb-in b (attributeBlocks w (slotAt ds k)) i)) (H .block)
 
 module _ (s : List ℕ) (A : Given s) where
   abbrev n : ℕ
@@ -56,8 +54,8 @@ module _ (s : List ℕ) (A : Given s) where
           least = r .0;
           most = omega (arith, r .1);
           file = x .1;
-          block = ⊎-elim (λ e. inl (subst (λ (p : ℕ × ℕ). In b (chain (next w) (p .0) (p .1))) e (c .2)))
-              (λ j. ⊎-elim (λ e. inr (subst (λ (p : ℕ × ℕ). In b (chain (next w) (p .0) (p .1))) e (c .2))) (λ z. absurd z) j) (k .2);
+          block = ⊎-elim (λ e. inl (in-has-eqb b (fileBlocks w (slotAt ds (k .0))) (subst (λ (p : ℕ × ℕ). In b (chain (next w) (p .0) (p .1))) e (c .2))))
+              (λ j. ⊎-elim (λ e. inr (in-has-eqb b (attributeBlocks w (slotAt ds (k .0))) (subst (λ (p : ℕ × ℕ). In b (chain (next w) (p .0) (p .1))) e (c .2)))) (λ z. absurd z) j) (k .2);
         },
       )
 
@@ -69,7 +67,7 @@ module _ (s : List ℕ) (A : Given s) where
       (true-or-false (has eqb b cs))
 
   pub holder-apart : (b k : ℕ) → Holds w ds k b → In b ds → ⊥
-  holder-apart b k H = file-not-root n ds (place s A) w cs m (done s A) (omega (arith, place s A .some)) k (H .least) (H .most) (H .file) b (H .block)
+  holder-apart b k H = file-not-root n ds (place s A) w cs m (done s A) (omega (arith, place s A .some)) k (H .least) (H .most) (H .file) b (holds-in w ds k b H)
 
   pub one-holder : (b j k : ℕ) → Holds w ds j b → Holds w ds k b → j ≡ k
   unfolding owned filesTo fileChains fileBlocks attributeBlocks
@@ -92,7 +90,7 @@ module _ (s : List ℕ) (A : Given s) where
       its : (x : ℕ) → Holds w ds x b → In b (blocks x)
       its x H =
           ⊎-elim (λ i. in-left b (fileBlocks w (slotAt ds x)) _ i)
-          (λ i. in-right b (fileBlocks w (slotAt ds x)) _ (in-left b (attributeBlocks w (slotAt ds x)) [] i)) (H .block)
+          (λ i. in-right b (fileBlocks w (slotAt ds x)) _ (in-left b (attributeBlocks w (slotAt ds x)) [] i)) (holds-in w ds x b H)
 
       go : Dec (j ≡ k) → j ≡ k
       go (yes e) = e

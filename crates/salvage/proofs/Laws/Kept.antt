@@ -23,26 +23,13 @@ use Rattle.layout.proofs.Laws.Entries.{same-type, same-field}
 use Rattle.layout.proofs.Laws.Chains.{nth, inVolume-split}
 use Rattle.layout.proofs.Laws.Trees.{in-directory, length-directory, slotAt-is}
 use Rattle.salvage.specs.Salvage.{slotsDone, salvageImage, salvageCodes, endAt, endRight}
+use Rattle.salvage.specs.Claims.{Gone, Outside}
 use Rattle.salvage.proofs.Laws.Places.{Place, slot-low, slot-high, slot-beside}
 use Rattle.salvage.proofs.Laws.Done.{file-claimed, file-not-root, claimed-root}
 use Rattle.salvage.proofs.Laws.Steps.{Whole, Moved}
 use Rattle.salvage.proofs.Laws.Runs.{whole-then, moved-then}
 use Rattle.salvage.proofs.Laws.Final.{Freed, final-slot}
 use Rattle.salvage.proofs.Laws.Result.{Given, whole, place, run, end, done, len, last-slot, claimed-used, root-used}
-
--- A block is freed: its entry was not 0 in the given image s, and is 0 in the result w.
-pub record Gone (s w : List ℕ) (b : ℕ) : Type 0 where
-  pub above : tableBlocks (blockCount s) < b
-  pub below : b < blockCount s
-  pub was : next s b ≢ 0
-  pub is : next w b ≡ 0
-
--- A byte lies outside of the header's counts, the table, the root's slots from 1 on, and the freed blocks.
-pub record Outside (s w : List ℕ) (i : ℕ) : Type 0 where
-  pub counts : (i < 20) ⊎ (28 ≤ i)
-  pub table : (i < 512) ⊎ (512 * rootBlock (blockCount s) ≤ i)
-  pub slots : (k : ℕ) → 1 ≤ k → k < 4 * length (directory s (rootOf s)) → (i < slotAt (directory s (rootOf s)) k) ⊎ (slotAt (directory s (rootOf s)) k + 128 ≤ i)
-  pub freed : Gone s w (i / 512) → ⊥
 
 module _ (s : List ℕ) (A : Given s) where
   abbrev n : ℕ
@@ -66,13 +53,13 @@ module _ (s : List ℕ) (A : Given s) where
   G : Place n ds
   G = place s A
 
-  short : m < 4 * length ds
+  pub short : m < 4 * length ds
   short = omega (arith, G .some)
 
-  fits : (k : ℕ) → k ≤ m → slotAt ds k + 128 ≤ length s
+  pub fits : (k : ℕ) → k ≤ m → slotAt ds k + 128 ≤ length s
   fits k h = omega (arith, slot-high n ds G k (omega (arith, short)), whole s A)
 
-  code-is : (k : ℕ) → k ≤ m → getD (salvageCodes s) k 0 ≡ getD (slotsDone s .codes) k 0
+  pub code-is : (k : ℕ) → k ≤ m → getD (salvageCodes s) k 0 ≡ getD (slotsDone s .codes) k 0
   unfolding salvageCodes
   code-is k h = List·getD-append (slotsDone s .codes) _ 0 k (omega (arith, run s A .count))
 
@@ -85,7 +72,7 @@ module _ (s : List ℕ) (A : Given s) where
       (⊎-elim (λ l. inr (omega arith)) (λ l. inl l) (slot-beside n ds G (4 * length ds - 1) (omega (arith, G .some)) b out))
       (λ c f. ⊎-elim (λ l. inl (omega arith)) (λ l. inr (omega arith)) (lt-or-gt b c (λ q. f .unclaimed (subst (λ (z : ℕ). In z cs) q i)))))
 
-  claimed-block : (b : ℕ) → In b cs → (In b ds → ⊥) → block w b ≡ block s b
+  pub claimed-block : (b : ℕ) → In b cs → (In b ds → ⊥) → block w b ≡ block s b
   claimed-block b i out =
       let v = inVolume-split n b (every-in (inVolume n) cs b (run s A .done .inside) i) in
       same-part s w (512 * b) 512 (512 * b) 512 (claimed-bytes b i out) (omega arith) (omega arith) (omega (arith, v .1, whole s A)) (len s A)

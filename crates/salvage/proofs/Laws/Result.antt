@@ -12,7 +12,7 @@ use Rattle.layout.specs.Limits.{minBlocks, maxBlocks, maxLevels}
 use Rattle.layout.specs.Lists.{every, has}
 use Rattle.layout.specs.Bytes.{be32}
 use Rattle.layout.specs.Geometry.{blockCount, tableBlocks, inVolume}
-use Rattle.layout.specs.Table.{next, chain, chainOk}
+use Rattle.layout.specs.Table.{next, chain, chainOk, allOnes}
 use Rattle.layout.specs.Directory.{slotAt, slots, typeOf, blocksOf, isDirectory, files, directory, rootOf, children, dirs}
 use Rattle.layout.specs.Check.{stage1, stage2, stage3, stage6, directoryOk, chains, allChains, owned, tableOk, check}
 use Rattle.layout.proofs.Laws.Tests.{and-split, and-join, true-or-false, within-split, require-zero, true-not-false}
@@ -245,7 +245,7 @@ module _ (s : List ℕ) (A : Given s) where
       λ z. chain-used (next w) n (q .0 .0) (q .0 .1) c (place .least) (x .0) (x .1) (ap (next w) (sym (x .2)) ∙ z)
 
   table-right : tableOk (next w) n ((r, length ds) ∷ filesTo w ds m) ≡ true
-  unfolding tableOk
+  unfolding tableOk allOnes
   table-right =
       rw all-owned (and-join chains-right (and-join (done .apart)
       (and-join (interval-every (λ b. eqb (next w b) 1) 0 (tableBlocks n + 1) (λ b h g. eq-eqb _ 1 (end .ones b (omega arith))))

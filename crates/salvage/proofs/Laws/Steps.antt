@@ -6,7 +6,7 @@ use mathlib.Core.Logic.{_⊎_, inl, inr, ⊎-elim, _≢_}
 use mathlib.Core.Path.{_≡_, refl, sym, _∙_, subst}
 use native.Mathlib.Omega.{arith}
 use lib.Dec.{eqb}
-use lib.ListN.{length}
+use lib.ListN.{length, getD}
 use borrow.Author.Tests.{eqb-true, eqb-false}
 use Rattle.layout.specs.Lists.{every, distinct, lastOr, iff}
 use Rattle.layout.specs.Bytes.{be32, part, zeros, splice}
@@ -17,7 +17,7 @@ use Rattle.layout.specs.Check.{attributesOk, fileOk, slotOk, newName, fileChain
 use Rattle.volume.specs.Attributes.{setAttributeFields}
 use Rattle.layout.proofs.Laws.Tests.{and-split, and-join, true-not-false}
 use Rattle.layout.proofs.Laws.Lists.{In, in-left, in-right, in-append, every-in, every-append}
-use Rattle.layout.proofs.Laws.Bytes.{length-zeros, getD-zeros, length-splice, splice-first}
+use Rattle.layout.proofs.Laws.Bytes.{length-zeros, getD-zeros, length-splice, getD-splice-inside, splice-first}
 use Rattle.layout.proofs.Laws.Frames.{Same, same-then, same-inner, same-beside, same-be32, same-byte, same-part}
 use Rattle.layout.proofs.Laws.Entries.{same-type, same-field, same-name, same-slot}
 use Rattle.layout.proofs.Laws.Slots.{newName-split, newName-join}
@@ -51,6 +51,16 @@ pub record Ended (t t′ new : List ℕ) (e x : ℕ) : Type 0 where
   pub was : next t x ≢ 1
   pub is : next t′ x ≡ 1
 
+-- code 4: the entry but for its two attribute fields, which are 0, and its own chain
+pub record Cleared (t t′ new : List ℕ) (e : ℕ) : Type 0 where
+  pub file : isFile (typeOf t e) ≡ true
+  pub front : Same t t′ e 32
+  pub back : Same t t′ (e + 40) 88
+  pub first : attributeBlock t′ e ≡ 0
+  pub size : attributeSize t′ e ≡ 0
+  pub blocks : fileBlocks t′ e ≡ fileBlocks t e
+  pub claimed : (x : ℕ) → In x (fileBlocks t e) → In x new
+
 abbrev pub Moved : ℕ → List ℕ → List ℕ → List ℕ → ℕ → Type 0
 Moved code t t′ new e = ((typeOf t e ≢ 0) × (typeOf t′ e ≡ 0)) ⊎ (((attributeSize t e ≢ 0) × (attributeSize t′ e ≡ 0)) ⊎ ((code ≡ 3) × ((x : ℕ) × Ended t t′ new e x)))
 
@@ -64,6 +74,8 @@ pub record Stepped (n : ℕ) (ds : List ℕ) (p q : Progress) (k : ℕ) : Type 0
   pub told : q .codes ≡ p .codes ++ (code ∷ [])
   pub keeps : (code ≡ 0) ⊎ (code ≡ 3) → Whole (p .image) (q .image) (slotAt ds k)
   pub still : code ≡ 0 → q .image ≡ p .image
+  pub zeroed : (code ≡ 1) ⊎ (code ≡ 2) → (i : ℕ) → i < 128 → getD (q .image) (slotAt ds k + i) 0 ≡ 0
+  pub cleared : code ≡ 4 → Cleared (p .image) (q .image) new (slotAt ds k)
   pub moved : code ≢ 0 → Moved code (p .image) (q .image) new (slotAt ds k)
   pub mine : (code ≡ 0) ⊎ (code ≡ 3) → isFile (typeOf (p .image) (slotAt ds k)) ≡ true → (x : ℕ)
       → In x (fileBlocks (p .image) (slotAt ds k)) ⊎ In x (attributeBlocks (p .image) (slotAt ds k)) → In x new
@@ -166,6 +178,8 @@ module _ (n : ℕ) (ds : List ℕ) (G : Place n ds) (p : Progress) (m : ℕ) (D 
         keeps = λ c. record { bytes = λ i l. refl; blocks = λ f. refl; second = λ f. refl };
         mine = λ c f x i. absurd (true-not-false {a = isFile (typeOf t at)} f (rw z));
         still = λ c. refl;
+        zeroed = λ c i l. absurd (⊎-elim (λ z. omega arith) (λ z. omega arith) c);
+        cleared = λ c. absurd (omega arith);
         moved = λ ne. absurd (ne refl);
       }
 
@@ -183,9 +197,9 @@ module _ (n : ℕ) (ds : List ℕ) (G : Place n ds) (p : Progress) (m : ℕ) (D 
   zero-type : typeOf (splice t at (zeros 128)) at ≡ 0
   zero-type = splice-first t at (zeros 128) zero-fits (omega (arith, length-zeros 128)) ∙ getD-zeros 128 0
 
-  zero-stepped : typeOf t at ≢ 0 → (code : ℕ) → code ≢ 0 → code ≢ 3 → Stepped n ds p (zeroEntry p at code) (suc m)
+  zero-stepped : typeOf t at ≢ 0 → (code : ℕ) → code ≢ 0 → code ≢ 3 → code ≢ 4 → Stepped n ds p (zeroEntry p at code) (suc m)
   unfolding zeroEntry
-  zero-stepped used code c₀ c₃ =
+  zero-stepped used code c₀ c₃ c₄ =
       let t′ : List ℕ = splice t at (zeros 128) in
       record {
         new = [];
@@ -198,6 +212,8 @@ module _ (n : ℕ) (ds : List ℕ) (G : Place n ds) (p : Progress) (m : ℕ) (D 
         keeps = λ c. absurd (⊎-elim c₀ c₃ c);
         mine = λ c f x i. absurd (⊎-elim c₀ c₃ c);
         still = λ c. absurd (c₀ c);
+        zeroed = λ c i l. getD-splice-inside t at (zeros 128) zero-fits i (omega (arith, length-zeros 128)) ∙ getD-zeros 128 i;
+        cleared = λ c. absurd (c₄ c);
         moved = λ ne. inl (used, zero-type);
       }
 
@@ -346,6 +362,10 @@ module _ (n : ℕ) (ds : List ℕ) (G : Place n ds) (p : Progress) (m : ℕ) (D 
             is = ended-last n t₁ xs whole₁ (X .inside) (h .0);
           }
 
+      either : (b : Bool) → (cond {A = ℕ} b 0 3 ≡ 1) ⊎ ((cond {A = ℕ} b 0 3 ≡ 2) ⊎ (cond {A = ℕ} b 0 3 ≡ 4)) → ⊥
+      either true c = ⊎-elim (λ z. omega arith) (λ d. ⊎-elim (λ z. omega arith) (λ z. omega arith) d) c
+      either false c = ⊎-elim (λ z. omega arith) (λ d. ⊎-elim (λ z. omega arith) (λ z. omega arith) d) c
+
       both-moved : both ≡ false → Moved (cond {A = ℕ} both 0 3) t t₂ (bs ++ xs) at
       both-moved e = inr (inr (rw e, ⊎-elim (λ y. (lastOr 0 bs, ended-first y)) (λ y. (lastOr 0 xs, ended-second y)) (and-false (ends t bs) (ends t₁ xs) e)))
 
@@ -361,6 +381,8 @@ module _ (n : ℕ) (ds : List ℕ) (G : Place n ds) (p : Progress) (m : ℕ) (D 
             told = refl;
             keeps = λ c. both-whole;
             still = λ c. both-still (zero-both both c);
+            zeroed = λ c i l. absurd (either both (⊎-elim (λ z. inl z) (λ z. inr (inl z)) c));
+            cleared = λ c. absurd (either both (inr (inr c)));
             moved = λ ne. both-moved (some-both both ne);
             mine = λ c f x i. ⊎-elim (λ b. in-left x bs xs b) (λ b. in-right x bs xs (subst (In x) (sym old) b)) i;
           }
@@ -446,6 +468,22 @@ module _ (n : ℕ) (ds : List ℕ) (G : Place n ds) (p : Progress) (m : ℕ) (D 
         let q : attributeSize t₁ at ≡ 0 = same-field t t₁ at len₁ high₁ same₁ 36 (omega arith) ∙ z in
         true-not-false {a = claimable n (cs ++ bs) xs} (rw q) e
 
+    back₄ : Same t t₃ (at + 40) 88
+    back₄ = same-then t t₁ t₃ (at + 40) 88 (same-inner t t₁ at 128 (at + 40) 88 same₁ (omega arith) (omega arith)) (fields-same t₁ at 0 0 fits₁ (at + 40) 88 (inr (omega arith)))
+
+    first-cleared : Cleared t t₃ bs at
+    unfolding fileBlocks
+    first-cleared =
+        record {
+          file = file;
+          front = front₃;
+          back = back₄;
+          first = fields-first t₁ at 0 0 fits₁ (omega arith);
+          size = size₃;
+          blocks = rw (field₃ 4 (omega arith), field₃ 12 (omega arith)) (chain₃ .0);
+          claimed = λ x i. i;
+        }
+
     first-stepped : claimable n (cs ++ bs) xs ≡ false → Stepped n ds p (record { image = t₃; claimed = cs ++ bs; codes = p .codes ++ (4 ∷ []) }) (suc m)
     first-stepped bad =
         record {
@@ -459,6 +497,8 @@ module _ (n : ℕ) (ds : List ℕ) (G : Place n ds) (p : Progress) (m : ℕ) (D 
           keeps = λ c. absurd (⊎-elim (λ z. four z) (λ z. four₃ z) c);
           mine = λ c f x i. absurd (⊎-elim (λ z. four z) (λ z. four₃ z) c);
           still = λ c. absurd (four c);
+          zeroed = λ c i l. absurd (⊎-elim (λ z. omega arith) (λ z. omega arith) c);
+          cleared = λ c. first-cleared;
           moved = λ ne. inr (inl (first-some bad, size₃));
         }
       where
@@ -485,8 +525,8 @@ module _ (n : ℕ) (ds : List ℕ) (G : Place n ds) (p : Progress) (m : ℕ) (D 
       (λ c. let w = and-split (slotOk t at) (newName t ds (suc m)) c in
       by-cond (λ q. Stepped n ds p q (suc m)) (claimable (blockCount t) cs (fileBlocks t at)) (takeFile p at) (zeroEntry p at 2)
       (λ d. file-stepped (is-file nd (eqb-false _ _ used) (w .0)) nd (w .0) (w .1) (claimable-split n cs (fileBlocks t at) (rw bn at d)))
-      (λ d. zero-stepped (eqb-false _ _ used) 2 two₀ two₃))
-      (λ c. zero-stepped (eqb-false _ _ used) 1 one₀ one₃))
+      (λ d. zero-stepped (eqb-false _ _ used) 2 two₀ two₃ two₄))
+      (λ c. zero-stepped (eqb-false _ _ used) 1 one₀ one₃ one₄))
     where
       is-file : isDirectory (typeOf t at) ≡ false → typeOf t at ≢ 0 → slotOk t at ≡ true → isFile (typeOf t at) ≡ true
       is-file nd u ok = ⊎-elim (λ z. absurd (u z)) (λ r. ⊎-elim (λ f. f .0) (λ f. absurd (true-not-false (f .0) nd)) r) (slotOk-split t at ok)
@@ -497,8 +537,14 @@ module _ (n : ℕ) (ds : List ℕ) (G : Place n ds) (p : Progress) (m : ℕ) (D 
       one₃ : _≢_ {A = ℕ} 1 3
       one₃ z = omega arith
 
+      one₄ : _≢_ {A = ℕ} 1 4
+      one₄ z = omega arith
+
       two₀ : _≢_ {A = ℕ} 2 0
       two₀ z = omega arith
 
       two₃ : _≢_ {A = ℕ} 2 3
       two₃ z = omega arith
+
+      two₄ : _≢_ {A = ℕ} 2 4
+      two₄ z = omega arith

@@ -5,7 +5,7 @@ use mathlib.Core.List.{List, [], _∷_}
 use mathlib.Core.Path.{_≡_, sym, ap, _∙_}
 use native.Mathlib.Omega.{arith}
 use lib.Dec.{eqb}
-use lib.ListN.{length, getD, set}
+use lib.ListN.{length, getD}
 use borrow.Author.Tests.{eq-eqb, ne-eqb, lt-ltb, ltb-true}
 use Rattle.layout.specs.Lists.{interval, has}
 use Rattle.layout.specs.Bytes.{be32, zeros, splice}
@@ -19,7 +19,6 @@ use Rattle.layout.specs.Walks.Slots.{entryAt}
 use Rattle.volume.specs.Entries.{setOccupied}
 use Rattle.layout.proofs.Laws.Tests.{is-false}
 use Rattle.layout.proofs.Laws.Lists.{in-has-eqb, false-has}
-use Rattle.layout.proofs.Laws.Bytes.{sets-splice}
 use Rattle.layout.proofs.Walks.Shapes.{shape-blockCount}
 use Rattle.salvage.specs.Salvage.{endAt, endRight, endPut, oneAt, freeAt, inTurn, tablePut, countsPut}
 use Rattle.salvage.specs.Walks.{MarksOf, EntryFreed, EntriesFreed, TablePut}
@@ -44,8 +43,8 @@ module _ (s ds : List ℕ) (d b : ℕ) (size : length ds ≡ d) (some : 1 ≤ d)
     unfolding endRight
     end-wrong z = rw end-is (ne-eqb _ 255 (λ e. z (et ∙ e)))
 
-    pub end-stored : (type ≡ 255 → ⊥) → 512 * b + 512 ≤ length s → set s (512 * b + 384) 255 ≡ endPut s ds
-    end-stored z h = sets-splice s (512 * b + 384) (255 ∷ []) (omega arith) ∙ ap (λ (x : ℕ). splice s x (255 ∷ [])) (sym end-is) ∙ sym (end-set s ds (end-wrong z))
+    pub end-stored : (type ≡ 255 → ⊥) → splice s (512 * b + 384) (255 ∷ []) ≡ endPut s ds
+    end-stored z = ap (λ (x : ℕ). splice s x (255 ∷ [])) (sym end-is) ∙ sym (end-set s ds (end-wrong z))
 
     pub end-kept : type ≡ 255 → s ≡ endPut s ds
     end-kept z = sym (end-left s ds (end-right z))

@@ -13,8 +13,8 @@ use Rattle.layout.specs.Table.{next}
 use Rattle.layout.proofs.Laws.Tests.{lt-or-ge, true-or-false}
 use Rattle.layout.proofs.Laws.Lists.{interval-from, select-same}
 use Rattle.volume.specs.Entries.{taken}
-use Rattle.volume.specs.Search.{firstFrom, lowestFree, Noted, Exact, notedFull, searched}
-use Rattle.volume.specs.Walks.Searches.{First, Renoted, Takeable}
+use Rattle.volume.specs.Search.{firstFrom, lowestFree, Full, Noted, Exact, Renoted, Takeable, notedFull, searched}
+use Rattle.volume.specs.Walks.Searches.{First}
 use Rattle.volume.proofs.Laws.Table.{taken-zeros}
 
 -- the lowest number from a on that passes
@@ -139,6 +139,16 @@ search-any-full notes v w a n same =
     go b true f = refl
     go b false f = ap (λ (x : ℕ). eqb x 0) (f refl)
 
+-- without notes: on two tables that agree outside table blocks that are full in both, the lowest free block is the same
+pub lowest-any-full : (v w : ℕ → ℕ) (a n : ℕ) → ((b : ℕ) → b < n → (w b ≡ v b) ⊎ (Full v n (b / 128) × Full w n (b / 128))) → lowestFree w a n ≡ lowestFree v a n
+unfolding lowestFree
+lowest-any-full v w a n same =
+    ap (λ (xs : List ℕ). getD xs 0 n) (select-same (λ b. eqb (v b) 0) (λ b. eqb (w b) 0) (n - a) a (λ b l u. go b (omega arith) (same b (omega arith))))
+  where
+    go : (b : ℕ) → b < n → (w b ≡ v b) ⊎ (Full v n (b / 128) × Full w n (b / 128)) → eqb (w b) 0 ≡ eqb (v b) 0
+    go b h (inl e) = ap (λ (x : ℕ). eqb x 0) e
+    go b h (inr f) = ne-eqb (w b) 0 (f .1 b refl h) ∙ sym (ne-eqb (v b) 0 (f .0 b refl h))
+
 -- note i was made anew, and in no other table block did an entry come to be 0 or cease to be
 pub noted-anew : (v w : ℕ → ℕ) (n i : ℕ) (notes notes′ : List ℕ) → Exact v n notes → ((b : ℕ) → b < n → b / 128 ≢ i → eqb (w b) 0 ≡ eqb (v b) 0)
     → Renoted w n i notes notes′ → Exact w n notes′
@@ -166,5 +176,5 @@ pub notes-kept : (s : List ℕ) (n last b : ℕ) (notes notes′ : List ℕ) →
 notes-kept s n last b notes notes′ t exact new =
     noted-anew (next s) (next (taken s n last b)) n (b / 128) notes notes′ exact
     (λ x h ne.
-    taken-zeros n (t .shape .low) s last b (t .shape .whole) (t .inside) (t .below) (t .above) (t .free) (t .used) (t .shape .high) x h (λ e. ne (ap (λ (y : ℕ). y / 128) e)))
+    taken-zeros n (t .low) s last b (t .whole) (t .inside) (t .below) (t .above) (t .free) (t .used) (t .high) x h (λ e. ne (ap (λ (y : ℕ). y / 128) e)))
     new

@@ -17,8 +17,7 @@ use Rattle.layout.specs.Walks.Chains.{entryIn, countUsed}
 use Rattle.layout.proofs.Laws.Tests.{lt-or-ge}
 use Rattle.layout.proofs.Laws.Bytes.{getD-zeros}
 use Rattle.layout.proofs.Walks.Chains.{entry-in-block, countUsed-all, countUsed-some}
-use Rattle.volume.specs.Search.{Noted, Exact, notedFull, searched}
-use Rattle.volume.specs.Walks.Searches.{Renoted}
+use Rattle.volume.specs.Search.{Noted, Exact, Renoted, notedFull, searched}
 use Rattle.volume.proofs.Laws.Notes.{first-is}
 
 -- the note of k entries, by the count of those in use

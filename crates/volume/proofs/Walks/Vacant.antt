@@ -13,8 +13,9 @@ use Rattle.layout.specs.Lists.{has}
 use Rattle.layout.specs.Table.{next, chain}
 use Rattle.layout.specs.Walks.Chains.{countUsed}
 use Rattle.layout.specs.Walks.Shapes.{ChainBelow}
+use Rattle.volume.specs.Search.{lowestFree}
 use Rattle.volume.specs.Walks.Searches.{without, freeFrom, First, FirstFree}
-use Rattle.volume.proofs.Laws.Notes.{first-either, first-same}
+use Rattle.volume.proofs.Laws.Notes.{first-is, first-of, first-either, first-same}
 use Rattle.volume.proofs.Walks.Grow.{first-free}
 use Rattle.layout.proofs.Laws.Tests.{lt-or-ge}
 use Rattle.layout.proofs.Laws.Chains.{chain-suc, chain-none}
@@ -111,10 +112,19 @@ module _ {v : ℕ → ℕ} {a b : ℕ} (w : InUse v a b) where
   pub free-nowhere : (n : ℕ) → n ≤ b → First (λ x. eqb (v x) 0) a n n
   free-nowhere n h = record { high = omega arith; before = λ c l u. ne-eqb (v c) 0 (w .used c l (omega arith)); met = λ k. absurd (omega arith) }
 
+-- the first is the lowest
+pub free-lowest : (v : ℕ → ℕ) (a n r : ℕ) → First (λ x. eqb (v x) 0) a n r → r ≡ lowestFree v a n
+unfolding lowestFree
+free-lowest v a n r f = first-is (λ x. eqb (v x) 0) n a r f
+
+lowest-free : (v : ℕ → ℕ) (a n r : ℕ) → r ≡ lowestFree v a n → First (λ x. eqb (v x) 0) a n r
+unfolding lowestFree
+lowest-free v a n r e = subst (λ (x : ℕ). First (λ y. eqb (v y) 0) a n x) (sym e) (first-of (λ x. eqb (v x) 0) n a)
+
 -- the lower one of a free block and a block of the chain
 pub vacant-first : (v : ℕ → ℕ) (bs : List ℕ) (a n b c : ℕ) → a ≤ n → 0 < length (freeFrom (without v bs) a (n - a))
-    → First (λ x. eqb (v x) 0) a n b → First (λ x. has eqb x bs) a n c → FirstFree (without v bs) a (n - a) (min b c)
-vacant-first v bs a n b c h some f g =
+    → b ≡ lowestFree v a n → First (λ x. has eqb x bs) a n c → FirstFree (without v bs) a (n - a) (min b c)
+vacant-first v bs a n b c h some e g =
     first-free (without v bs) a n (min b c) h some
     (first-same (λ x. eqb (v x) 0 || has eqb x bs) (λ x. eqb (without v bs x) 0) a n (min b c) (λ x l. vacant-test v bs x)
-    (first-either (λ x. eqb (v x) 0) (λ x. has eqb x bs) a n b c f g))
+    (first-either (λ x. eqb (v x) 0) (λ x. has eqb x bs) a n b c (lowest-free v a n b e) g))

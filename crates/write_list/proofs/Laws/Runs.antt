@@ -1,17 +1,20 @@
 -- A list is a run of the writes that it does, and with that the theorem over runs with lists.
 use Prim.Native.Nat.{ℕ, zero, suc, _+_, _-_}
 use mathlib.Core.List.{List, [], _∷_, map}
-use mathlib.Core.Path.{_≡_, refl, ap, _∙_}
+use mathlib.Core.Path.{_≡_, refl, sym, ap, _∙_}
 use native.Mathlib.Omega.{arith}
 use native.Mathlib.Numerals.{add-one}
-use lib.ListN.{take}
+use lib.ListN.{length, take}
 use Rattle.layout.specs.Refusals.{accept}
 use Rattle.store.specs.Change.{Change}
 use Rattle.journal.specs.Run.{change, State, step, run, changeRefusal, afterChange}
+use Rattle.journal.specs.Replay.{replayed, standing}
 use Rattle.journal.specs.Kinds.{StandsFor}
+use Rattle.journal.specs.Back.{TellsRight}
+use Rattle.journal.proofs.Laws.Back.{one-stands}
 use Rattle.journal.proofs.Theorems.{every-free-run}
 use Rattle.write_list.specs.List.{writes, listed, oneByOne, listRefusal, writeList}
-use Rattle.write_list.specs.Runs.{lists, ListRunTheorem}
+use Rattle.write_list.specs.Runs.{lists, ListRunTheorem, listTell}
 
 -- the count goes up from where it begins
 counts : (cs : List Change) (p : State) (k : ℕ) → oneByOne p k cs ≡ listed (oneByOne p 0 cs .state) (oneByOne p 0 cs .number) (oneByOne p 0 cs .done + k)
@@ -54,3 +57,37 @@ lists-stand p m l f = list-run p l
 
 pub every-list-run : ListRunTheorem
 every-list-run = every-free-run lists lists-stand (λ p l. tt)
+
+-- THE COUNT: as many changes stand more as were done
+step-stand : (cs : List Change) (start : State) (changes : List Change) (c : Change) (d : ℕ) → changeRefusal (replayed start changes) c ≡ 0
+    → length (c ∷ changes) + d ≡ length (standing start (c ∷ changes) (map change (take d cs)))
+    → length changes + suc d ≡ length (standing start changes (map change (take (suc d) (c ∷ cs))))
+unfolding standing
+step-stand cs start changes c d e h =
+    let a : length changes + suc d ≡ length (c ∷ changes) + d = omega arith in
+    a ∙ h ∙ ap (λ (l : List Change). length (standing start l (map change (take d cs)))) (sym (one-stands start changes c e))
+
+done-stand : (cs : List Change) (start : State) (changes : List Change)
+    → length changes + oneByOne (replayed start changes) 0 cs .done ≡ length (standing start changes (map change (take (oneByOne (replayed start changes) 0 cs .done) cs)))
+unfolding oneByOne standing replayed
+done-stand [] start changes = omega arith
+done-stand (c ∷ cs) start changes = go (changeRefusal (replayed start changes) c) refl (done-stand cs start (c ∷ changes))
+  where
+    go : (r : ℕ) → changeRefusal (replayed start changes) c ≡ r
+        → length (c ∷ changes) + oneByOne (afterChange (replayed start changes) c) 0 cs .done
+        ≡ length (standing start (c ∷ changes) (map change (take (oneByOne (afterChange (replayed start changes) c) 0 cs .done) cs)))
+        → length changes + accept r (oneByOne (afterChange (replayed start changes) c) 1 cs) (listed (replayed start changes) r 0) .done
+        ≡ length (standing start changes (map change (take (accept r (oneByOne (afterChange (replayed start changes) c) 1 cs) (listed (replayed start changes) r 0) .done) (c ∷ cs))))
+    go zero e h =
+        rw (counts cs (afterChange (replayed start changes) c) 1, add-one (oneByOne (afterChange (replayed start changes) c) 0 cs .done))
+        (step-stand cs start changes c (oneByOne (afterChange (replayed start changes) c) 0 cs .done) e h)
+    go (suc r) e h = omega arith
+
+pub lists-told : TellsRight lists listTell
+unfolding writeList standing
+lists-told start changes l = go (listRefusal (replayed start changes) l)
+  where
+    go : (r : ℕ) → length changes + accept r (oneByOne (replayed start changes) 0 (writes l)) (listed (replayed start changes) r 0) .done
+        ≡ length (standing start changes (map change (take (accept r (oneByOne (replayed start changes) 0 (writes l)) (listed (replayed start changes) r 0) .done) (writes l))))
+    go zero = done-stand (writes l) start changes
+    go (suc r) = omega arith

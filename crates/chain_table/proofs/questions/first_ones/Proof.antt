@@ -4,7 +4,7 @@ use native.Mathlib.Omega.{arith}
 use lib.ListN.{length}
 use borrow.Author.Needs.{needs}
 use Rattle.layout.specs.Geometry.{tableBlocks}
-use Rattle.layout.specs.Walks.Chains.{allOnes}
+use Rattle.layout.specs.Table.{allOnes}
 use Rattle.layout.proofs.Walks.Chains.{allOnes-end, allOnes-next, allOnes-stop}
 use Rattle.chain_table.specs.Numbers.{valueIn}
 use Rattle.chain_table.proofs.questions.first_ones.Statement.{statement}

@@ -6,7 +6,7 @@ use lib.ListN.{length}
 use borrow.Author.Needs.{needs}
 use borrow.Author.Tests.{not-true, not-false}
 use Rattle.layout.specs.Geometry.{tableBlocks}
-use Rattle.layout.specs.Walks.Chains.{restFree}
+use Rattle.layout.specs.Table.{restFree}
 use Rattle.chain_table.specs.Numbers.{valueIn}
 use Rattle.chain_table.proofs.Laws.Turns.{rest-next, rest-stop, rest-end}
 use Rattle.chain_table.proofs.questions.rest_free.Statement.{statement}

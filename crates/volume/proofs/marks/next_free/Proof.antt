@@ -3,7 +3,7 @@ use mathlib.Core.Path.{_∙_}
 use native.Mathlib.Omega.{arith}
 use Rattle.layout.specs.Table.{next}
 use Rattle.layout.proofs.Walks.Chains.{used-in-block}
-use Rattle.volume.proofs.Walks.Vacant.{InUse, in-use-none, in-use-run, free-behind, free-nowhere}
+use Rattle.volume.proofs.Walks.Vacant.{InUse, in-use-none, in-use-run, free-behind, free-nowhere, free-lowest}
 use Rattle.volume.proofs.marks.next_free.Statement.{statement}
 use Rattle.volume.proofs.marks.next_free.Tie as tie
 
@@ -41,7 +41,7 @@ scan-free-requires : tie.Need-scan-free-requires Inv-loop μ-loop
 scan-free-requires c κs = c .before .before .before .before .before .before .before .pre
 
 returns : tie.Need-returns Inv-loop μ-loop
-returns c = free-behind (c .before .before .before .before .before .before .loop .inv) _ _ (c .scan-free .ensures)
+returns c = free-lowest _ _ _ _ (free-behind (c .before .before .before .before .before .before .loop .inv) _ _ (c .scan-free .ensures))
 
 add-b : tie.Need-add-b Inv-loop μ-loop
 add-b c = omega (arith, c .before .before .before .before .before .before .before .pre)
@@ -57,7 +57,7 @@ loop-again c =
     in-use-run (l .inv) k _ (c .before .used-in .ensures .0 ∙ used-in-block s _ (l .b) k (c .before .before .block .ensures .0) (omega (arith, c .before .before .before .least .ensures))) (c .if1 .left)
 
 returns-2 : tie.Need-returns-2 Inv-loop μ-loop
-returns-2 c = free-nowhere (c .before .loop .inv) _ (omega arith)
+returns-2 c = free-lowest _ _ _ _ (free-nowhere (c .before .loop .inv) _ (omega arith))
 
 pub next-free-spec : {M : Type 1} → statement M
 next-free-spec =

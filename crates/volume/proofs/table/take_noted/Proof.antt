@@ -7,7 +7,7 @@ use Rattle.volume.proofs.table.take_noted.Tie as tie
 take-block-requires : tie.Need-take-block-requires
 take-block-requires c κs =
     let t = c .before .before .before .pre .0 in
-    (t .shape, t .inside, t .below, t .counted)
+    (record { whole = t .whole; low = t .low; high = t .high }, t .inside, t .below, t .counted)
 
 renote-requires : tie.Need-renote-requires
 renote-requires c κs =
