@@ -8,7 +8,7 @@ use Rattle.layout.specs.Bytes.{block}
 use Rattle.layout.specs.Limits.{minJournal, maxJournal}
 use Rattle.journal.specs.Journal.{started}
 use Rattle.journal.specs.Run.{State, state}
-use Rattle.journal.specs.Kinds.{Kind, KindCall, stepOf, runOf, FitsRun, AllFit, oneOf}
+use Rattle.journal.specs.Kinds.{Kind, KindCall, stepOf, runOf, FitsRun, AllFit, standingOf, oneOf}
 use Rattle.back.specs.UndoTo.{backed, undoTo as undoToMark}
 use Rattle.volume_file.specs.Format.{imageOf, journalOf, homeOf}
 use Rattle.volume_file.specs.Save.{homeWith, prepareRefusal, committed, recovered}
@@ -129,9 +129,10 @@ module _ (again : EveryStartTheorem) (begun : List ℕ) (b : Begun begun) where
 
   reach-back : (q : State) → Reach (pairOf begun) q → BackToBegin begun q
   reach-back q r =
+      let k : ℕ = length (standingOf fresh [] (r .made)) in
       let f : AllFit fresh (r .made) = subst (λ (s : State). AllFit s (r .made)) is-fresh (r .fit) in
-      let e : undoToMark (runOf fresh (r .made)) 5 ≡ backed fresh 0 _ = again (imageOf begun) (length (journalOf begun)) (r .made) (b .sound) (sized .0) (sized .1) f in
-      (_, ap (λ (s : State). undoToMark s 5) (r .is ∙ ap (λ (s : State). runOf s (r .made)) is-fresh) ∙ e ∙ ap (λ (s : State). backed s 0 _) (sym is-fresh))
+      let e : undoToMark (runOf fresh (r .made)) 5 ≡ backed fresh 0 k = again (imageOf begun) (length (journalOf begun)) (r .made) (b .sound) (sized .0) (sized .1) f in
+      (k, ap (λ (s : State). undoToMark s 5) (r .is ∙ ap (λ (s : State). runOf s (r .made)) is-fresh) ∙ e ∙ ap (λ (s : State). backed s 0 k) (sym is-fresh))
 
   pub life-kept : (p : State) (file : List ℕ) (saved : List State) → Life begun p file saved → Kept begun p file saved
   life-kept p file saved l =
