@@ -177,11 +177,12 @@ fn commit_refusal(file: &[u8]) -> u32
         return number;
     }
     let h = home_sectors(file);
-    let wrong = super::check::log_refusal(file, h, super::check::log_count(file, h));
+    let k = super::check::log_count(file, h);
+    let wrong = super::check::log_refusal(file, h, k);
     if wrong != 0 {
         return wrong;
     }
-    if log_waits(file) {
+    if super::check::log_waits(file) {
         return refusals::LOG_WAITS;
     }
     0
