@@ -38,7 +38,8 @@
  *     both in one file, write a new one, fsync it, rename it over the old one
  *     and fsync the directory.  An image that was half written is refused
  *     (1 to 7), and then undo is refused too.  bulgefs_salvage keeps what is
- *     whole of it, if its root holds no directory.
+ *     whole of it, if its root holds no directory.  The volume file, at the end
+ *     of this header, saves both whole or not at all.
  *   - A file's bytes have no checksum.  The check finds damage to the header,
  *     the table and the form of directories; a flipped bit in a file's bytes,
  *     a time or a user is not found.
@@ -872,9 +873,10 @@ uint32_t bulgefs_salvage(uint8_t *image, size_t image_len,
  * To save, do these steps in this order.  After each the program waits until the
  * bytes written have reached the disk (fdatasync, FlushFileBuffers).
  *
- *   1. bulgefs_file_prepare.  If sectors is 0, nothing changed, and the save is
- *      done.  Write the numbers_length bytes at numbers_start and the
- *      sectors_length bytes at sectors_start.  Flush.
+ *   1. bulgefs_file_prepare.  If sectors is 0, the file on the disk holds these
+ *      parts already: nothing has to be written, and the save is done.  Else
+ *      write the numbers_length bytes at numbers_start and the sectors_length
+ *      bytes at sectors_start.  Flush.
  *   2. bulgefs_file_commit.  Write the BULGEFS_FILE_COMMIT_LENGTH bytes at
  *      BULGEFS_FILE_COMMIT.  Flush.  From here on the new state is saved.
  *   3. bulgefs_file_recover.  For every index below its sectors write the bytes
@@ -930,32 +932,18 @@ BULGEFS_INLINE const char *bulgefs_file_text(uint32_t number)
 
 /* Where the parts of a file stand, and whether its log waits (1) or not (0). */
 typedef struct {
-    uint32_t number;
-    uint32_t waits;
-    uint32_t image_start;
-    uint32_t image_length;
-    uint32_t journal_start;
-    uint32_t journal_length;
-    uint32_t own_start;
-    uint32_t own_length;
-} bulgefs_file_parts_answer;
+    uint32_t number, waits;
+    uint32_t image_start, image_length, journal_start, journal_length, own_start, own_length;
+} bulgefs_file_places;
 
 /* How many sectors are in the log, and the two places that step 1 writes. */
 typedef struct {
-    uint32_t number;
-    uint32_t sectors;
-    uint32_t numbers_start;
-    uint32_t numbers_length;
-    uint32_t sectors_start;
-    uint32_t sectors_length;
+    uint32_t number, sectors;
+    uint32_t numbers_start, numbers_length, sectors_start, sectors_length;
 } bulgefs_file_prepared;
 
 /* Whether the log waited (1) or not (0), and how many of its sectors step 3 writes. */
-typedef struct {
-    uint32_t number;
-    uint32_t waited;
-    uint32_t sectors;
-} bulgefs_file_recovered;
+typedef struct { uint32_t number, waited, sectors; } bulgefs_file_recovered;
 
 /*
  * The bytes of a file for n sectors of an image (3 to 65,536), m of a journal (1
@@ -976,8 +964,10 @@ BULGEFS_CHECKED
 uint32_t bulgefs_file_begin(uint8_t *file, size_t file_len, uint32_t image_sectors,
                             uint32_t journal_sectors, uint32_t own_sectors);
 
-/* Whether the bytes are a volume file.  Image and journal are not looked into.
- * Refusals: 1 to 5. */
+/*
+ * Whether the bytes are a volume file.  Image and journal are not looked into.
+ * Refusals: 1 to 5.
+ */
 BULGEFS_CHECKED
 uint32_t bulgefs_file_check(const uint8_t *file, size_t file_len);
 
@@ -987,7 +977,7 @@ uint32_t bulgefs_file_check(const uint8_t *file, size_t file_len);
  * Refusals: 1 to 5.
  */
 BULGEFS_CHECKED
-bulgefs_file_parts_answer bulgefs_file_parts(const uint8_t *file, size_t file_len);
+bulgefs_file_places bulgefs_file_parts(const uint8_t *file, size_t file_len);
 
 /*
  * Step 1 of a save: compares the parts with what stands in the file, and writes
