@@ -39,7 +39,8 @@
  *     and fsync the directory.  Do not use a pair that was half written: most
  *     such images are refused (1 to 7), and then undo is refused too, but some
  *     look sound.  bulgefs_salvage keeps what is whole, if the root holds no
- *     directory.
+ *     directory.  The volume file, at the end of this header, saves both whole
+ *     or not at all.
  *   - A file's bytes have no checksum.  The check finds damage to the header,
  *     the table and the form of directories; a flipped bit in a file's bytes,
  *     a time or a user is not found.
@@ -869,6 +870,173 @@ uint32_t bulgefs_store_table(uint8_t *image, size_t image_len,
 BULGEFS_CHECKED
 uint32_t bulgefs_salvage(uint8_t *image, size_t image_len,
                          uint8_t *report, size_t report_len);
+
+/*
+ * The volume file: image, journal and some sectors of the program's own in one
+ * file or partition, saved whole or not at all.  docs/VOLUME-FILE.md has the
+ * layout and what is proved: whenever power fails, and whatever the sectors then
+ * hold that were being written, recovery gives what was saved before or what was
+ * being saved, whole.
+ *
+ * The calls work on memory: the bytes of the whole file, which the program reads
+ * at the start and keeps.  Each call says which of them the program has to write
+ * out, so that no program need know the layout.  Sizes are in sectors of 512
+ * bytes: n for the image, m for the journal (so its length is 512 * m bytes) and
+ * x, which may be 0, for whatever the program wants to save with them.
+ *
+ * To make a file: lend bulgefs_file_size(n, m, x) bytes that hold image, journal
+ * and the program's bytes from byte BULGEFS_FILE_HOME on to bulgefs_file_begin;
+ * write all of them, and flush.
+ *
+ * To open one: read it all and call bulgefs_file_recover.  If waited is 1, do
+ * steps 3 and 4 below.  Then bulgefs_file_parts says where the parts stand.
+ * Copy image and journal out, and work on the copies.
+ *
+ * To save, do these steps in this order.  After each the program waits until the
+ * bytes written have reached the disk (fdatasync, FlushFileBuffers).
+ *
+ *   1. bulgefs_file_prepare.  If sectors is 0, the file on the disk holds these
+ *      parts already: nothing has to be written, and the save is done.  Else
+ *      write the numbers_length bytes at numbers_start and the sectors_length
+ *      bytes at sectors_start.  Flush.
+ *   2. bulgefs_file_commit.  Write the BULGEFS_FILE_COMMIT_LENGTH bytes at
+ *      BULGEFS_FILE_COMMIT.  Flush.  From here on the new state is saved.
+ *   3. bulgefs_file_recover.  For every index below its sectors write the bytes
+ *      that bulgefs_file_home says.  Flush.
+ *   4. Write the BULGEFS_FILE_COMMIT_LENGTH bytes at BULGEFS_FILE_COMMIT.  Flush.
+ *
+ * If a write or a flush fails, memory and file differ: close the file, open it
+ * again, and go on with what it holds.  At most one program may have it open.
+ *
+ * The refusals of these calls are numbers of their own, in this order; no byte
+ * changes then, and all other fields of the answer are 0.
+ */
+enum bulgefs_file_number {
+    BULGEFS_FILE_OK             = 0,
+    BULGEFS_FILE_TOO_SHORT      = 1, /* shorter than header and commit sector            */
+    BULGEFS_FILE_BAD_HEADER     = 2, /* no header of this version; begin: n, m or x      */
+    BULGEFS_FILE_BAD_LENGTH     = 3, /* length is not the one of n, m and x              */
+    BULGEFS_FILE_BAD_COUNT      = 4, /* the log counts more sectors than n + m + x       */
+    BULGEFS_FILE_BAD_ADDRESS    = 5, /* an address in the log is wrong                   */
+    BULGEFS_FILE_WAITS          = 6, /* prepare, commit: the log waits; recover first    */
+    BULGEFS_FILE_IMAGE_LENGTH   = 7, /* prepare: image_len is not 512 * n                */
+    BULGEFS_FILE_JOURNAL_LENGTH = 8, /* prepare: journal_len is not 512 * m              */
+    BULGEFS_FILE_OWN_LENGTH     = 9  /* prepare: own_len is not 512 * x                  */
+};
+
+/* Words for such a number. */
+BULGEFS_INLINE const char *bulgefs_file_text(uint32_t number)
+{
+    switch (number) {
+    case BULGEFS_FILE_OK:             return "accepted";
+    case BULGEFS_FILE_TOO_SHORT:      return "volume file is too short";
+    case BULGEFS_FILE_BAD_HEADER:     return "volume file has no header, or bad sizes";
+    case BULGEFS_FILE_BAD_LENGTH:     return "volume file has a bad length";
+    case BULGEFS_FILE_BAD_COUNT:      return "log of the volume file has a bad count";
+    case BULGEFS_FILE_BAD_ADDRESS:    return "log of the volume file has a bad address";
+    case BULGEFS_FILE_WAITS:          return "volume file must be recovered first";
+    case BULGEFS_FILE_IMAGE_LENGTH:   return "image does not fit the volume file";
+    case BULGEFS_FILE_JOURNAL_LENGTH: return "journal does not fit the volume file";
+    case BULGEFS_FILE_OWN_LENGTH:     return "own bytes do not fit the volume file";
+    default:                          return "no number of a volume file";
+    }
+}
+
+#define BULGEFS_FILE_MAX_JOURNAL   131072u   /* sectors of the longest journal         */
+#define BULGEFS_FILE_MAX_OWN       128u      /* sectors of the program's own, at most  */
+#define BULGEFS_FILE_COMMIT        512u      /* where the commit sector begins         */
+#define BULGEFS_FILE_COMMIT_LENGTH 512u      /* and its bytes                          */
+#define BULGEFS_FILE_HOME          1024u     /* where the image begins                 */
+
+/* What bulgefs_file_size answers for sizes in their ranges, as a constant. */
+#define BULGEFS_FILE_LENGTH(n, m, x) \
+    (512u * (2u + 2u * ((n) + (m) + (x)) + ((n) + (m) + (x) + 128u) / 128u))
+
+/* Where the parts of a file stand, and whether its log waits (1) or not (0). */
+typedef struct {
+    uint32_t number, waits;
+    uint32_t image_start, image_length, journal_start, journal_length, own_start, own_length;
+} bulgefs_file_places;
+
+/* How many sectors are in the log, and the two places that step 1 writes. */
+typedef struct {
+    uint32_t number, sectors;
+    uint32_t numbers_start, numbers_length, sectors_start, sectors_length;
+} bulgefs_file_prepared;
+
+/* Whether the log waited (1) or not (0), and how many of its sectors step 3 writes. */
+typedef struct { uint32_t number, waited, sectors; } bulgefs_file_recovered;
+
+/*
+ * The bytes of a file for n sectors of an image (3 to 65,536), m of a journal (1
+ * to 131,072) and x of the program's own (0 to 128); 0 if one of them is out of
+ * its range.
+ */
+BULGEFS_CHECKED
+uint64_t bulgefs_file_size(uint32_t image_sectors, uint32_t journal_sectors,
+                           uint32_t own_sectors);
+
+/*
+ * Makes the bytes a volume file: writes its first two sectors, and nothing else.
+ * Image, journal and the program's bytes are those that stand from byte
+ * BULGEFS_FILE_HOME on, one after the other.
+ * Refusals: BULGEFS_FILE_BAD_HEADER, BULGEFS_FILE_BAD_LENGTH.
+ */
+BULGEFS_CHECKED
+uint32_t bulgefs_file_begin(uint8_t *file, size_t file_len, uint32_t image_sectors,
+                            uint32_t journal_sectors, uint32_t own_sectors);
+
+/*
+ * Whether the bytes are a volume file.  Image and journal are not looked into.
+ * Refusals: 1 to 5.
+ */
+BULGEFS_CHECKED
+uint32_t bulgefs_file_check(const uint8_t *file, size_t file_len);
+
+/*
+ * Where image, journal and the program's bytes stand in the file.  If waits is 1
+ * they are not whole: recover first.
+ * Refusals: 1 to 5.
+ */
+BULGEFS_CHECKED
+bulgefs_file_places bulgefs_file_parts(const uint8_t *file, size_t file_len);
+
+/*
+ * Step 1 of a save: compares the parts with what stands in the file, and writes
+ * the sectors that differ into the log.
+ * Refusals: 1 to 9.
+ */
+BULGEFS_CHECKED
+bulgefs_file_prepared bulgefs_file_prepare(uint8_t *file, size_t file_len,
+                                           const uint8_t *image, size_t image_len,
+                                           const uint8_t *journal, size_t journal_len,
+                                           const uint8_t *own, size_t own_len);
+
+/*
+ * Step 2: sets the byte that says that the log waits.  Only call it after step 1
+ * and its flush: an old log is taken for a new one.
+ * Refusals: 1 to 6.
+ */
+BULGEFS_CHECKED
+uint32_t bulgefs_file_commit(uint8_t *file, size_t file_len);
+
+/*
+ * Steps 3 and 4, and recovery: if the log waits, copies its sectors home and
+ * clears the byte that says so; else changes nothing.  In memory both happen at
+ * once; write them out as two steps.
+ * Refusals: 1 to 5.
+ */
+BULGEFS_CHECKED
+bulgefs_file_recovered bulgefs_file_recover(uint8_t *file, size_t file_len);
+
+/*
+ * Where the sector of the log with this index, from 0 on, has its home: what step
+ * 3 writes.  The indexes of one log give rising places, so a program may join
+ * those that touch into one write.  Of length 0 if there is no such sector, or
+ * the file is refused.
+ */
+BULGEFS_CHECKED
+bulgefs_part bulgefs_file_home(const uint8_t *file, size_t file_len, uint32_t index);
 
 #ifdef __cplusplus
 }

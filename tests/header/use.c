@@ -42,6 +42,11 @@ static void sizes(void)
     expect(BULGEFS_MAX_FILES(1u) == 2u && BULGEFS_MAX_FILES(64u) == 254u, "BULGEFS_MAX_FILES");
     expect(BULGEFS_MAX_PATH == 729u, "BULGEFS_MAX_PATH");
     expect(BULGEFS_LIST_HEAD + BULGEFS_ITEM_SIZE(2u, 513u) == 538u, "BULGEFS_ITEM_SIZE");
+    expect(BULGEFS_FILE_LENGTH(3u, 1u, 1u) == 6656u, "BULGEFS_FILE_LENGTH");
+    expect(BULGEFS_FILE_LENGTH(BULGEFS_MAX_BLOCKS, BULGEFS_FILE_MAX_JOURNAL, BULGEFS_FILE_MAX_OWN) == 202246144u,
+           "the largest volume file");
+    expect(BULGEFS_FILE_COMMIT + BULGEFS_FILE_COMMIT_LENGTH == BULGEFS_FILE_HOME, "the sectors of a volume file");
+    expect(512u * BULGEFS_FILE_MAX_JOURNAL == BULGEFS_MAX_JOURNAL, "the longest journal of a volume file");
 }
 
 static void journals(void)
@@ -76,6 +81,10 @@ static void texts(void)
         int named = number <= 27u;
         int known = strcmp(bulgefs_text(number), bulgefs_text(4294967295u)) != 0;
         expect(named == known, "bulgefs_text does not know just the numbers that are given");
+    }
+    for (number = 0; number < 40u; number++) {
+        int known = strcmp(bulgefs_file_text(number), bulgefs_file_text(4294967295u)) != 0;
+        expect((number <= BULGEFS_FILE_OWN_LENGTH) == known, "bulgefs_file_text does not know just the numbers that are given");
     }
     expect(strcmp(bulgefs_text(BULGEFS_OK), "accepted") == 0, "bulgefs_text");
 }

@@ -11,6 +11,8 @@ use Rattle.append.proofs.Laws.Runs.{pieces-stand, pieces-told}
 use Rattle.chain_table.proofs.Laws.Runs.{transfers-stand, transfers-told}
 use Rattle.back.proofs.Laws.Runs.{infos-stand, backs-stand, infos-told, backs-told}
 use Rattle.back.proofs.Theorems as back
+use Rattle.bulgefs.specs.Saves.{EveryLifeTheorem}
+use Rattle.bulgefs.proofs.Saves.{life-kept}
 use Rattle.bulgefs.specs.Runs.{FurtherKind, list, append, readOn, table, journalInfo, undoTo, readings, kindOf, tellOf, EveryRunTheorem, EveryCountTheorem, EveryInfoTheorem, EveryStartTheorem, EveryMarkTheorem, EveryNeverBelowTheorem}
 
 readings-stand : StandsFor readings
@@ -65,3 +67,8 @@ moment-again = back.moment-again (oneOf kindOf) (one-of kindOf kinds-stand)
 -- They still stand where, since that moment, never fewer changes stood than at it.
 pub never-below : EveryNeverBelowTheorem
 never-below = back.never-below (oneOf kindOf) (one-of kindOf kinds-stand)
+
+-- SAVED WHOLE OR NOT AT ALL: whatever calls are made, whenever the pair is saved, and wherever power fails, the recovered file holds the pair of a moment at
+-- which a save was made or cut, and one undo gives back the pair of the beginning, byte for byte.
+pub every-life : EveryLifeTheorem
+every-life begun b p file saved l = life-kept start-again begun b p file saved l

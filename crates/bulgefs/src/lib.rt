@@ -13,6 +13,10 @@ ghost use Rattle.append.specs.Append.{afterAppend, appendAnswer};
 ghost use Rattle.write_list.specs.List.{listed, writeList};
 ghost use Rattle.back.specs.Marks.{info, journalInfo};
 ghost use Rattle.back.specs.UndoTo.{backed, undoTo};
+ghost use Rattle.volume_file.specs.Format.{fileSize, fileRefusal};
+ghost use Rattle.volume_file.specs.Begin.{beginRefusal, afterBegin};
+ghost use Rattle.volume_file.specs.Save.{afterPrepare, commitRefusal, afterCommit, afterRecover};
+ghost use Rattle.volume_file.specs.Answers.{PartsAnswer, partsOf, prepareAnswered, prepareAnswer, recoverAnswered, recoverAnswer, homeExtent};
 ghost use Rattle.salvage.specs.Salvage.{SalvageAnswer, salvage};
 ghost use Rattle.journal.specs.Journal.{startRefusal, afterStart};
 ghost use Rattle.journal.specs.Answers.{changedAnswer};
@@ -533,4 +537,79 @@ pub extern "C" fn bulgefs_store_table(image: &mut [u8], entries: &[u32]) -> u32
     ensures image { λ _. ⌜ now (image .exit) ≡ storeTable (now (image .entry)) (now (entries .entry)) .image ⌝ }
 {
     chain_table::transfer::store_table(image, entries)
+}
+
+// The calls on a volume file: the whole file in memory, which the caller reads and writes.
+#[no_mangle]
+pub extern "C" fn bulgefs_file_size(
+    image_sectors: u32,
+    journal_sectors: u32,
+    own_sectors: u32,
+) -> u64
+    ensures { λ r. ⌜ r ≡ fileSize «image_sectors» «journal_sectors» «own_sectors» ⌝ }
+{
+    volume_file::parts::file_size(image_sectors, journal_sectors, own_sectors) as u64
+}
+
+#[no_mangle]
+pub extern "C" fn bulgefs_file_begin(
+    file: &mut [u8],
+    image_sectors: u32,
+    journal_sectors: u32,
+    own_sectors: u32,
+) -> u32
+    ensures number { λ r. ⌜ r ≡ beginRefusal (now (file .entry)) «image_sectors» «journal_sectors» «own_sectors» ⌝ }
+    ensures file { λ _. ⌜ now (file .exit) ≡ afterBegin (now (file .entry)) «image_sectors» «journal_sectors» «own_sectors» ⌝ }
+{
+    volume_file::begin::begin(file, image_sectors, journal_sectors, own_sectors)
+}
+
+#[no_mangle]
+pub extern "C" fn bulgefs_file_check(file: &[u8]) -> u32
+    ensures { λ r. ⌜ r ≡ fileRefusal (now (file .entry)) ⌝ }
+{
+    volume_file::check::refusal(file)
+}
+
+#[no_mangle]
+pub extern "C" fn bulgefs_file_parts(file: &[u8]) -> volume_file::parts::Parts
+    ensures { λ r. ⌜ _≡_ {A = PartsAnswer} (record { number = r .number; waits = r .waits; imageStart = r .«image_start»; imageLength = r .«image_length»; journalStart = r .«journal_start»; journalLength = r .«journal_length»; ownStart = r .«own_start»; ownLength = r .«own_length» }) (partsOf (now (file .entry))) ⌝ }
+{
+    volume_file::parts::parts_of(file)
+}
+
+#[no_mangle]
+pub extern "C" fn bulgefs_file_prepare<'x>(
+    file: &mut [u8],
+    image: &'x [u8],
+    journal: &'x [u8],
+    own: &'x [u8],
+) -> volume_file::saving::Prepared
+    ensures answer { λ r. ⌜ prepareAnswered (r .number) (r .sectors) (r .«numbers_start») (r .«numbers_length») (r .«sectors_start») (r .«sectors_length») ≡ prepareAnswer (now (file .entry)) (now (image .entry)) (now (journal .entry)) (now (own .entry)) ⌝ }
+    ensures file { λ _. ⌜ now (file .exit) ≡ afterPrepare (now (file .entry)) (now (image .entry)) (now (journal .entry)) (now (own .entry)) ⌝ }
+{
+    volume_file::saving::prepare(file, image, journal, own)
+}
+
+#[no_mangle]
+pub extern "C" fn bulgefs_file_commit(file: &mut [u8]) -> u32
+    ensures number { λ r. ⌜ r ≡ commitRefusal (now (file .entry)) ⌝ }
+    ensures file { λ _. ⌜ now (file .exit) ≡ afterCommit (now (file .entry)) ⌝ }
+{
+    volume_file::saving::commit(file)
+}
+
+#[no_mangle]
+pub extern "C" fn bulgefs_file_recover(file: &mut [u8]) -> volume_file::recovery::Recovered
+    ensures answer { λ r. ⌜ recoverAnswered (r .number) (r .waited) (r .sectors) ≡ recoverAnswer (now (file .entry)) ⌝ }
+    ensures file { λ _. ⌜ now (file .exit) ≡ afterRecover (now (file .entry)) ⌝ }
+{
+    volume_file::recovery::recover(file)
+}
+
+#[no_mangle]
+pub extern "C" fn bulgefs_file_home(file: &[u8], index: u32) -> volume_file::parts::Extent
+    ensures { λ r. ⌜ _≡_ {A = Extent} (record { start = r .start; size = r .length }) (homeExtent (now (file .entry)) index) ⌝ }
+{
+    volume_file::parts::home_extent(file, index as usize)
 }

@@ -1,0 +1,11 @@
+pub mod Sectors
+pub mod Restored
+pub mod Facts
+pub mod Recovery
+pub mod Prepared
+pub mod Saves
+pub mod Histories
+pub mod Begins
+pub mod Parts
+pub mod Written
+pub mod Commits

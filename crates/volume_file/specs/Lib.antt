@@ -1,0 +1,9 @@
+pub mod Refusals
+pub mod Format
+pub mod Begin
+pub mod Save
+pub mod Answers
+pub mod Writes
+pub mod Cuts
+pub mod History
+pub mod Walks

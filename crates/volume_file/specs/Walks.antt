@@ -1,0 +1,2 @@
+-- Code-facing definitions, that private contracts cite.
+pub mod Sectors
