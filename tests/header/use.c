@@ -85,7 +85,7 @@ static void answers(void)
     expect(sizeof(bulgefs_volume) == 20 && sizeof(bulgefs_slot) == 56, "volume, slot");
     expect(BULGEFS_LABELS_SIZE == sizeof(bulgefs_uuid) + BULGEFS_VOLUME_NAME_SIZE,
            "BULGEFS_LABELS_SIZE");
-    expect(BULGEFS_VERSION >= 1200u && strlen(BULGEFS_VERSION_TEXT) >= 5, "version");
+    expect(BULGEFS_VERSION >= 1300u && strlen(BULGEFS_VERSION_TEXT) >= 5, "version");
     expect(BULGEFS_MAX_REPORT == BULGEFS_SLOTS_PER_BLOCK * BULGEFS_MAX_DIRECTORY_BLOCKS,
            "BULGEFS_MAX_REPORT");
     expect(BULGEFS_KEPT == 0 && BULGEFS_ENTRY_LOST == 1 && BULGEFS_FILE_LOST == 2
