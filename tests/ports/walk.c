@@ -191,7 +191,7 @@ static void start_journal(void)
 static void format(void)
 {
     bulgefs_uuid uuid;
-    uint8_t label[129];
+    uint8_t label[384];
     uint32_t number = 1, root;
     uint64_t time;
     size_t label_len;
@@ -201,7 +201,7 @@ static void format(void)
         root = one_in(6) ? below(66) : 1 + below(5);
         root = wide32(root);
         time = next();
-        label_len = one_in(9) ? 127 + below(3) : 128;
+        label_len = one_in(9) ? 127 + below(3) : one_in(9) ? 128 + 256 : 128;
         number = bulgefs_format(IMAGE, root, time, uuid, label, label_len);
         answer(K_format, number);
     }
@@ -296,6 +296,13 @@ static size_t spoil(uint8_t *to, size_t n)
     }
 }
 
+/* 256 bytes more: a path whose length is cut to a byte is then that of before. */
+static size_t lengthen(uint8_t *to, size_t n)
+{
+    for (size_t i = 0; i < 256; i++) to[n + i] = (uint8_t)(i % 64 == 0 ? '/' : 'a' + i % 26);
+    return n + 256;
+}
+
 static size_t directories(uint8_t *to)
 {
     size_t n = 0;
@@ -316,6 +323,7 @@ static void path_of_file(void)
     else if (one_in(12)) path_len = add_name(path, path_len, "d", below(3));
     else path_len = add_name(path, path_len, "f", below(4));
     if (one_in(50)) path_len = spoil(path, path_len);
+    if (one_in(25)) path_len = lengthen(path, path_len);
 }
 
 static void path_of_directory(void)
@@ -324,6 +332,7 @@ static void path_of_directory(void)
     path_len = directories(path);
     path_len = add_name(path, path_len, "d", digit);
     if (one_in(50)) path_len = spoil(path, path_len);
+    if (one_in(25)) path_len = lengthen(path, path_len);
 }
 
 static void box(void)
@@ -333,6 +342,7 @@ static void box(void)
     directory_len = directories(directory);
     if (directory_len == 0) directory_len = 1;
     if (one_in(30)) directory_len = spoil(directory, directory_len);
+    if (one_in(25)) directory_len = lengthen(directory, directory_len);
     for (serial_len = 0; base[serial_len]; serial_len++) serial[serial_len] = (uint8_t)base[serial_len];
     serial[serial_len++] = (uint8_t)('0' + below(3));
     if (!one_in(30)) return;
@@ -598,9 +608,10 @@ static void check(void)
     answer(K_check, bulgefs_check(IMAGE));
 }
 
+/* Its time grows with blocks times chains; the large images hold a few files. */
 static void plain_check(void)
 {
-    if (image_len > SMALL_IMAGE || (image_len > 100 * 512 && !one_in(image_len > 600 * 512 ? 90 : 20))) return;
+    if (image_len > 100 * 512 && image_len <= SMALL_IMAGE && !one_in(image_len > 600 * 512 ? 90 : 20)) return;
     answer(K_plain_check, bulgefs_plain_check(IMAGE));
 }
 
@@ -653,7 +664,7 @@ static void look_in_place(void)
 {
     uint64_t index = one_in(30) ? next() : below(3);
     bulgefs_part p;
-    index = wide(index);
+    if (one_in(6)) index |= (uint64_t)1 << (32 + below(32));
     path_of_file();
     p = bulgefs_look_in_place(IMAGE, PATH, index);
     answer(K_look_in_place, p.length == 0);
@@ -664,7 +675,7 @@ static void look_in_place(void)
 
 static void info(void)
 {
-    size_t room = below(150);
+    size_t room = one_in(6) ? 256 + below(100) : below(150);
     bulgefs_volume v = bulgefs_info(IMAGE, buffer, room);
     answer(K_info, v.number);
     put(v.blocks);
@@ -704,7 +715,7 @@ static void list_directory(void)
     }
     slot = wide32(slot);
     do {
-        size_t room = below(90);
+        size_t room = one_in(6) ? 256 + below(70) : below(90);
         e = bulgefs_entry(IMAGE, PATH, slot, buffer, room);
         put_entry(e);
         slot = e.slot + 1;
@@ -757,7 +768,7 @@ static const struct {
     {clear_flags, 1},    {put_settings, 9},      {get_settings, 6},     {get_latest_settings, 4},
     {undo, 3},           {journal_info, 3},      {undo_to, 1},          {version, 1},        {check, 2},
     {plain_check, 1},    {lookup, 5},            {read_file, 4},        {read_next, 4},      {read_attributes, 2},
-    {look_in_place, 3},  {info, 2},              {list_directory, 4},   {load_table, 1},     {store_table, 1},
+    {look_in_place, 6},  {info, 2},              {list_directory, 4},   {load_table, 1},     {store_table, 1},
     {salvage, 2},        {damage, 3},            {restart_journal, 1},
 };
 
@@ -772,7 +783,7 @@ static void make_a_step(void)
 
 static void step(void)
 {
-    w = &worlds[one_in(300) ? WORLDS - 1 : below(WORLDS - 1)];
+    w = &worlds[one_in(100) ? WORLDS - 1 : below(WORLDS - 1)];
     if (w->image == 0 || one_in(w == &worlds[WORLDS - 1] ? 60 : 500)) new_world();
     if (w->damaged && one_in(6)) give_back();
     lend();
