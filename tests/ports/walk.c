@@ -119,7 +119,7 @@ static size_t image_len, journal_len;
 #define IMAGE image, image_len
 #define BOTH image, image_len, journal, journal_len
 
-static uint8_t data[5000], buffer[5000], list[70000], path[900], serial[20], directory[900];
+static uint8_t data[5000], buffer[5000], list[70000], path[1200], serial[300], directory[1200];
 static size_t path_len, serial_len, directory_len;
 static uint32_t entries[LARGE_IMAGE / 512 + 100];
 #define PATH path, path_len
@@ -296,7 +296,7 @@ static size_t spoil(uint8_t *to, size_t n)
     }
 }
 
-/* 256 bytes more: a path whose length is cut to a byte is then that of before. */
+/* 256 bytes more: if its length is cut to a byte, a path or a serial number is then the one of before. */
 static size_t lengthen(uint8_t *to, size_t n)
 {
     for (size_t i = 0; i < 256; i++) to[n + i] = (uint8_t)(i % 64 == 0 ? '/' : 'a' + i % 26);
@@ -345,6 +345,7 @@ static void box(void)
     if (one_in(25)) directory_len = lengthen(directory, directory_len);
     for (serial_len = 0; base[serial_len]; serial_len++) serial[serial_len] = (uint8_t)base[serial_len];
     serial[serial_len++] = (uint8_t)('0' + below(3));
+    if (one_in(25)) serial_len = lengthen(serial, serial_len);
     if (!one_in(30)) return;
     switch (below(4)) {
     case 0: serial_len = 0; break;
@@ -504,7 +505,7 @@ static void clear_flags(void)
 
 static void put_settings(void)
 {
-    size_t n = one_in(4) ? 200 : below(203);
+    size_t n = one_in(4) ? 200 : one_in(12) ? 256 + below(200) : below(203);
     int in = one_in(2);
     uint64_t time = next();
     bulgefs_put p;
@@ -765,7 +766,7 @@ static const struct {
 } steps[] = {
     {create, 14},        {write_file, 13},       {write_settings, 1},   {append, 7},         {write_list, 4},
     {delete_file, 5},    {create_directory, 7},  {delete_directory, 3}, {set_attributes, 3}, {clear_attributes, 1},
-    {clear_flags, 1},    {put_settings, 9},      {get_settings, 6},     {get_latest_settings, 4},
+    {clear_flags, 2},    {put_settings, 9},      {get_settings, 6},     {get_latest_settings, 4},
     {undo, 3},           {journal_info, 3},      {undo_to, 1},          {version, 1},        {check, 2},
     {plain_check, 1},    {lookup, 5},            {read_file, 4},        {read_next, 4},      {read_attributes, 2},
     {look_in_place, 6},  {info, 2},              {list_directory, 4},   {load_table, 1},     {store_table, 1},
@@ -781,10 +782,23 @@ static void make_a_step(void)
     steps[i].make();
 }
 
+/* Each step once, on a large image that was just made. */
+static void all_steps(void)
+{
+    for (size_t i = 0; i < sizeof steps / sizeof steps[0]; i++) {
+        lend();
+        steps[i].make();
+    }
+}
+
 static void step(void)
 {
-    w = &worlds[one_in(100) ? WORLDS - 1 : below(WORLDS - 1)];
-    if (w->image == 0 || one_in(w == &worlds[WORLDS - 1] ? 60 : 500)) new_world();
+    int large = one_in(150);
+    w = &worlds[large ? WORLDS - 1 : below(WORLDS - 1)];
+    if (w->image == 0 || one_in(large ? 20 : 500)) {
+        new_world();
+        if (large) all_steps();
+    }
     if (w->damaged && one_in(6)) give_back();
     lend();
     if (one_in(60)) lend_less();
