@@ -23,8 +23,8 @@
  *   at all in any buffer, and any length including 0.
  *
  * Answers
- *   Every call but bulgefs_look_in_place answers a number: 0 (BULGEFS_OK) if
- *   the call was accepted, otherwise one of the refusals below; bulgefs_text
+ *   Every call but bulgefs_look_in_place and bulgefs_version answers a number: 0
+ *   (BULGEFS_OK) if the call was accepted, otherwise one of the refusals below; bulgefs_text
  *   has words for it.  If several refusals apply, the first in this order is
  *   given: 1 to 8, 27, 19, 9 and 22, 20, 17, 26, 21, 10 to 12, 18, 24, 23, 25, 13
  *   to 16.  A refused call changes no byte of any buffer, and all other fields of
@@ -70,18 +70,43 @@
  *   BULGEFS_STACK.
  *
  * Linking
- *   x86-64, System V calling convention.  The code uses the red zone (the 128
- *   bytes below the stack pointer) and SSE registers: a boot loader or kernel must
- *   leave the one alone and switch the other on.  The archive needs memset, the
- *   calls for settings memcpy too, and nothing else.  Every function has a section
- *   of its own: with -Wl,--gc-sections a boot loader that only checks, finds and
- *   reads gets just the reader, which needs memset alone.
+ *   There are archives for x86-64 with the System V calling convention (Linux and
+ *   BSD), for 64-bit ARM and RISC-V on Linux, for Windows on x86-64 and for
+ *   WebAssembly; docs/PORTS.md says what is proved and what is trusted on each.
+ *   An archive needs memset, the calls for settings memcpy too, and nothing else;
+ *   on Windows also the stack probe of the compiler's own library.  Every function
+ *   has a section of its own: with -Wl,--gc-sections a program that only checks,
+ *   finds and reads gets just the reader, which needs memset alone.
+ *   The code for x86-64 uses the red zone (the 128 bytes below the stack pointer)
+ *   and SSE registers.  A boot loader or kernel that must not have these takes the
+ *   boot loader's archive: check, lookup, read and look in place without them.
  */
 #ifndef BULGEFS_H
 #define BULGEFS_H
 
 #include <stddef.h>
 #include <stdint.h>
+
+/*
+ * The machines that there is an archive for.  On another one the tests have not
+ * shown that structures are laid out and handed over as the library expects.
+ * Define BULGEFS_UNSERVED to use the header there all the same, with an archive of
+ * your own (docs/PORTS.md).
+ */
+#if !defined(BULGEFS_UNSERVED)
+#if defined(__wasm32__)
+#elif defined(__APPLE__) || defined(__ILP32__) || defined(_M_ARM64EC)
+#define BULGEFS_NO_ARCHIVE
+#elif defined(__x86_64__) || defined(_M_X64)
+#elif defined(__aarch64__) && !defined(__AARCH64EB__) && !defined(_WIN32)
+#elif defined(__riscv) && __riscv_xlen == 64
+#else
+#define BULGEFS_NO_ARCHIVE
+#endif
+#if defined(BULGEFS_NO_ARCHIVE)
+#error "BulgeFS has no archive for this machine: docs/PORTS.md lists those that it has, and how to build another."
+#endif
+#endif
 
 #ifdef __cplusplus
 extern "C" {
@@ -90,6 +115,7 @@ extern "C" {
 /*
  * The version of this header, 10000 * major + 100 * minor + patch.  The minor
  * number rises with every call, number or limit that comes or changes.
+ * CHANGELOG.md says what came with each.
  */
 #define BULGEFS_VERSION            1300u
 #define BULGEFS_VERSION_TEXT       "0.13.0"
@@ -374,6 +400,13 @@ typedef struct { uint32_t number, revision, length; } bulgefs_got;
  *   at a clock.  BulgeFS means milliseconds since 1970 began (UTC): take these
  *   if other programs read the image.
  */
+
+/*
+ * The version of the library that the program was linked with, as BULGEFS_VERSION
+ * is that of the header.  With a shared library the two may differ.
+ */
+BULGEFS_CHECKED
+uint32_t bulgefs_version(void);
 
 /*
  * Checks the whole image.  BULGEFS_OK means that the image is sound.

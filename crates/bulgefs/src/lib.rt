@@ -20,6 +20,7 @@ ghost use Rattle.volume_file.specs.Answers.{PartsAnswer, partsOf, prepareAnswer
 ghost use Rattle.salvage.specs.Salvage.{SalvageAnswer, salvage};
 ghost use Rattle.journal.specs.Journal.{startRefusal, afterStart};
 ghost use Rattle.journal.specs.Answers.{changedAnswer};
+ghost use Rattle.bulgefs.specs.Version.{version};
 ghost use Rattle.journal.specs.Run.{State, state, changed, undone, changeAnswer, afterChange, undoAnswer, afterUndo};
 
 // Sixteen bytes by value: C cannot pass an array so.
@@ -69,6 +70,14 @@ pub struct Changed {
 pub struct Listed {
     pub number: u32,
     pub done: u32,
+}
+
+// The version of the library: the header's BULGEFS_VERSION.
+#[no_mangle]
+pub extern "C" fn bulgefs_version() -> u32
+    ensures { λ r. ⌜ r ≡ version ⌝ }
+{
+    1300
 }
 
 #[no_mangle]
