@@ -21,6 +21,9 @@ pub enum Entry {
     ReadAttributes,
     ClearAttributes,
     ClearFlags,
+    Shorten,
+    Replace,
+    Move,
     Append,
     WriteList,
     Put,
@@ -34,7 +37,7 @@ pub enum Entry {
 
 /// Every entry point, and the numbers that it can answer. Look in place has
 /// no number; its row counts what look up would have answered.
-const ENTRIES: [(Entry, &str, &[u32]); 28] = [
+const ENTRIES: [(Entry, &str, &[u32]); 31] = [
     (Entry::Check, "check", &[0, 1, 2, 3, 4, 5, 6, 7]),
     (Entry::PlainCheck, "plain_check", &[0, 1, 2, 3, 4, 5, 6, 7]),
     (Entry::Format, "format", &[0, 1, 9, 14]),
@@ -58,6 +61,9 @@ const ENTRIES: [(Entry, &str, &[u32]); 28] = [
     (Entry::ReadAttributes, "read_attr", &[0, 1, 2, 3, 4, 5, 6, 7, 9, 10, 17]),
     (Entry::ClearAttributes, "clear_attr", &[0, 1, 2, 3, 4, 5, 6, 7, 8, 9, 10, 15, 17]),
     (Entry::ClearFlags, "clear_flags", &[0, 1, 2, 3, 4, 5, 6, 7, 8, 9, 10, 15, 17]),
+    (Entry::Shorten, "shorten", &[0, 1, 2, 3, 4, 5, 6, 7, 8, 9, 10, 12, 15, 17]),
+    (Entry::Replace, "replace", &[0, 1, 2, 3, 4, 5, 6, 7, 8, 9, 10, 14, 15, 17]),
+    (Entry::Move, "move", &[0, 1, 2, 3, 4, 5, 6, 7, 8, 9, 10, 11, 13, 15, 17]),
     (Entry::Append, "append", &[0, 1, 2, 3, 4, 5, 6, 7, 8, 9, 10, 14, 15, 17]),
     (Entry::WriteList, "write_list", &[0, 1, 2, 3, 4, 5, 6, 7, 8, 9, 10, 12, 14, 15, 17, 19]),
     (Entry::Put, "put", &[0, 1, 2, 3, 4, 5, 6, 7, 8, 11, 13, 14, 15, 22, 24, 25]),
