@@ -121,3 +121,26 @@ fn no_room_in_the_journal() {
     assert_eq!(apply(&room(5 + 519), &move_file(b"/A", b"/Z")).err(), Some(15));
     assert_eq!(apply(&room(5 + 520), &move_file(b"/A", b"/Z")).unwrap().record, 520);
 }
+
+/// FORMAT.md, B.2: the rows of move, one after the other.
+#[test]
+fn the_rows_of_the_page() {
+    let mut state = filled();
+    for (path, to, expected) in [
+        (&b"/A"[..], &b"/A"[..], Err(11)),
+        (b"/A", b"/B", Err(11)),
+        (b"/A", b"/D", Err(11)),
+        (b"/A", b"/B/N", Err(10)),
+        (b"/A", b"/none/N", Err(10)),
+        (b"/none", b"/N", Err(10)),
+        (b"/D", b"/N", Err(10)),
+        (b"/A", b"/D/SN4471", Ok((1, 1036))),
+        (b"/C", b"/Z", Ok((1, 1036))),
+        (b"/B", b"/Y", Ok((3, 520))),
+    ] {
+        let applied = apply(&state, &move_file(path, to));
+        let told = applied.as_ref().map(|a| (a.slot, a.record)).map_err(|&e| e);
+        assert_eq!(told, expected, "{}", to.escape_ascii());
+        state = applied.map_or(state, |a| a.state);
+    }
+}

@@ -148,3 +148,27 @@ fn the_rest_stays() {
         }
     }
 }
+
+/// FORMAT.md, B.2: the rows of shorten and replace, one after the other.
+#[test]
+fn the_rows_of_the_page() {
+    let mut state = with_two_blocks();
+    for (change, expected) in [
+        (shorten(b"/A", 514), Err(12)),
+        (shorten(b"/A", 513), Ok(520)),
+        (shorten(b"/A", 512), Ok(2068)),
+        (shorten(b"/A", 1), Ok(1036)),
+        (replace(b"/A", b"9600"), Ok(1036)),
+        (replace(b"/A", b"300"), Ok(1036)),
+        (replace(b"/A", &[1; 2048]), Ok(3616)),
+        (replace(b"/A", &[1; 2049]), Err(14)),
+        (replace(b"/A", &[1; 4097]), Err(9)),
+        (replace(b"/A", b""), Ok(3616)),
+        (replace(b"/A", b""), Ok(520)),
+    ] {
+        let applied = apply(&state, &change);
+        assert_eq!(applied.as_ref().map(|a| a.record).map_err(|&e| e), expected, "{change:?}");
+        state = applied.map_or(state, |a| a.state);
+    }
+    assert_eq!(free_blocks(&state.image), [4, 5, 6, 7]);
+}
