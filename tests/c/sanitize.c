@@ -273,6 +273,20 @@ static void call_append(const material *m, const buffer *path, const buffer *dat
     give_back(&beside);
 }
 
+static void call_move(const material *m, const buffer *path, const char *new_path)
+{
+    const uint32_t all = STAGES | BIT(8) | BIT(11) | BIT(13) | BIT(15) | PATH;
+    buffer image = lend(m->image, m->image_len);
+    buffer journal = lend(m->journal, m->journal_len);
+    buffer to = lend_const((const uint8_t *)new_path, strlen(new_path));
+    bulgefs_created c = bulgefs_move(image.at, image.len, journal.at, journal.len, path->at,
+                                     path->len, to.at, to.len);
+    expect(c.number != 0 || bulgefs_check(image.at, image.len) == 0, "move: sound");
+    expect(unchanged(&to), "move: the new path stays");
+    settle(&image, &journal, c.number, c.slot | c.record, all, "move");
+    give_back(&to);
+}
+
 static void call_file_changes(const material *m, const buffer *path)
 {
     const uint32_t common = STAGES | BIT(8) | BIT(15) | PATH;
@@ -307,6 +321,25 @@ static void call_file_changes(const material *m, const buffer *path)
                                             path->at, path->len);
     expect(f.number != 0 || bulgefs_check(image.at, image.len) == 0, "clear_flags: sound");
     settle(&image, &journal, f.number, f.record, common, "clear_flags");
+
+    image = lend(m->image, m->image_len);
+    journal = lend(m->journal, m->journal_len);
+    bulgefs_changed r = bulgefs_replace(image.at, image.len, journal.at, journal.len, path->at,
+                                        path->len, data.at, data.len, 5);
+    expect(r.number != 0 || bulgefs_check(image.at, image.len) == 0, "replace: sound");
+    settle(&image, &journal, r.number, r.record, common | BIT(14), "replace");
+
+    image = lend(m->image, m->image_len);
+    journal = lend(m->journal, m->journal_len);
+    uint64_t size = random_below(2) == 0 ? m->offset : random_below(700);
+    bulgefs_changed s = bulgefs_shorten(image.at, image.len, journal.at, journal.len, path->at,
+                                        path->len, size, 6);
+    expect(s.number != 0 || bulgefs_check(image.at, image.len) == 0, "shorten: sound");
+    settle(&image, &journal, s.number, s.record, common | BIT(12), "shorten");
+
+    call_move(m, path, "/moved");
+    call_move(m, path, "/d/moved");
+    call_move(m, path, "");
 
     expect(unchanged(&data), "changes: data stays");
     give_back(&data);

@@ -135,6 +135,22 @@ static void clear_flags(void)
     number = bulgefs_clear_flags(image, image_len, journal, journal_len, path, 2).number;
 }
 
+static void shorten(void)
+{
+    number = bulgefs_shorten(image, image_len, journal, journal_len, path, 2, 1, 9).number;
+}
+
+static void replace(void)
+{
+    number = bulgefs_replace(image, image_len, journal, journal_len, path, 2, data, 4096, 9).number;
+}
+
+static void move(void)
+{
+    static const uint8_t to[] = "/moved";
+    number = bulgefs_move(image, image_len, journal, journal_len, path, 2, to, 6).number;
+}
+
 static void salvage(void)
 {
     static uint8_t report[BULGEFS_MAX_REPORT];
@@ -227,7 +243,8 @@ static const struct {
     {"plain_check", plain_check}, {"load_table", load}, {"store_table", store},
     {"set_attributes", set_attributes}, {"set_attributes again", set_attributes},
     {"read_attributes", read_attributes}, {"clear_attributes", clear_attributes}, {"undo", undo},
-    {"clear_flags", clear_flags}, {"undo", undo},
+    {"clear_flags", clear_flags}, {"undo", undo}, {"replace", replace}, {"shorten", shorten},
+    {"undo", undo}, {"undo", undo}, {"move", move}, {"undo", undo},
     {"put_settings", put_settings}, {"put_settings again", put_settings},
     {"get_settings", get_settings}, {"get_latest_settings", get_latest_settings},
     {"salvage", salvage}, {"salvage, broken", salvage_broken},

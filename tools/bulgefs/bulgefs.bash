@@ -42,7 +42,7 @@ _bulgefs_argument() {
     local command=$1 volume=$2 count=$3 typed=$4
     case $command:$count in
     *:0 | put:2 | get:2 | salvage:1 | report:1 | diff:1 | attr:3 | settings:3) _bulgefs_files "$typed" ;;
-    ls:1 | info:1 | cat:1 | get:1 | put:1 | rm:* | mkdir:1 | rmdir:* | attr:1) _bulgefs_paths "$volume" "$typed" ;;
+    ls:1 | info:1 | cat:1 | get:1 | put:1 | mv:1 | mv:2 | rm:* | mkdir:1 | rmdir:* | attr:1) _bulgefs_paths "$volume" "$typed" ;;
     settings:1 | history:1) _bulgefs_boxes "$volume" "$typed" ;;
     settings:2) _bulgefs_words $'put\nget' "$typed" ;;
     attr:2) _bulgefs_words $'get\nset\nclear' "$typed" ;;
@@ -85,7 +85,7 @@ _bulgefs() {
     if [[ $typed == -?* ]]; then
         _bulgefs_options "$command" "$typed"
     elif [[ -z $command ]]; then
-        _bulgefs_words $'format\nls\ninfo\ncheck\ncat\nget\nput\nrm\nmkdir\nrmdir\nattr\nsettings\nhistory\nstart\nlog\nback\nsalvage\nmap\nreport\ndiff' "$typed"
+        _bulgefs_words $'format\nls\ninfo\ncheck\ncat\nget\nput\nmv\nrm\nmkdir\nrmdir\nattr\nsettings\nhistory\nstart\nlog\nback\nsalvage\nmap\nreport\ndiff' "$typed"
     else
         _bulgefs_argument "$command" "$volume" "$count" "$typed"
     fi

@@ -25,9 +25,11 @@ static const command commands[] = {
     { "cat", command_cat, "VOLUME PATH", "Writes a file of the volume to standard output." },
     { "get", command_get, "VOLUME PATH FILE", "Copies a file of the volume to FILE, which must not exist; - is standard output." },
     { "put", command_put, "VOLUME PATH FILE|-",
-      "Makes PATH the content of FILE (- is standard input), in one step.  A file that\n"
-      "is there keeps its type, user, group, permissions and attributes.  One that\n"
-      "becomes shorter is made anew, and has a new time of creation and no flags." },
+      "Makes PATH the content of FILE (- is standard input), in one step.  Of a file that\n"
+      "is there only the bytes and the time of the last change become others." },
+    { "mv", command_mv, "VOLUME PATH NEW",
+      "Moves a file to the path NEW, or with its own name into the directory NEW.  All of\n"
+      "the file stays: bytes, attributes, times and the other fields." },
     { "rm", command_rm, "VOLUME PATH...", "Deletes files, in one step." },
     { "mkdir", command_mkdir, "VOLUME PATH [BLOCKS]",
       "Makes a directory of BLOCKS blocks (1 to 64; 4 if it is not said), with room for\n"

@@ -48,46 +48,42 @@ static uint32_t write_data(const job *j)
     return number;
 }
 
-static uint32_t create(const job *j, const entry *as)
+static uint32_t create(const job *j)
 {
     return bulgefs_create(j->s->image.bytes, j->s->image.length, j->s->journal.bytes, j->s->journal.length, j->path, j->path_length,
-                          as->type, as->user, as->group, as->permissions, 0, j->time).number;
+                          BULGEFS_PLAIN_FILE, 0, 0, 0, 0, j->time).number;
 }
 
-/* A file cannot become shorter, so it goes and comes again. */
-static uint32_t replace(const job *j, const entry *old)
+/* What no single replace can bring: a shorten, where the file becomes shorter, and writes. */
+static uint32_t replace_long(const job *j, uint32_t size)
 {
-    uint8_t attributes[BULGEFS_MAX_ATTRIBUTE_BLOCKS * BULGEFS_BLOCK_SIZE];
+    uint32_t number = 0;
+    if (j->data->length < size) {
+        number = bulgefs_shorten(j->s->image.bytes, j->s->image.length, j->s->journal.bytes, j->s->journal.length, j->path, j->path_length,
+                                 j->data->length, j->time).number;
+    }
+    return number ? number : write_data(j);
+}
+
+static uint32_t put(const job *j)
+{
     bytes *image = &j->s->image, *journal = &j->s->journal;
-    bulgefs_filled kept = bulgefs_read_attributes(image->bytes, image->length, j->path, j->path_length, attributes, sizeof attributes);
-    uint32_t number = kept.number;
-    if (!number) number = bulgefs_delete(image->bytes, image->length, journal->bytes, journal->length, j->path, j->path_length).number;
-    if (!number) number = create(j, old);
-    if (!number && j->data->length) number = write_data(j);
-    if (number || !kept.count) return number;
-    return bulgefs_set_attributes(image->bytes, image->length, journal->bytes, journal->length, j->path, j->path_length,
-                                  attributes, kept.count).number;
-}
-
-static uint32_t put(const job *j, const char *path)
-{
-    entry fields = { .type = BULGEFS_PLAIN_FILE };
-    bulgefs_found found = bulgefs_lookup(j->s->image.bytes, j->s->image.length, j->path, j->path_length);
+    bulgefs_found found = bulgefs_lookup(image->bytes, image->length, j->path, j->path_length);
     uint32_t number = found.number;
-    if (number && number != BULGEFS_NOT_FOUND) return number;
-    if (number) {
-        number = create(j, &fields);
+    if (number == BULGEFS_NOT_FOUND) {
+        number = create(j);
         return number || !j->data->length ? number : write_data(j);
     }
-    if (j->data->length >= found.size) return write_data(j);
-    number = view_find(&j->s->image, path, &fields);
-    return number ? number : replace(j, &fields);
+    if (number) return number;
+    if (j->data->length > BULGEFS_MAX_DATA) return replace_long(j, found.size);
+    return bulgefs_replace(image->bytes, image->length, journal->bytes, journal->length, j->path, j->path_length,
+                           j->data->bytes, j->data->length, j->time).number;
 }
 
 static int put_all(store *s, const char *path, const bytes *data, uint64_t time)
 {
     job j = { s, (const uint8_t *)path, strlen(path), time, data };
-    uint32_t number = data->length > LONGEST ? BULGEFS_VOLUME_FULL : j.path_length > BULGEFS_MAX_PATH ? BULGEFS_BAD_ARGUMENT : put(&j, path);
+    uint32_t number = data->length > LONGEST ? BULGEFS_VOLUME_FULL : j.path_length > BULGEFS_MAX_PATH ? BULGEFS_BAD_ARGUMENT : put(&j);
     return store_finish(s, number ? refuse(number, path) : DONE);
 }
 

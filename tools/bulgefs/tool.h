@@ -175,10 +175,11 @@ void json_change(FILE *, const change *);
 
 enum { NOT_OF_VOLUME = 255 };
 /*
- * Takes the last record back and calls for the path that it changed, if any.
+ * Takes the last record back and calls for the path that it changed, if any, and
+ * of a move for both.
  * after has the image's length and becomes the image of before the undo.  Gives
  * the library's refusal, or NOT_OF_VOLUME if the result is not sound, has another
- * header, or differs in more than one path: then the buffers are of no use.
+ * header, or differs in more paths than one change can: then the buffers are of no use.
  */
 uint32_t undo_record(bytes *image, bytes *journal, const bytes *after, each_change, void *ctx);
 /* Words for either, for the record of this number (from 1); gives REFUSED. */
@@ -233,6 +234,7 @@ int command_start(int argc, char **argv, const options *);
 int command_put(int argc, char **argv, const options *);
 int command_get(int argc, char **argv, const options *);
 int command_cat(int argc, char **argv, const options *);
+int command_mv(int argc, char **argv, const options *);
 int command_rm(int argc, char **argv, const options *);
 int command_mkdir(int argc, char **argv, const options *);
 int command_rmdir(int argc, char **argv, const options *);

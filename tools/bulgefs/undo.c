@@ -9,18 +9,36 @@ static int same_header(const uint8_t *a, const uint8_t *b)
     return !memcmp(a, b, 20) && !memcmp(a + 28, b + 28, BULGEFS_BLOCK_SIZE - 28);
 }
 
-typedef struct { each_change call; void *ctx; int count; } counter;
+typedef struct { each_change call; void *ctx; int appeared, vanished, changed; entry came, went; } counter;
+
+/* All that a move keeps of a file. */
+static int same_file(const entry *a, const entry *b)
+{
+    return !view_is_directory(a) && a->type == b->type && a->user == b->user && a->group == b->group && a->permissions == b->permissions
+        && a->first == b->first && a->size == b->size && a->blocks == b->blocks && a->attribute_block == b->attribute_block
+        && a->attribute_size == b->attribute_size && a->flags == b->flags && a->created == b->created && a->modified == b->modified;
+}
+
+/* A change concerns one path; a move takes a file away from one and brings it to another. */
+static int of_one_change(const counter *c)
+{
+    if (c->changed + c->appeared + c->vanished <= 1) return 1;
+    return !c->changed && c->appeared == 1 && c->vanished == 1 && same_file(&c->came, &c->went);
+}
 
 static int count_change(void *ctx, const change *one)
 {
     counter *c = ctx;
-    if (++c->count > 1) return 1;
+    c->changed += one->kind == CHANGED;
+    if (one->kind == APPEARED) c->appeared++, c->came = *one->after;
+    if (one->kind == VANISHED) c->vanished++, c->went = *one->before;
+    if (!of_one_change(c)) return 1;
     return c->call ? c->call(c->ctx, one) : 0;
 }
 
 uint32_t undo_record(bytes *image, bytes *journal, const bytes *after, each_change call, void *ctx)
 {
-    counter c = { call, ctx, 0 };
+    counter c = { .call = call, .ctx = ctx };
     uint32_t number;
     memcpy(after->bytes, image->bytes, image->length);
     number = bulgefs_undo(image->bytes, image->length, journal->bytes, journal->length).number;
@@ -29,8 +47,7 @@ uint32_t undo_record(bytes *image, bytes *journal, const bytes *after, each_chan
     number = bulgefs_check(image->bytes, image->length);
     if (number) return NOT_OF_VOLUME;
     changes_each(image, after, count_change, &c);
-    /* Every change concerns one path. */
-    return c.count > 1 ? NOT_OF_VOLUME : BULGEFS_OK;
+    return of_one_change(&c) ? BULGEFS_OK : NOT_OF_VOLUME;
 }
 
 int refuse_record(const store *s, uint32_t number, size_t record)

@@ -10,7 +10,7 @@ use reference::store::ROOT;
 use reference::worked::list_of;
 use reference::{
     Append, Change, ClearAttributes, ClearFlags, Create, CreateDirectory, Delete, DeleteDirectory,
-    Put, SetAttributes, Which, Write,
+    Move, Put, Replace, SetAttributes, Shorten, Which, Write,
 };
 
 fn any(rng: &mut Rng, items: Vec<Item>) -> Option<Item> {
@@ -497,6 +497,66 @@ pub fn any_clear_flags(rng: &mut Rng, image: &[u8]) -> Change {
     Change::ClearFlags(ClearFlags { path })
 }
 
+/// Often to an edge of a block, or to the size that the file has.
+pub fn any_shorten(rng: &mut Rng, image: &[u8]) -> Change {
+    let path = any_path(rng, image, Want::File);
+    let size = size_of(image, &path);
+    let to = match rng.below(12) {
+        0 => 0,
+        1 => size,
+        2 => size.saturating_sub(1),
+        3 => size + 1,
+        4 => far_offset(rng, size),
+        5 => size / 512 * 512,
+        6 => (size / 512 * 512).saturating_sub(1),
+        7 => (512 * rng.below(size as usize / 512 + 1) as u64 + 1).min(size),
+        8 => 512 * rng.below(size as usize / 512 + 1) as u64,
+        _ => rng.below(size as usize + 1) as u64,
+    };
+    Change::Shorten(Shorten { path, size: to, time: any_time(rng) })
+}
+
+/// Often as long as the room for it, its own blocks counted, or one byte more.
+pub fn any_replace(rng: &mut Rng, image: &[u8]) -> Change {
+    let path = any_path(rng, image, Want::File);
+    let size = size_of(image, &path) as usize;
+    let most = BLOCK * (free_blocks(image).len() + size.div_ceil(BLOCK));
+    let length = match rng.below(10) {
+        0 => rng.pick(&[4096, 4097, 5000]),
+        1 => 0,
+        2 => size,
+        3 => rng.below(size + 1),
+        4 => most,
+        5 => most + 1,
+        6 => BLOCK * rng.below(9),
+        _ => rng.below(4097),
+    };
+    let data = rng.bytes(length.min(5000));
+    Change::Replace(Replace { path, data, time: any_time(rng) })
+}
+
+/// Mostly to a path that leads to nothing yet, in the file's own directory or in
+/// another one; now and then to a path that is taken, its own among them.
+pub fn any_move(rng: &mut Rng, image: &[u8]) -> Change {
+    let path = any_path(rng, image, Want::File);
+    let to = match rng.below(10) {
+        0 => any_path(rng, image, Want::File),
+        1 => any_path(rng, image, Want::Directory),
+        2 => lost_path(rng, image, Want::File),
+        3 => path.clone(),
+        4 => [&path[..], b"/", &good_name(rng)].concat(),
+        5 | 6 => beside(rng, &path),
+        _ => missing_path(rng, image, Want::File),
+    };
+    Change::Move(Move { path, to })
+}
+
+/// A path with another last name.
+pub fn beside(rng: &mut Rng, path: &[u8]) -> Vec<u8> {
+    let start = path.iter().rposition(|&b| b == b'/').map_or(0, |i| i + 1);
+    [&path[..start], &good_name(rng)].concat()
+}
+
 /// A buffer for attributes of so many blocks.
 pub fn any_attributes_buffer(rng: &mut Rng, blocks: usize) -> Vec<u8> {
     let size = BLOCK * blocks;
@@ -688,7 +748,7 @@ pub fn any_get(rng: &mut Rng, image: &[u8]) -> Get {
 }
 
 /// One of each change.
-pub fn changes(rng: &mut Rng, image: &[u8]) -> [Change; 9] {
+pub fn changes(rng: &mut Rng, image: &[u8]) -> [Change; 12] {
     [
         any_create(rng, image),
         any_write(rng, image),
@@ -698,6 +758,9 @@ pub fn changes(rng: &mut Rng, image: &[u8]) -> [Change; 9] {
         any_set_attributes(rng, image),
         any_clear_attributes(rng, image),
         any_clear_flags(rng, image),
+        any_shorten(rng, image),
+        any_replace(rng, image),
+        any_move(rng, image),
         any_put(rng, image),
     ]
 }

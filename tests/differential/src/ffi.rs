@@ -175,6 +175,22 @@ extern "C" {
                                journal: *mut u8, journal_len: usize,
                                path: *const u8, path_len: usize) -> Changed;
 
+    pub fn bulgefs_shorten(image: *mut u8, image_len: usize,
+                           journal: *mut u8, journal_len: usize,
+                           path: *const u8, path_len: usize,
+                           size: u64, time: u64) -> Changed;
+
+    pub fn bulgefs_replace(image: *mut u8, image_len: usize,
+                           journal: *mut u8, journal_len: usize,
+                           path: *const u8, path_len: usize,
+                           data: *const u8, data_len: usize,
+                           time: u64) -> Changed;
+
+    pub fn bulgefs_move(image: *mut u8, image_len: usize,
+                        journal: *mut u8, journal_len: usize,
+                        path: *const u8, path_len: usize,
+                        to: *const u8, to_len: usize) -> Created;
+
     pub fn bulgefs_append(image: *mut u8, image_len: usize,
                           journal: *mut u8, journal_len: usize,
                           path: *const u8, path_len: usize,

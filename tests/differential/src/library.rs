@@ -188,6 +188,30 @@ impl Pair {
         }
     }
 
+    pub fn shorten(&mut self, path: &Lent, size: u64, time: u64) -> Changed {
+        let (image, image_len, journal, journal_len) = self.lent();
+        unsafe {
+            ffi::bulgefs_shorten(image, image_len, journal, journal_len, path.ptr(), path.len(),
+                                 size, time)
+        }
+    }
+
+    pub fn replace(&mut self, path: &Lent, data: &Lent, time: u64) -> Changed {
+        let (image, image_len, journal, journal_len) = self.lent();
+        unsafe {
+            ffi::bulgefs_replace(image, image_len, journal, journal_len, path.ptr(), path.len(),
+                                 data.ptr(), data.len(), time)
+        }
+    }
+
+    pub fn move_file(&mut self, path: &Lent, to: &Lent) -> Created {
+        let (image, image_len, journal, journal_len) = self.lent();
+        unsafe {
+            ffi::bulgefs_move(image, image_len, journal, journal_len, path.ptr(), path.len(),
+                              to.ptr(), to.len())
+        }
+    }
+
     pub fn append(&mut self, path: &Lent, piece: &Lent, time: u64) -> Changed {
         let (image, image_len, journal, journal_len) = self.lent();
         unsafe {

@@ -450,6 +450,21 @@ impl Tester {
                 (Entry::ClearAttributes, without_slot(pair.clear_attributes(&path)))
             }
             Change::ClearFlags(_) => (Entry::ClearFlags, without_slot(pair.clear_flags(&path))),
+            Change::Shorten(s) => {
+                (Entry::Shorten, without_slot(pair.shorten(&path, s.size, s.time)))
+            }
+            Change::Replace(r) => {
+                let data = self.lend(&r.data);
+                let got = pair.replace(&path, &data, r.time);
+                troubles.push(data.trouble("data", &r.data));
+                (Entry::Replace, without_slot(got))
+            }
+            Change::Move(m) => {
+                let to = self.lend(&m.to);
+                let got = pair.move_file(&path, &to);
+                troubles.push(to.trouble("to", &m.to));
+                (Entry::Move, got)
+            }
             Change::Put(p) => {
                 let (serial, data) = (self.lend(&p.serial), self.lend(&p.data));
                 let home = self.lend(p.directory());

@@ -32,7 +32,8 @@ pub use store::{get, get_in, Put, Revision, Which};
 pub use table::{load_table, store_table};
 pub use volume::{
     format, look_in_place, lookup, read, read_attributes, Change, ClearAttributes, ClearFlags,
-    Create, CreateDirectory, Delete, DeleteDirectory, Found, SetAttributes, Write,
+    Create, CreateDirectory, Delete, DeleteDirectory, Found, Move, Replace, SetAttributes, Shorten,
+    Write,
 };
 pub use write_list::{write_list, Listed};
 

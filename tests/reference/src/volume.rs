@@ -69,6 +69,26 @@ pub struct ClearFlags {
     pub path: Vec<u8>,
 }
 
+#[derive(Clone, Debug, PartialEq, Eq)]
+pub struct Shorten {
+    pub path: Vec<u8>,
+    pub size: u64,
+    pub time: u64,
+}
+
+#[derive(Clone, Debug, PartialEq, Eq)]
+pub struct Replace {
+    pub path: Vec<u8>,
+    pub data: Vec<u8>,
+    pub time: u64,
+}
+
+#[derive(Clone, Debug, PartialEq, Eq)]
+pub struct Move {
+    pub path: Vec<u8>,
+    pub to: Vec<u8>,
+}
+
 /// A call that changes the image.
 #[derive(Clone, Debug, PartialEq, Eq)]
 pub enum Change {
@@ -80,6 +100,9 @@ pub enum Change {
     SetAttributes(SetAttributes),
     ClearAttributes(ClearAttributes),
     ClearFlags(ClearFlags),
+    Shorten(Shorten),
+    Replace(Replace),
+    Move(Move),
     Put(Put),
 }
 
@@ -95,7 +118,18 @@ impl Change {
             Change::SetAttributes(s) => s.path.clone(),
             Change::ClearAttributes(c) => c.path.clone(),
             Change::ClearFlags(c) => c.path.clone(),
+            Change::Shorten(s) => s.path.clone(),
+            Change::Replace(r) => r.path.clone(),
+            Change::Move(m) => m.path.clone(),
             Change::Put(p) => store::path_of(p.directory(), &p.serial),
+        }
+    }
+
+    /// All paths that the change is about: a move has two.
+    pub fn paths(&self) -> Vec<Vec<u8>> {
+        match self {
+            Change::Move(m) => vec![m.path.clone(), m.to.clone()],
+            _ => vec![self.path()],
         }
     }
 }
@@ -104,7 +138,7 @@ impl Change {
 pub struct Changed {
     pub image: Vec<u8>,
     pub named: BTreeSet<usize>,
-    /// The slot that a create used, the revision of a put; 0 for the others.
+    /// The slot that a create or a move used, the revision of a put; 0 for the others.
     pub slot: u32,
 }
 
@@ -225,6 +259,9 @@ pub fn change(image: &[u8], change: &Change) -> Result<Changed, Refusal> {
         Change::SetAttributes(s) => set_attributes(image, s),
         Change::ClearAttributes(c) => clear_attributes(image, c),
         Change::ClearFlags(c) => clear_flags(image, c),
+        Change::Shorten(s) => shorten(image, s),
+        Change::Replace(r) => replace(image, r),
+        Change::Move(m) => move_file(image, m),
         Change::Put(p) => store::put(image, p),
     }
 }
@@ -332,10 +369,7 @@ pub fn write_at_most(image: &[u8], w: &Write, most: usize) -> Result<Changed, Re
         after[b * BLOCK + (offset + i) % BLOCK] = byte;
         named.insert(b);
     }
-    put_number(&mut after, file.at + slot::FIRST, blocks.first().map_or(0, |&b| b as u32));
-    put_number(&mut after, file.at + slot::SIZE, size as u32);
-    put_number(&mut after, file.at + slot::BLOCKS, blocks.len() as u32);
-    put_time(&mut after, file.at + slot::MODIFIED, w.time);
+    put_extent(&mut after, &file, &blocks, size, w.time);
     recount(&mut after);
     if !taken.is_empty() {
         named.insert(0);
@@ -395,6 +429,77 @@ fn clear_flags(image: &[u8], c: &ClearFlags) -> Result<Changed, Refusal> {
     let mut after = image.to_vec();
     put_number(&mut after, file.at + slot::FLAGS, 0);
     Ok(Changed { image: after, named: BTreeSet::from([file.at / BLOCK]), slot: 0 })
+}
+
+fn shorten(image: &[u8], s: &Shorten) -> Result<Changed, Refusal> {
+    let file = find_file(image, &s.path)?;
+    if s.size > u64::from(file.size) {
+        return Err(12);
+    }
+    Ok(shortened(image, &file, s.size as usize, s.time))
+}
+
+/// The image with a file cut to a size that is not above its own.
+fn shortened(image: &[u8], file: &Entry, size: usize, time: u64) -> Changed {
+    let blocks = file.chain(image);
+    let (kept, freed) = blocks.split_at(size.div_ceil(BLOCK));
+    let mut after = image.to_vec();
+    let mut named = BTreeSet::from([file.at / BLOCK]);
+    free(&mut after, freed, &mut named);
+    link(&mut after, kept);
+    if let Some(&last) = kept.last() {
+        if !freed.is_empty() {
+            named.insert(table_block_of(last));
+        }
+        if size < file.size as usize && size % BLOCK != 0 {
+            after[last * BLOCK + size % BLOCK..(last + 1) * BLOCK].fill(0);
+            named.insert(last);
+        }
+    }
+    put_extent(&mut after, file, kept, size, time);
+    Changed { image: after, named, slot: 0 }
+}
+
+/// What a shorten to the smaller size and a write of the bytes at 0 leave.
+fn replace(image: &[u8], r: &Replace) -> Result<Changed, Refusal> {
+    let file = place(&r.path, Want::File, r.data.len() <= MAX_DATA)?.find(image, Want::File)?;
+    let size = r.data.len().min(file.size as usize);
+    let cut = shortened(image, &file, size, r.time);
+    let written = Write { path: r.path.clone(), offset: 0, data: r.data.clone(), time: r.time };
+    let mut changed = write(&cut.image, &written)?;
+    changed.named.extend(cut.named);
+    Ok(changed)
+}
+
+/// The first block, the sizes and the modified time of a file.
+fn put_extent(image: &mut [u8], file: &Entry, blocks: &[usize], size: usize, time: u64) {
+    put_number(image, file.at + slot::FIRST, blocks.first().map_or(0, |&b| b as u32));
+    put_number(image, file.at + slot::SIZE, size as u32);
+    put_number(image, file.at + slot::BLOCKS, blocks.len() as u32);
+    put_time(image, file.at + slot::MODIFIED, time);
+}
+
+/// The entry goes, with the new name, to the lowest slot of the directory of
+/// `to` that is free or is its own.
+fn move_file(image: &[u8], m: &Move) -> Result<Changed, Refusal> {
+    let from = place(&m.path, Want::File, parts(&m.to).is_some())?;
+    let to = place(&m.to, Want::File, true)?;
+    let file = from.find(image, Want::File)?;
+    let home = to.home(image)?;
+    if named(image, home, to.name).is_some() {
+        return Err(11);
+    }
+    let offsets = slot_offsets(image, home);
+    let open = |at: usize| at == file.at || image[at + slot::TYPE] == slot::TYPE_FREE;
+    let slot = (1..offsets.len() - 1).find(|&i| open(offsets[i])).ok_or(13u32)?;
+    let at = offsets[slot];
+
+    let mut after = image.to_vec();
+    after[file.at..file.at + SLOT].fill(0);
+    put(&mut after, at, &image[file.at..file.at + SLOT]);
+    put(&mut after, at + slot::NAME, &name_field(to.name));
+    let named = BTreeSet::from([file.at / BLOCK, at / BLOCK]);
+    Ok(Changed { image: after, named, slot: slot as u32 })
 }
 
 /// The two attribute fields of a file.

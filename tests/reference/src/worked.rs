@@ -3,7 +3,7 @@
 
 use crate::{
     format, start, Append, Change, ClearAttributes, ClearFlags, Create, CreateDirectory, Delete,
-    DeleteDirectory, Put, Refusal, SetAttributes, State, Write,
+    DeleteDirectory, Move, Put, Refusal, Replace, SetAttributes, Shorten, State, Write,
 };
 
 /// A volume of `n` blocks, `d` of them for the root.
@@ -77,6 +77,18 @@ pub fn clear_attributes(path: &[u8]) -> Change {
 
 pub fn clear_flags(path: &[u8]) -> Change {
     Change::ClearFlags(ClearFlags { path: path.to_vec() })
+}
+
+pub fn shorten(path: &[u8], size: u64) -> Change {
+    Change::Shorten(Shorten { path: path.to_vec(), size, time: 9 })
+}
+
+pub fn replace(path: &[u8], data: &[u8]) -> Change {
+    Change::Replace(Replace { path: path.to_vec(), data: data.to_vec(), time: 9 })
+}
+
+pub fn move_file(path: &[u8], to: &[u8]) -> Change {
+    Change::Move(Move { path: path.to_vec(), to: to.to_vec() })
 }
 
 pub fn put(serial: &[u8], data: &[u8]) -> Change {

@@ -78,10 +78,31 @@ fn list() -> Vec<Change> {
         clear_flags(b"/A"),
         clear_flags(b"/B"),
         clear_flags(b"/D/F"),
+        shorten(b"/A", 30),
+        shorten(b"/B", 9),
+        shorten(b"/D/F", 0),
+        replace(b"/A", &[b'v'; 700]),
+        replace(b"/B", b"300"),
+        replace(b"/D/F", b""),
+        move_file(b"/A", b"/D/A"),
+        move_file(b"/B", b"/M"),
+        move_file(b"/D/F", b"/D/N"),
+        move_file(b"/D/F", b"/D/E/F"),
         put(b"N", b"baud=300"),
         put(b"SN4471", &[b'u'; 200]),
         put(b"SN4472", b""),
     ]
+}
+
+/// Every path of one change with every path of another.
+fn pairs(first: &Change, second: &Change) -> Vec<(Vec<u8>, Vec<u8>)> {
+    let with = |path: Vec<u8>| second.paths().into_iter().map(move |other| (path.clone(), other));
+    first.paths().into_iter().flat_map(with).collect()
+}
+
+/// Whether two changes have no path in common.
+fn apart(first: &Change, second: &Change) -> bool {
+    pairs(first, second).iter().all(|(path, other)| path != other)
 }
 
 /// Compares all pairs on an image. Gives the kinds of those that were accepted
@@ -93,12 +114,14 @@ fn compare(state: &State) -> (BTreeSet<(usize, usize)>, usize) {
     let kind = |change: &Change| kinds.iter().position(|k| *k == discriminant(change)).unwrap();
     let (mut met, mut moved) = (BTreeSet::new(), 0);
     for first in &list {
-        for second in list.iter().filter(|second| second.path() != first.path()) {
+        for second in list.iter().filter(|second| apart(first, second)) {
             let orders = (both(state, first, second), both(state, second, first));
             let (Some(one), Some(other)) = orders else { continue };
             let unlike = difference(&views(&one.image), &views(&other.image));
             assert_eq!(unlike, None, "{first:?}, {second:?}");
-            assert!(!is_inside(&first.path(), &second.path()), "{first:?}, {second:?}");
+            for (path, other) in pairs(first, second) {
+                assert!(!is_inside(&path, &other), "{first:?}, {second:?}");
+            }
             met.insert((kind(first), kind(second)));
             moved += usize::from(one.image != other.image);
         }
@@ -109,7 +132,7 @@ fn compare(state: &State) -> (BTreeSet<(usize, usize)>, usize) {
 #[test]
 fn every_pair_of_kinds() {
     let (met, moved) = compare(&filled(64));
-    assert_eq!(met.len(), 81);
+    assert_eq!(met.len(), 144);
     // Slots and block numbers may differ, and do.
     assert!(moved > 20, "{moved}");
 }

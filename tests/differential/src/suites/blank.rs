@@ -11,7 +11,7 @@ use crate::tester::Tester;
 use crate::tree::{files, folders, Item};
 use reference::layout::*;
 use reference::worked::{
-    clear_attributes, create, delete, delete_directory, set_attributes, write,
+    clear_attributes, create, delete, delete_directory, replace, set_attributes, shorten, write,
 };
 use reference::{Change, State};
 use std::collections::HashSet;
@@ -27,6 +27,14 @@ pub fn run(rng: &mut Rng, _: u64, t: &mut Tester) {
         if let Some((path, image)) = a_marked_file(rng, &image) {
             t.report.about(format!("n {n}, delete of a file"));
             blanked(t, image, &delete(&path));
+        }
+        if let Some((path, image, size)) = a_marked_end(rng, &image) {
+            t.report.about(format!("n {n}, a file cut to {size} bytes"));
+            let change = match rng.below(2) {
+                0 if size <= MAX_DATA => replace(&path, &rng.bytes(size)),
+                _ => shorten(&path, size as u64),
+            };
+            blanked(t, image, &change);
         }
         if let Some((path, image)) = a_marked_folder(rng, &image) {
             t.report.about(format!("n {n}, delete of a folder"));
@@ -89,6 +97,19 @@ fn a_marked_file(rng: &mut Rng, image: &[u8]) -> Option<(Vec<u8>, Marked)> {
     let file = any(rng, files(image).into_iter().filter(with_blocks).collect())?;
     let blocks = [file.chain(image), file.attributes(image)].concat();
     Some((file.path.clone(), mark(rng, image, &places(&blocks))))
+}
+
+/// A file with bytes, and a size below its own: what its blocks hold from there on
+/// is secret, also behind its end.
+fn a_marked_end(rng: &mut Rng, image: &[u8]) -> Option<(Vec<u8>, Marked, usize)> {
+    let file = any(rng, files(image).into_iter().filter(|file| file.size > 0).collect())?;
+    let size = match rng.below(4) {
+        0 => BLOCK * (rng.below(file.size as usize) / BLOCK),
+        _ => rng.below(file.size as usize),
+    };
+    let mut places = places(&file.chain(image)[size / BLOCK..]);
+    places[0].start += size % BLOCK;
+    Some((file.path.clone(), mark(rng, image, &places), size))
 }
 
 /// A file's attributes, and how many blocks they have.

@@ -55,6 +55,25 @@ pub fn numbers(_: &mut Rng, _: u64, t: &mut Tester) {
         (clear_attributes(b"/A"), 0),
         (clear_flags(b"/A"), 0),
         (clear_flags(b"/B"), 10),
+        (replace(b"/SN1", b"300"), 0),
+        (replace(b"/SN1", &[2; 4096]), 0),
+        (replace(b"/SN1", &[2; 4097]), 9),
+        (replace(b"/SN10", b""), 10),
+        (replace(b"/A", &[2; 4096]), 14),
+        (shorten(b"/SN1", 4097), 12),
+        (shorten(b"/SN1", 513), 0),
+        (shorten(b"/SN1", 512), 0),
+        (shorten(b"/SN1", 1), 0),
+        (shorten(b"/SN1", 1), 0),
+        (shorten(b"/SN10", 0), 10),
+        (move_file(b"/SN1", b"/SN1"), 11),
+        (move_file(b"/SN1", b"/A"), 11),
+        (move_file(b"/SN1", b"/A/B"), 10),
+        (move_file(b"/SN10", b"/SN1"), 10),
+        (move_file(b"/SN1", b"/SN10"), 0),
+        (move_file(b"/SN10", b"/SN1"), 0),
+        (replace(b"/SN1", &[]), 0),
+        (replace(b"/SN1", &[]), 0),
         (set_attributes(b"/A", &[b'p'; 512]), 0),
         (delete(b"/A"), 0),
     ] {
@@ -110,6 +129,9 @@ fn every_journaled_call(t: &mut Tester, state: &State) {
     t.change(state, &set_attributes(&path, &[9; 1024]));
     t.change(state, &clear_attributes(&path));
     t.change(state, &clear_flags(&path));
+    t.change(state, &shorten(&path, 0));
+    t.change(state, &replace(&path, b"bytes"));
+    t.change(state, &move_file(&path, b"/moved"));
     t.undo(state);
 }
 

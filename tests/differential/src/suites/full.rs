@@ -1,5 +1,6 @@
 //! Volumes of several table blocks, some of them with no free entry: writes,
-//! folders, sets of attributes and puts take the lowest free blocks that are left.
+//! replaces, folders, sets of attributes and puts take the lowest free blocks that
+//! are left. Then all is undone.
 
 use crate::images::{self, Fill};
 use crate::journals;
@@ -7,7 +8,7 @@ use crate::rng::Rng;
 use crate::tester::Tester;
 use crate::tree::root;
 use reference::layout::*;
-use reference::worked::{create_directory, delete, put, set_attributes, write};
+use reference::worked::{create_directory, delete, put, replace, set_attributes, shorten, write};
 use reference::{Change, State};
 
 const NAMES: [&[u8]; 3] = [b"holds all", b"has two", b"is new"];
@@ -17,16 +18,26 @@ pub fn run(rng: &mut Rng, _: u64, t: &mut Tester) {
     let n = 128 * rng.between(1, 6) + rng.pick(&[0, 1, 2, 127, 128]);
     let image = image(rng, n);
     let journal = reference::start(journals::room_for_all(&image) + 200_000).unwrap();
-    let mut state = State { image, journal };
+    let first = State { image, journal };
+    let mut state = first.clone();
     let mut pair = t.lend_pair(&state);
+    let mut standing = 0;
     for step in 0..12 {
         t.report.about(format!("n {n}, {} free, step {step}", free_blocks(&state.image).len()));
         let change = any_change(rng, &state.image);
         t.change_in(&mut pair, &state, &change);
         if let Ok(applied) = reference::apply(&state, &change) {
             state = applied.state;
+            standing += 1;
         }
     }
+    t.report.about(format!("n {n}, undo of all that stands"));
+    for _ in 0..standing {
+        t.undo_in(&mut pair, &state);
+        state = reference::undo(&state).expect("a change stands").state;
+    }
+    let back = pair.troubles(&first).into_iter().flatten().next();
+    t.report.agree("the start again, byte for byte", back, None);
 }
 
 /// Free blocks of some table blocks only, few or all of each, the others in the
@@ -59,8 +70,12 @@ fn any_change(rng: &mut Rng, image: &[u8]) -> Change {
     let path = rng.pick(&PATHS);
     let size = crate::arguments::size_of(image, path);
     let len = rng.pick(&[1, 512, 513, 4096, 4096]);
-    match rng.below(9) {
+    match rng.below(13) {
         0 => delete(path),
+        9 => shorten(path, rng.below(size as usize + 2) as u64),
+        10 => replace(path, &rng.bytes(len)),
+        11 => replace(path, &rng.bytes((size as usize).min(4096))),
+        12 => replace(path, &rng.bytes(((size as usize).min(4096) + len).min(4096))),
         8 => put(b"SN4471", &vec![7; rng.below(201)]),
         1 => create_directory(
             format!("/folder {}", rng.below(3)).as_bytes(),

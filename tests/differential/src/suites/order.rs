@@ -11,8 +11,8 @@ use crate::{damage, journals};
 use reference::layout::*;
 use reference::path::Want;
 use reference::{
-    Append, Change, ClearAttributes, ClearFlags, Delete, DeleteDirectory, SetAttributes, State,
-    Write,
+    Append, Change, ClearAttributes, ClearFlags, Delete, DeleteDirectory, Move, Replace,
+    SetAttributes, Shorten, State, Write,
 };
 
 pub fn all(rng: &mut Rng, _: u64, t: &mut Tester) {
@@ -26,6 +26,9 @@ pub fn all(rng: &mut Rng, _: u64, t: &mut Tester) {
     directory_deletes(rng, t);
     sets(rng, t);
     clears(rng, t);
+    shortens(rng, t);
+    replaces(rng, t);
+    moves(rng, t);
     undos(rng, t);
     salvages(rng, t);
 }
@@ -355,6 +358,103 @@ fn sets(rng: &mut Rng, t: &mut Tester) {
         let stage = maybe_damage(rng, &reasons, &mut image);
         compare(t, &State { image, journal }, &change, lowest(&reasons, stage));
     }
+}
+
+fn shortens(rng: &mut Rng, t: &mut Tester) {
+    for reasons in subsets(&[1, 8, 9, 17, 10, 12, 15]) {
+        t.report.about(format!("shorten, reasons {reasons:?}"));
+        let mut image = image_for(rng, &reasons);
+        let journal = journal_for(rng, &reasons, &image, 1);
+        let path = path_for(rng, &reasons, &image, Want::File, reasons.contains(&9));
+        let size = size_of(&image, &path);
+        let far = reasons.contains(&12);
+        let to = if far { far_offset(rng, size) } else { rng.below(size as usize + 1) as u64 };
+        let change = Change::Shorten(Shorten { path, size: to, time: any_time(rng) });
+        let stage = maybe_damage(rng, &reasons, &mut image);
+        compare(t, &State { image, journal }, &change, lowest(&reasons, stage));
+    }
+}
+
+fn replaces(rng: &mut Rng, t: &mut Tester) {
+    for reasons in subsets(&[1, 8, 9, 17, 10, 14, 15]) {
+        t.report.about(format!("replace, reasons {reasons:?}"));
+        let (mut image, path, data) = replace_for(rng, &reasons);
+        let journal = journal_for(rng, &reasons, &image, 1);
+        let change = Change::Replace(Replace { path, data, time: any_time(rng) });
+        let stage = maybe_damage(rng, &reasons, &mut image);
+        compare(t, &State { image, journal }, &change, lowest(&reasons, stage));
+    }
+}
+
+/// An image, and the path and the data of a replace. With 14 the free blocks and
+/// those of the file are fewer than needed.
+fn replace_for(rng: &mut Rng, reasons: &[u32]) -> (Vec<u8>, Vec<u8>, Vec<u8>) {
+    let big = reasons.contains(&9) && rng.once_in(2);
+    let bad_path = reasons.contains(&9) && !big;
+    loop {
+        let image = image_for(rng, reasons);
+        let path = path_for(rng, reasons, &image, Want::File, bad_path);
+        let own = (size_of(&image, &path) as usize).div_ceil(BLOCK);
+        let most = free_blocks(&image).len() + own;
+        let length = match (big, reasons.contains(&14)) {
+            (true, _) => rng.between(4097, 5000),
+            (_, true) if most >= 8 => continue,
+            (_, true) => rng.between(BLOCK * most + 1, 4096),
+            _ => rng.below(4097),
+        };
+        return (image, path, rng.bytes(length));
+    }
+}
+
+fn moves(rng: &mut Rng, t: &mut Tester) {
+    for reasons in subsets(&[1, 8, 9, 17, 10, 11, 13, 15]) {
+        t.report.about(format!("move, reasons {reasons:?}"));
+        let (mut image, path, to) = move_for(rng, &reasons);
+        let journal = journal_for(rng, &reasons, &image, 1);
+        let change = Change::Move(Move { path, to });
+        let stage = maybe_damage(rng, &reasons, &mut image);
+        compare(t, &State { image, journal }, &change, lowest(&reasons, stage));
+    }
+}
+
+/// An image, and the two paths of a move. A bad path, too many directories and
+/// what leads nowhere are in the first path or in the second.
+fn move_for(rng: &mut Rng, reasons: &[u32]) -> (Vec<u8>, Vec<u8>, Vec<u8>) {
+    let bad = reasons.contains(&9);
+    let first = rng.once_in(2);
+    loop {
+        let image = image_for(rng, reasons);
+        let good = any_file(rng, &image).expect("the image has a file").path;
+        let path = if first { path_for(rng, reasons, &image, Want::File, bad) } else { good };
+        let lost = !first && reasons.iter().any(|reason| [9, 17, 10].contains(reason));
+        let to = match (lost, reasons.contains(&11)) {
+            (true, _) if bad => Some(bad_path(rng)),
+            (true, _) if reasons.contains(&17) => Some(deep_path(rng, &image, Want::File)),
+            (true, _) => Some(through_nothing_or_file(rng, &image, Want::File)),
+            (_, true) if !reasons.contains(&10) && rng.once_in(3) => Some(path.clone()),
+            (_, true) => Some(rng.pick(&items(&image)).path),
+            _ => open_path(rng, reasons, &image, &path),
+        };
+        if let Some(to) = to {
+            return (image, path, to);
+        }
+    }
+}
+
+/// A new path in a directory that a file can be moved to; with 13, in a full one
+/// that is not its own. There may be none.
+fn open_path(rng: &mut Rng, reasons: &[u32], image: &[u8], path: &[u8]) -> Option<Vec<u8>> {
+    let full = reasons.contains(&13);
+    let mut homes = tree(image);
+    homes.retain(|home| {
+        let own = home.entries.iter().any(|entry| home.path_of(&entry.name) == path);
+        (own || has_room(image, home)) != full
+    });
+    if homes.is_empty() {
+        return None;
+    }
+    let home = rng.pick(&homes);
+    Some(home.path_of(&missing_name(rng, image, &home)))
 }
 
 /// An image, and the path and the data of a set. With 14 the free blocks and

@@ -19,7 +19,8 @@ pub fn run(rng: &mut Rng, _: u64, t: &mut Tester) {
     let image = images::of(rng, n);
     for _ in 0..6 {
         let (first, second) = two_changes(rng, &image);
-        if first.path() == second.path() {
+        let paths: Vec<Vec<u8>> = first.paths().into_iter().chain(second.paths()).collect();
+        if first.paths().iter().any(|path| second.paths().contains(path)) {
             continue;
         }
         let journal = if rng.once_in(6) {
@@ -32,10 +33,13 @@ pub fn run(rng: &mut Rng, _: u64, t: &mut Tester) {
         let one = both(t, &state, &first, &second);
         let other = both(t, &state, &second, &first);
         if let (Some(one), Some(other)) = (one, other) {
-            let (path, other_path) = (first.path(), second.path());
-            let inside = is_inside(&path, &other_path) || is_inside(&other_path, &path);
+            let inside = |path: &Vec<u8>, other: &Vec<u8>| {
+                is_inside(path, other) || is_inside(other, path)
+            };
+            let (these, those) = paths.split_at(first.paths().len());
+            let inside = these.iter().any(|path| those.iter().any(|other| inside(path, other)));
             t.report.agree("accepted in both orders: one path inside the other", inside, false);
-            same(t, &one, &other, [&path, &other_path]);
+            same(t, &one, &other, &paths);
         }
     }
 }
@@ -65,7 +69,7 @@ fn two_changes(rng: &mut Rng, image: &[u8]) -> (Change, Change) {
 
 /// A change of any kind, tried again a few times where it is refused.
 fn any_accepted(rng: &mut Rng, image: &[u8]) -> Change {
-    let kind = rng.below(9);
+    let kind = rng.below(12);
     let mut change = changes(rng, image)[kind].clone();
     for _ in 0..8 {
         if reference::volume::change(image, &change).is_ok() {
@@ -88,12 +92,11 @@ fn both(t: &mut Tester, state: &State, first: &Change, second: &Change) -> Optio
 
 /// Two images show the same: all that is in them, read by the reference, and
 /// what the library answers at every path and at those that were changed.
-fn same(t: &mut Tester, one: &Pair, other: &Pair, changed: [&[u8]; 2]) {
+fn same(t: &mut Tester, one: &Pair, other: &Pair, changed: &[Vec<u8>]) {
     let shown = views(one.image.content());
     let unlike = difference(&shown, &views(other.image.content()));
     t.report.agree("either order", unlike, None);
-    let changed = changed.map(<[u8]>::to_vec);
-    let paths: BTreeSet<&Vec<u8>> = shown.paths.keys().chain(&changed).collect();
+    let paths: BTreeSet<&Vec<u8>> = shown.paths.keys().chain(changed).collect();
     for path in paths {
         let equal = answers(&one.image, path) == answers(&other.image, path);
         t.report.agree("answers after either order", equal, true);

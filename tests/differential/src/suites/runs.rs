@@ -136,9 +136,13 @@ fn any_call(rng: &mut Rng, replay: &Replay, mix: &Mix) -> Call {
     if pick < mix.create {
         Call::Change(any_create(rng, image))
     } else if pick < mix.create + mix.write {
-        Call::Change(any_write(rng, image))
+        Call::Change(match rng.below(6) {
+            0 => any_shorten(rng, image),
+            1 | 2 => any_replace(rng, image),
+            _ => any_write(rng, image),
+        })
     } else if pick < folders {
-        Call::Change(any_delete(rng, image))
+        Call::Change(if rng.once_in(3) { any_move(rng, image) } else { any_delete(rng, image) })
     } else if pick < attributes {
         let made = rng.below(5) < 3;
         Call::Change(if made {
@@ -200,6 +204,9 @@ fn brief(call: &Call) -> String {
         Call::Change(SetAttributes(s)) => format!("set of {} bytes of attributes", s.data.len()),
         Call::Change(ClearAttributes(_)) => "clear of attributes".into(),
         Call::Change(ClearFlags(_)) => "clear of flags".into(),
+        Call::Change(Shorten(s)) => format!("shorten to {}", s.size),
+        Call::Change(Replace(r)) => format!("replace by {} bytes", r.data.len()),
+        Call::Change(Move(m)) => format!("move to a path of {} bytes", m.to.len()),
         Call::Change(Put(p)) => {
             format!("put of {} bytes in {}", p.data.len(), p.directory().escape_ascii())
         }

@@ -157,7 +157,7 @@ fn spoil(rng: &mut Rng, script: &mut Script) {
     let (any, last) = (rng.pick(&script.items), script.items[script.items.len() - 1]);
     let end = script.bytes.len();
     match rng.below(5) {
-        0 => script.bytes[any] = rng.pick(&[0, 24, 255]),
+        0 => script.bytes[any] = rng.pick(&[0, 29, 255]),
         1 => script.bytes.truncate(rng.between(last + 1, end - 1)),
         2 => script.bytes.extend(vec![8; rng.between(1, HEADER - 1)]),
         3 => put_number(&mut script.bytes, last + PATH_LENGTH, (end - last) as u32),
@@ -228,6 +228,16 @@ fn item_of(rng: &mut Rng, call: &Call) -> Vec<u8> {
             header[9..17].copy_from_slice(&u64::from(*slot).to_be_bytes());
             (17, path, buffer)
         }
+        Call::Change(Change::Shorten(s)) => {
+            header[9..17].copy_from_slice(&s.size.to_be_bytes());
+            header[17..25].copy_from_slice(&s.time.to_be_bytes());
+            (26, &s.path, &[])
+        }
+        Call::Change(Change::Replace(r)) => {
+            header[17..25].copy_from_slice(&r.time.to_be_bytes());
+            (27, &r.path, &r.data)
+        }
+        Call::Change(Change::Move(m)) => (28, &m.path, &m.to),
         Call::Change(Change::Put(p)) => {
             header[17..25].copy_from_slice(&p.time.to_be_bytes());
             let op = if p.directory.is_some() { 21 } else { 18 };

@@ -35,6 +35,9 @@ pub fn levels(rng: &mut Rng, round: u64, t: &mut Tester) {
         make(t, &mut state, &set_attributes(path, &[1; 512]), 10);
         make(t, &mut state, &clear_attributes(path), 10);
         make(t, &mut state, &clear_flags(path), 10);
+        make(t, &mut state, &shorten(path, 0), 10);
+        make(t, &mut state, &replace(path, b"no file"), 10);
+        make(t, &mut state, &move_file(path, b"/no file"), 10);
         make(t, &mut state, &delete_directory(&file_in(path)), if deepest { 17 } else { 10 });
         make(t, &mut state, &delete_directory(path), 18);
     }
@@ -76,6 +79,9 @@ fn past_the_last(t: &mut Tester, state: &mut State, last: &[u8], depth: usize) {
         make(t, state, &set_attributes(&path, &[1; 4608]), 20);
         make(t, state, &clear_attributes(&path), file);
         make(t, state, &clear_flags(&path), file);
+        make(t, state, &shorten(&path, 0), file);
+        make(t, state, &replace(&path, b"z"), file);
+        make(t, state, &move_file(&path, b"/z"), file);
         make(t, state, &delete_directory(&path), folder);
         if more > 1 {
             make(t, state, &create(&path), file);
