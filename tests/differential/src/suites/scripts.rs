@@ -157,7 +157,7 @@ fn spoil(rng: &mut Rng, script: &mut Script) {
     let (any, last) = (rng.pick(&script.items), script.items[script.items.len() - 1]);
     let end = script.bytes.len();
     match rng.below(5) {
-        0 => script.bytes[any] = rng.pick(&[0, 24, 255]),
+        0 => script.bytes[any] = rng.pick(&[0, 26, 255]),
         1 => script.bytes.truncate(rng.between(last + 1, end - 1)),
         2 => script.bytes.extend(vec![8; rng.between(1, HEADER - 1)]),
         3 => put_number(&mut script.bytes, last + PATH_LENGTH, (end - last) as u32),
@@ -244,6 +244,11 @@ fn item_of(rng: &mut Rng, call: &Call) -> Vec<u8> {
             let op = if directory.is_some() { op + 3 } else { op };
             (op, placed.as_deref().unwrap_or(serial), buffer)
         }
+        Call::JournalInfo => (24, &[], &[]),
+        Call::UndoTo(mark) => {
+            put_number(&mut header, 13, *mark);
+            (25, &[], &[])
+        }
         Call::Append(_) => unreachable!("a script has no op for a piece"),
     };
     header[0] = op;
@@ -292,7 +297,11 @@ fn answer_size(call: &Call) -> usize {
 fn encoded(answer: &Answer) -> Vec<u8> {
     let (numbers, payload) = match answer {
         Answer::Changed { number, slot, record } => ([*number, *slot, *record, 0], vec![]),
-        Answer::Listed { number, done } => ([*number, *done, 0, 0], vec![]),
+        Answer::Listed { number, done } | Answer::Backed { number, done } => {
+            ([*number, *done, 0, 0], vec![])
+        }
+        Answer::Journal(Ok(j)) => ([0, j.used, j.records, j.last], vec![]),
+        Answer::Journal(Err(number)) => ([*number, 0, 0, 0], vec![]),
         Answer::Checked(number) => ([*number, 0, 0, 0], vec![]),
         Answer::Found(Ok(f)) => ([0, f.slot, f.size, f.blocks], vec![]),
         Answer::Found(Err(number)) => ([*number, 0, 0, 0], vec![]),
