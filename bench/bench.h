@@ -21,7 +21,10 @@ typedef struct {
     size_t len;
 } named;
 
-/* Times 900 settings written by lists, by single calls and by one transaction; prints a table. */
+/*
+ * Times 900 settings written by lists, by single calls and by one transaction, and
+ * taken back by one call, by single undos and by a rollback; prints two tables.
+ */
 void bench_lists(int samples);
 
 /* Times puts and gets of settings beside writes and reads of the same files; prints a table. */
@@ -49,6 +52,10 @@ void sqlite_calls(const uint8_t *path, size_t path_len, const uint8_t *data, siz
 /* Makes every content empty; puts the data as the content of every path, in one transaction. */
 void sqlite_empty(void);
 void sqlite_transaction(const named *paths, size_t count, const uint8_t *data, size_t len);
+
+/* The same contents in a transaction that stays open; its rollback. */
+void sqlite_updates(const named *paths, size_t count, const uint8_t *data, size_t len);
+void sqlite_rollback(void);
 
 /*
  * Puts settings in a savepoint: a row with the next revision, and rows of more than

@@ -26,6 +26,8 @@
 #pragma weak bulgefs_put_settings
 #pragma weak bulgefs_get_latest_settings
 #pragma weak bulgefs_salvage
+#pragma weak bulgefs_journal_info
+#pragma weak bulgefs_undo_to
 
 enum { MAX_FILES = 252, JOURNAL = 65536, SIZE = 1000, SMALL = 100, SETTINGS = 60 };
 
@@ -33,7 +35,7 @@ enum {
     CHECK, LOOKUP, READ, READ_NEXT, LOOK_IN_PLACE, INFO, NEXT_ENTRY, LOAD_TABLE, STORE_TABLE,
     WRITE, UNDO, WRITE_GROWS, UNDO_GROWS, APPEND, LIST, DELETE, UNDO_DELETE, CREATE, CREATE_DIRECTORY,
     DELETE_DIRECTORY, SET_ATTRIBUTES, READ_ATTRIBUTES, CLEAR_ATTRIBUTES, CLEAR_FLAGS, FIRST_PUT, PUT,
-    GET_LATEST, SALVAGE, KINDS
+    GET_LATEST, SALVAGE, JOURNAL_INFO, UNDO_TO, KINDS
 };
 
 static const char *const names[KINDS] = {
@@ -42,7 +44,8 @@ static const char *const names[KINDS] = {
     "write that takes a block", "undo of it, a block back", "append that takes a block", "list of one write",
     "delete of two blocks", "undo of it, two blocks back", "create", "create directory",
     "delete directory", "set attributes", "read attributes", "clear attributes", "clear flags",
-    "first put of settings", "put of settings", "get of the latest", "salvage of a sound volume"};
+    "first put of settings", "put of settings", "get of the latest", "salvage of a sound volume",
+    "journal info", "undo to the mark before a change in place"};
 
 static uint8_t image[BULGEFS_IMAGE_SIZE(BULGEFS_MAX_BLOCKS)], journal[JOURNAL];
 static uint8_t data[SIZE], buffer[4096], report[BULGEFS_MAX_REPORT];
@@ -118,6 +121,8 @@ static void time_looks(uint32_t file, const uint8_t *path, size_t len)
     TIMED(STORE_TABLE, bulgefs_store_table(IMAGE, numbers, blocks));
     if (bulgefs_salvage)
         TIMED(SALVAGE, bulgefs_salvage(IMAGE, report, sizeof report));
+    if (bulgefs_journal_info)
+        TIMED(JOURNAL_INFO, bulgefs_journal_info(BOTH).number);
 }
 
 /* A list of one item: its length, time, offset, path length, path and data. */
@@ -150,6 +155,10 @@ static void time_changes(uint32_t file, const uint8_t *path, size_t len)
     if (bulgefs_write_list) {
         TIMED(LIST, bulgefs_write_list(BOTH, list, all).number);
         BACK(UNDO);
+    }
+    if (bulgefs_undo_to) {
+        require(bulgefs_write(BOTH, path, len, 0, data, SMALL, 2).number, "write");
+        TIMED(UNDO_TO, bulgefs_undo_to(BOTH, BULGEFS_FIRST_MARK).number);
     }
     TIMED(DELETE, bulgefs_delete(BOTH, path, len).number);
     BACK(UNDO_DELETE);

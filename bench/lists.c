@@ -2,8 +2,10 @@
  * Times 900 settings of 60 bytes, each the first write of its file, a hundred
  * files in each of 9 folders: by lists, by a call for each, and in SQLite in one
  * transaction.  Library and baseline must leave the same image and journal in
- * all four ways.  It counts processor time, which other work on the machine
- * changes little; the calls are long enough for that clock.
+ * all four ways.  Then the 900 changes are taken back: by one undo to a mark, by
+ * an undo for each, and in SQLite by the rollback of a transaction.  It counts
+ * processor time, which other work on the machine changes little; the calls are
+ * long enough for that clock.
  */
 #define _POSIX_C_SOURCE 199309L
 
@@ -18,6 +20,7 @@
 bulgefs_changed baseline_write(uint8_t *, size_t, uint8_t *, size_t, const uint8_t *, size_t,
                                uint64_t, const uint8_t *, size_t, uint64_t);
 bulgefs_listed baseline_write_list(uint8_t *, size_t, uint8_t *, size_t, const uint8_t *, size_t);
+bulgefs_changed baseline_undo(uint8_t *, size_t, uint8_t *, size_t);
 
 enum { SETTINGS = 900, FOLDERS = 9, IN_FOLDER = SETTINGS / FOLDERS, FOLDER_BLOCKS = 26 };
 enum { ROOT_BLOCKS = 3, EACH = 60, MOST_LISTS = 4, MAX_SAMPLES = 9, TIME = 3 };
@@ -28,6 +31,7 @@ enum { COUNTS = sizeof block_counts / sizeof block_counts[0] };
 enum { JOURNAL = BULGEFS_JOURNAL_SIZE(SETTINGS, 4) };
 
 enum { LISTS, CALLS_EACH, C_LISTS, C_CALLS, TRANSACTION, WAYS };
+enum { TO_MARK, UNDOS, C_UNDOS, ROLLBACK, WAYS_BACK };
 
 static uint8_t image[BULGEFS_IMAGE_SIZE(65536)], fresh[sizeof image], first[sizeof image];
 static uint8_t journal[JOURNAL], first_journal[JOURNAL];
@@ -161,10 +165,101 @@ static void compare_ways(void)
     }
 }
 
+/* Takes all changes back by one call, or by a call for each. */
+static void undo_all(int way)
+{
+    bulgefs_changed (*call)(uint8_t *, size_t, uint8_t *, size_t) =
+        way == UNDOS ? bulgefs_undo : baseline_undo;
+    if (way == TO_MARK) {
+        bulgefs_listed b = bulgefs_undo_to(image, image_len, journal, JOURNAL, BULGEFS_FIRST_MARK);
+        require(b.done == SETTINGS ? b.number : 99, "undo to a mark");
+        return;
+    }
+    for (size_t i = 0; i < SETTINGS; i++)
+        require(call(image, image_len, journal, JOURNAL).number, "an undo");
+}
+
+/* Writes all settings, and takes them back in one of the ways: the seconds that the way back takes. */
+static double take_back(int way)
+{
+    double begin;
+    if (way == ROLLBACK) {
+        sqlite_empty();
+        sqlite_updates(paths, SETTINGS, data, EACH);
+        begin = spent();
+        sqlite_rollback();
+        return spent() - begin;
+    }
+    write_all(LISTS);
+    begin = spent();
+    undo_all(way);
+    return spent() - begin;
+}
+
+/* Ends the program if a way back does not lead to image and journal of the start. */
+static void compare_ways_back(void)
+{
+    require(bulgefs_journal_start(first_journal, JOURNAL), "start");
+    for (int way = TO_MARK; way < ROLLBACK; way++) {
+        take_back(way);
+        if (memcmp(fresh, image, image_len) != 0
+            || memcmp(first_journal, journal, JOURNAL) != 0) {
+            fprintf(stderr, "bench: a way back does not lead to the start\n");
+            exit(EXIT_FAILURE);
+        }
+    }
+}
+
 static int ascending(const void *a, const void *b)
 {
     double x = *(const double *)a, y = *(const double *)b;
     return (x > y) - (x < y);
+}
+
+/* The middle one of some times. */
+static double middle(double *taken, int samples)
+{
+    qsort(taken, (size_t)samples, sizeof *taken, ascending);
+    return taken[samples / 2];
+}
+
+/* A time of SQLite in the last column, or none. */
+static void print_sqlite(double taken)
+{
+    if (sqlite_version() != NULL)
+        printf(" %8.2f |\n", taken);
+    else
+        printf(" %8s |\n", "-");
+}
+
+static void time_writes(uint32_t blocks, int samples)
+{
+    double taken[WAYS][MAX_SAMPLES], m[WAYS];
+    make_volume(blocks);
+    compare_ways();
+    for (int i = 0; i < samples; i++)
+        for (int way = 0; way < WAYS; way++)
+            taken[way][i] = write_all(way) * 1e3;
+    for (int way = 0; way < WAYS; way++)
+        m[way] = middle(taken[way], samples);
+    printf("| %6u | %8.2f | %8.2f | %11.1f | %8.2f | %8.2f |", (unsigned)blocks, m[LISTS],
+           m[CALLS_EACH], m[CALLS_EACH] / m[LISTS], m[C_LISTS], m[C_CALLS]);
+    print_sqlite(m[TRANSACTION]);
+}
+
+static void time_ways_back(uint32_t blocks, int samples)
+{
+    double taken[WAYS_BACK][MAX_SAMPLES], m[WAYS_BACK];
+    make_volume(blocks);
+    compare_ways_back();
+    for (int i = 0; i < samples; i++)
+        for (int way = 0; way < WAYS_BACK; way++)
+            taken[way][i] = take_back(way) * 1e3;
+    for (int way = 0; way < WAYS_BACK; way++)
+        m[way] = middle(taken[way], samples);
+    printf("| %6u | %8.2f | %8.2f | %13.1f | %8.2f |", (unsigned)blocks, m[TO_MARK], m[UNDOS],
+           m[UNDOS] / m[TO_MARK], m[C_UNDOS]);
+    print_sqlite(m[ROLLBACK]);
 }
 
 void bench_lists(int samples)
@@ -177,22 +272,13 @@ void bench_lists(int samples)
     printf("| %6s | %8s | %8s | %11s | %8s | %8s | %8s |\n", "blocks", "lists", "calls",
            "calls/lists", "C lists", "C calls", "SQLite");
     printf("|-------:|---------:|---------:|------------:|---------:|---------:|---------:|\n");
-    for (int c = 0; c < COUNTS; c++) {
-        double taken[WAYS][MAX_SAMPLES];
-        make_volume(block_counts[c]);
-        compare_ways();
-        for (int i = 0; i < samples; i++)
-            for (int way = 0; way < WAYS; way++)
-                taken[way][i] = write_all(way) * 1e3;
-        for (int way = 0; way < WAYS; way++)
-            qsort(taken[way], (size_t)samples, sizeof(double), ascending);
-        int m = samples / 2;
-        printf("| %6u | %8.2f | %8.2f | %11.1f | %8.2f | %8.2f |", (unsigned)block_counts[c],
-               taken[LISTS][m], taken[CALLS_EACH][m], taken[CALLS_EACH][m] / taken[LISTS][m],
-               taken[C_LISTS][m], taken[C_CALLS][m]);
-        if (sqlite_version() != NULL)
-            printf(" %8.2f |\n", taken[TRANSACTION][m]);
-        else
-            printf(" %8s |\n", "-");
-    }
+    for (int c = 0; c < COUNTS; c++)
+        time_writes(block_counts[c], samples);
+    printf("\nThe same %d changes taken back; milliseconds of processor time for all\n\n",
+           (int)SETTINGS);
+    printf("| %6s | %8s | %8s | %13s | %8s | %8s |\n", "blocks", "undo to", "undos",
+           "undos/undo to", "C undos", "SQLite");
+    printf("|-------:|---------:|---------:|--------------:|---------:|---------:|\n");
+    for (int c = 0; c < COUNTS; c++)
+        time_ways_back(block_counts[c], samples);
 }

@@ -8,7 +8,7 @@
 #include <stdlib.h>
 #include <string.h>
 
-enum { INTEGRITY, SIZE, CONTENT, PUT, DROP, ADD, BEGIN, BACK, RELEASE, OPEN, COMMIT, EMPTY,
+enum { INTEGRITY, SIZE, CONTENT, PUT, DROP, ADD, BEGIN, BACK, RELEASE, OPEN, COMMIT, ROLLBACK, EMPTY,
        REVISE, FORGET, STATEMENTS };
 
 static const char *const texts[STATEMENTS] = {
@@ -23,6 +23,7 @@ static const char *const texts[STATEMENTS] = {
     [RELEASE] = "RELEASE change",
     [OPEN] = "BEGIN",
     [COMMIT] = "COMMIT",
+    [ROLLBACK] = "ROLLBACK",
     [REVISE] = "INSERT INTO settings SELECT ?1, ifnull(max(revision), 0) + 1, ?2, 3"
                " FROM settings WHERE serial = ?1",
     [FORGET] = "DELETE FROM settings WHERE serial = ?1 AND revision <="
@@ -133,11 +134,21 @@ void sqlite_empty(void)
     sqlite3_reset(run(EMPTY, NULL, 0, NULL, 0, SQLITE_DONE));
 }
 
-void sqlite_transaction(const named *paths, size_t count, const uint8_t *data, size_t len)
+void sqlite_updates(const named *paths, size_t count, const uint8_t *data, size_t len)
 {
     sqlite3_reset(run(OPEN, NULL, 0, NULL, 0, SQLITE_DONE));
     for (size_t i = 0; i < count; i++)
         sqlite3_reset(run(PUT, paths[i].bytes, paths[i].len, data, len, SQLITE_DONE));
+}
+
+void sqlite_rollback(void)
+{
+    sqlite3_reset(run(ROLLBACK, NULL, 0, NULL, 0, SQLITE_DONE));
+}
+
+void sqlite_transaction(const named *paths, size_t count, const uint8_t *data, size_t len)
+{
+    sqlite_updates(paths, count, data, len);
     sqlite3_reset(run(COMMIT, NULL, 0, NULL, 0, SQLITE_DONE));
 }
 
@@ -191,6 +202,15 @@ double sqlite_put(const uint8_t *serial, size_t serial_len, const uint8_t *data,
 void sqlite_transaction(const named *paths, size_t count, const uint8_t *data, size_t len)
 {
     (void)paths, (void)count, (void)data, (void)len;
+}
+
+void sqlite_updates(const named *paths, size_t count, const uint8_t *data, size_t len)
+{
+    (void)paths, (void)count, (void)data, (void)len;
+}
+
+void sqlite_rollback(void)
+{
 }
 
 #endif

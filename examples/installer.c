@@ -1,7 +1,8 @@
 /*
  * A small installer: keeps one settings file per serial number on a volume, in
  * a folder for each venue, with the box's purchase beside it as attributes,
- * changes some of them, and takes the changes back one by one.  Then it salvages
+ * notes a mark of the journal, and changes some of them.  It takes the last change
+ * back by an undo, and all others since the mark in one call.  Then it salvages
  * what is whole of another volume, which was half written, and keeps the past of
  * a box's settings by its serial number.
  *
@@ -343,17 +344,39 @@ static void change(void)
     look_for_deleted();
 }
 
-/* Takes changes back, the last one first, until so many stand. */
-static void take_back(size_t standing)
+/* What stands in the journal, whose changes are all in made.  Its used length is a mark. */
+static uint32_t mark_now(void)
+{
+    bulgefs_journal j = bulgefs_journal_info(image, sizeof image, journal, sizeof journal);
+    require(j.number, "journal info", "the volume");
+    assert(j.records == made_count);
+    printf("  mark %u: %u changes stand, the last one is %s %s, record of %u bytes\n",
+           (unsigned)j.used, (unsigned)j.records, made[made_count - 1].what,
+           made[made_count - 1].path, (unsigned)j.last);
+    return j.used;
+}
+
+/* This morning's mark: the way back to how the boxes are now. */
+static uint32_t note_morning(void)
+{
+    printf("\nThis morning's mark\n");
+    return mark_now();
+}
+
+/* Takes the last change back, and then all others since this morning, in one call. */
+static void take_back(uint32_t morning)
 {
     printf("\nUndo\n");
-    while (made_count > standing) {
-        bulgefs_changed u = bulgefs_undo(image, sizeof image, journal, sizeof journal);
-        require(u.number, "undo", "the last change");
-        made_count--;
-        printf("  undo %-16s %-14s record of %4u bytes\n", made[made_count].what,
-               made[made_count].path, (unsigned)u.record);
-    }
+    bulgefs_changed u = bulgefs_undo(image, sizeof image, journal, sizeof journal);
+    require(u.number, "undo", "the last change");
+    made_count--;
+    printf("  undo %s %s, record of %u bytes\n", made[made_count].what, made[made_count].path,
+           (unsigned)u.record);
+    bulgefs_listed b = bulgefs_undo_to(image, sizeof image, journal, sizeof journal, morning);
+    require(b.number, "undo to", "this morning's mark");
+    made_count -= b.done;
+    printf("  undo to this morning's mark, %u changes\n", (unsigned)b.done);
+    mark_now();
     show_text(scenes);
     show_purchases();
     look_for_deleted();
@@ -368,9 +391,9 @@ static void show_refusal(const char *what, const char *path, uint32_t number)
  * A name is not found by its first bytes, nor by more than its bytes, nor as a
  * file if it is a folder's; a path begins with a slash; a folder that is not
  * empty stays; attributes have no more than 8 blocks; nothing is created with
- * the number of a port.
+ * the number of a port; no record ends one byte behind a mark.
  */
-static void try_refusals(void)
+static void try_refusals(uint32_t morning)
 {
     static const uint8_t nine[9 * BULGEFS_BLOCK_SIZE];
     static const char *const paths[] = {"/stage/SN100", "/stage/SN10011", "/stage", "SN1001",
@@ -390,6 +413,8 @@ static void try_refusals(void)
     bulgefs_created c = bulgefs_create(image, sizeof image, journal, sizeof journal, bytes("/port"),
                                        5, BULGEFS_PLAIN_FILE, 0, 0, 0, 3, 2007);
     show_refusal("create", "/port", c.number);
+    bulgefs_listed b = bulgefs_undo_to(image, sizeof image, journal, sizeof journal, morning + 1);
+    show_refusal("undo to", "a byte behind a mark", b.number);
 }
 
 /* ---- a volume that was half written ---- */
@@ -521,11 +546,11 @@ int main(int argc, char **argv)
 {
     install();
     keep(INSTALLED);
-    size_t standing = made_count;
+    uint32_t morning = note_morning();
     change();
     keep(CHANGED);
-    try_refusals();
-    take_back(standing);
+    try_refusals(morning);
+    take_back(morning);
     keep(UNDONE);
 
     show_boxes();

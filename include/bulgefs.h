@@ -362,7 +362,8 @@ typedef struct { uint32_t number, record; } bulgefs_changed;
 
 /*
  * How many writes of a list were done, and the refusal that stopped it; with
- * BULGEFS_OK all of them were done.
+ * BULGEFS_OK all of them were done.  Of an undo to a mark, how many changes were
+ * taken back: all since the mark, or with a refusal none.
  */
 typedef struct { uint32_t number, done; } bulgefs_listed;
 
@@ -371,9 +372,6 @@ typedef struct { uint32_t number, done; } bulgefs_listed;
  * and the length of the last one, 0 if there is none.
  */
 typedef struct { uint32_t number, used, records, last; } bulgefs_journal;
-
-/* How many changes were taken back by an undo to a mark. */
-typedef struct { uint32_t number, done; } bulgefs_backed;
 
 /* The revision that was put, and the length of the record added to the journal. */
 typedef struct { uint32_t number, revision, record; } bulgefs_put;
@@ -814,9 +812,7 @@ BULGEFS_CHECKED
 bulgefs_changed bulgefs_undo(uint8_t *image, size_t image_len,
                              uint8_t *journal, size_t journal_len);
 
-/*
- * A mark of a journal just started: undo to it takes every change back.
- */
+/* The mark of a journal just started: undo to it takes every change back. */
 #define BULGEFS_FIRST_MARK 5u
 
 /*
@@ -841,7 +837,7 @@ bulgefs_journal bulgefs_journal_info(const uint8_t *image, size_t image_len,
  * Refusals: 1 to 7, BULGEFS_BAD_JOURNAL, BULGEFS_NO_MARK.
  */
 BULGEFS_CHECKED
-bulgefs_backed bulgefs_undo_to(uint8_t *image, size_t image_len,
+bulgefs_listed bulgefs_undo_to(uint8_t *image, size_t image_len,
                                uint8_t *journal, size_t journal_len, uint32_t mark);
 
 /*

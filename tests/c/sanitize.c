@@ -138,7 +138,7 @@ typedef struct {
 #define STAGES     0xFEu
 #define BIT(n)     (1u << (n))
 #define PATH       (BIT(9) | BIT(10) | BIT(17))
-#define MAY(set, n) ((n) <= 26 && ((set) | 1u) >> (n) & 1u)
+#define MAY(set, n) ((n) <= 27 && ((set) | 1u) >> (n) & 1u)
 
 /* The volume and an entry, on an image whose check gives this number. */
 static void call_overview(const material *m, const buffer *image, const buffer *path,
@@ -574,6 +574,61 @@ static void call_settings(const material *m)
     call_serial(m, (const uint8_t *)"S2", 2, some);
 }
 
+/* An info of the journal, which changes nothing. */
+static bulgefs_journal call_journal_info(const material *m)
+{
+    buffer image = lend_const(m->image, m->image_len);
+    buffer journal = lend_const(m->journal, m->journal_len);
+    bulgefs_journal j = bulgefs_journal_info(image.at, image.len, journal.at, journal.len);
+    expect(MAY(STAGES | BIT(8), j.number), "journal_info: number");
+    expect(j.number == 0 ? j.used >= BULGEFS_FIRST_MARK && j.used <= journal.len
+                               && (j.records == 0) == (j.last == 0) && j.last <= j.used - 5
+                         : (j.used | j.records | j.last) == 0,
+           "journal_info: answer");
+    expect(unchanged(&image) && unchanged(&journal), "journal_info: nothing changed");
+    give_back(&image);
+    give_back(&journal);
+    return j;
+}
+
+/* Undo to the mark before the last record leaves what an undo does. */
+static void call_undos(const material *m, bulgefs_journal j)
+{
+    buffer image = lend(m->image, m->image_len), other_image = lend(m->image, m->image_len);
+    buffer journal = lend(m->journal, m->journal_len);
+    buffer other_journal = lend(m->journal, m->journal_len);
+    bulgefs_changed u = bulgefs_undo(image.at, image.len, journal.at, journal.len);
+    bulgefs_listed b = bulgefs_undo_to(other_image.at, other_image.len, other_journal.at,
+                                       other_journal.len, j.used - j.last);
+    expect(b.number == (u.number == 16 ? 0 : u.number) && b.done == (u.number == 0),
+           "undo_to: number of an undo");
+    expect(u.record == j.last, "journal_info: last record");
+    expect(same(&image, &other_image) && same(&journal, &other_journal), "undo_to: as an undo");
+    give_back(&other_image);
+    give_back(&other_journal);
+    settle(&image, &journal, u.number, u.record, STAGES | BIT(8) | BIT(16), "undo");
+}
+
+/* Undos to the first mark, and by turns to others and to numbers that are none. */
+static void call_marks(const material *m)
+{
+    static size_t turn;
+    bulgefs_journal j = call_journal_info(m);
+    uint32_t marks[] = {BULGEFS_FIRST_MARK, j.used - j.last, j.used, random_below(j.used + 600),
+                        j.used + 1, 0, 4, UINT32_MAX};
+    call_undos(m, j);
+    for (size_t k = 0; k < 3; k++) {
+        size_t i = k == 0 ? 0 : 1 + turn++ % (sizeof marks / sizeof marks[0] - 1);
+        buffer image = lend(m->image, m->image_len);
+        buffer journal = lend(m->journal, m->journal_len);
+        bulgefs_listed b = bulgefs_undo_to(image.at, image.len, journal.at, journal.len, marks[i]);
+        expect(j.number == 0 || b.number == j.number, "undo_to: number of the info");
+        expect(j.number != 0 || i == 3 || b.number == (i < 3 ? 0u : 27u), "undo_to: number");
+        expect(b.number != 0 || i != 0 || b.done == j.records, "undo_to: all records");
+        settle(&image, &journal, b.number, b.done, STAGES | BIT(8) | BIT(27), "undo_to");
+    }
+}
+
 static void call_changes(const material *m)
 {
     buffer path = lend_const(m->path, m->path_len);
@@ -582,11 +637,7 @@ static void call_changes(const material *m)
     call_directory_changes(m, &path);
     call_lists(m);
     call_settings(m);
-
-    buffer image = lend(m->image, m->image_len);
-    buffer journal = lend(m->journal, m->journal_len);
-    bulgefs_changed u = bulgefs_undo(image.at, image.len, journal.at, journal.len);
-    settle(&image, &journal, u.number, u.record, STAGES | BIT(8) | BIT(16), "undo");
+    call_marks(m);
 
     expect(unchanged(&path), "changes: the path stays");
     give_back(&path);

@@ -106,7 +106,7 @@ static void vectors(bulgefs_uuid uuid, const uint8_t *label)
     static uint8_t data[513], purchase[512], list[656];
     uint32_t made;
     bulgefs_listed listed;
-    bulgefs_backed backed;
+    bulgefs_listed backed;
     size_t i;
 
     for (i = 0; i < sizeof data; i++)

@@ -4,8 +4,8 @@
 
 #include "look.h"
 
-/* What goes: so many steps, so many records, the last of which has the number last. */
-typedef struct { uint32_t steps; size_t records, last; } share;
+/* What goes: so many steps, so many records, the last of which has the number last; the mark before them. */
+typedef struct { uint32_t steps; size_t records, last; uint32_t mark; } share;
 
 /* How many records the last steps have. */
 static size_t records_of(const record_list *list, uint32_t steps)
@@ -15,17 +15,30 @@ static size_t records_of(const record_list *list, uint32_t steps)
     return count;
 }
 
-static int undo(store *s, const share *goes)
+/* Tries on copies that each record is one of this volume. */
+static int try_records(const store *s, const share *goes)
 {
-    bytes after = copy_bytes(&s->image);
+    bytes image = copy_bytes(&s->image), journal = copy_bytes(&s->journal), after = copy_bytes(&s->image);
     uint32_t number = BULGEFS_OK;
     size_t done = 0;
     while (done < goes->records && !number) {
-        number = undo_record(&s->image, &s->journal, &after, NULL, NULL);
+        number = undo_record(&image, &journal, &after, NULL, NULL);
         if (!number) done++;
     }
+    free(image.bytes);
+    free(journal.bytes);
     free(after.bytes);
     return number ? refuse_record(s, number, goes->last - done) : DONE;
+}
+
+/* Takes all that goes back in one call. */
+static int undo(store *s, const share *goes)
+{
+    int status = try_records(s, goes);
+    uint32_t number;
+    if (status) return status;
+    number = bulgefs_undo_to(s->image.bytes, s->image.length, s->journal.bytes, s->journal.length, goes->mark).number;
+    return number ? refuse_pair(s, number) : DONE;
 }
 
 static int show(void *ctx, const change *one)
@@ -67,15 +80,14 @@ static int do_back(store *s, const share *goes)
 static int weigh(const store *s, uint32_t wanted, share *goes)
 {
     record_list list;
-    uint32_t number = bulgefs_check(s->image.bytes, s->image.length);
-    if (number) return refuse(number, s->path);
-    number = steps_list(&s->journal, &s->steps, s->image.length, &list);
-    if (!number && !list.steps) number = BULGEFS_NOTHING_TO_UNDO;
-    if (number) return refuse(number, s->journal_path);
+    uint32_t number = steps_list(&s->image, &s->journal, &s->steps, &list);
+    if (number) return refuse_pair(s, number);
     goes->steps = wanted ? wanted : list.steps;
     goes->records = goes->steps <= list.steps ? records_of(&list, goes->steps) : 0;
     goes->last = list.count;
+    goes->mark = goes->records ? list.records[list.count - goes->records].start : list.used;
     free(list.records);
+    if (!list.steps) return refuse_pair(s, BULGEFS_NOTHING_TO_UNDO);
     if (goes->records) return DONE;
     say("%s: refused (%u): it holds just %u %s; nothing was changed", s->journal_path, (unsigned)BULGEFS_NOTHING_TO_UNDO,
         (unsigned)list.steps, list.steps == 1 ? "step" : "steps");

@@ -136,17 +136,16 @@ static uint32_t say_journal(const store *s, int json)
         printf(json ? ",\"journal\":null" : "no journal\n");
         return 0;
     }
-    number = ask_journal(&s->image, &s->journal);
-    if (number == BULGEFS_BAD_JOURNAL) {
+    number = steps_list(&s->image, &s->journal, &s->steps, &list);
+    if (number != 0) {
         printf(json ? ",\"journal\":{\"number\":%" PRIu32 "}" : "journal: %" PRIu32 ", not well formed\n",
                number);
         return number;
     }
-    if (steps_list(&s->journal, &s->steps, s->image.length, &list) == 0)
-        printf(json ? ",\"journal\":{\"number\":0,\"records\":%zu,\"steps\":%" PRIu32
-                      ",\"used\":%" PRIu32 ",\"length\":%zu}"
-                    : "journal well formed, records %zu, steps %" PRIu32 ", used %" PRIu32
-                      " of %zu bytes\n", list.count, list.steps, list.used, s->journal.length);
+    printf(json ? ",\"journal\":{\"number\":0,\"records\":%zu,\"steps\":%" PRIu32
+                  ",\"used\":%" PRIu32 ",\"length\":%zu}"
+                : "journal well formed, records %zu, steps %" PRIu32 ", used %" PRIu32
+                  " of %zu bytes\n", list.count, list.steps, list.used, s->journal.length);
     free(list.records);
     return 0;
 }

@@ -91,12 +91,10 @@ static void put_json(const store *s, const record_list *list, const told *texts)
 static int show(const store *s, int json)
 {
     record_list list;
-    uint32_t number = bulgefs_check(s->image.bytes, s->image.length);
+    uint32_t number = steps_list(&s->image, &s->journal, &s->steps, &list);
     size_t left;
     told *texts;
-    if (number) return refuse(number, s->path);
-    number = steps_list(&s->journal, &s->steps, s->image.length, &list);
-    if (number) return refuse(number, s->journal_path);
+    if (number) return refuse_pair(s, number);
     texts = take_memory((list.count + 1) * sizeof *texts);
     left = list.count;
     number = tell_all(s, &left, texts, json);

@@ -88,8 +88,6 @@ void put_count(FILE *out, uint64_t count, const char *one, const char *many);
 
 /* Opens a volume for a look; a missing or unsound image is said, as by store_open. */
 int open_sound(store *s, const char *path, const options *o);
-/* The library's answer to a journal: 0, 8 or 16, found by an undo of copies. */
-uint32_t ask_journal(const bytes *image, const bytes *journal);
 
 /* Takes an option out of argv, wherever it stands before "--": whether it was there. */
 int take_flag(int *argc, char **argv, const char *flag);

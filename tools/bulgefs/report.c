@@ -21,7 +21,7 @@ static void put_journal_cards(const report *r)
     record_list list = { NULL, 0, 0, 0 };
     const bytes *journal = &r->s->journal;
 
-    if (journal->bytes == NULL || steps_list(journal, &r->s->steps, r->s->image.length, &list) != 0)
+    if (journal->bytes == NULL || steps_list(&r->s->image, journal, &r->s->steps, &list) != 0)
         return;
     put_card(r->out, list.steps, "", list.steps == 1 ? "step to take back" : "steps to take back");
     put_card(r->out, 100 * (uint64_t)list.used / journal->length, "%", "of the journal used");

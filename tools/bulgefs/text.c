@@ -144,16 +144,6 @@ int open_sound(store *s, const char *path, const options *o)
     return refuse(number, path);
 }
 
-uint32_t ask_journal(const bytes *image, const bytes *journal)
-{
-    bytes copy = copy_bytes(image), old = copy_bytes(journal);
-    bulgefs_changed answer = bulgefs_undo(copy.bytes, copy.length, old.bytes, old.length);
-
-    free(copy.bytes);
-    free(old.bytes);
-    return answer.number;
-}
-
 /* Takes the argument at i away. */
 static void take_argument(int *argc, char **argv, int i)
 {

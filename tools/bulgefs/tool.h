@@ -139,8 +139,8 @@ uint32_t usual_journal(size_t image_length);
 typedef struct { uint32_t start, length, blocks, step; } record;   /* step counts from 1 */
 typedef struct { record *records; size_t count; uint32_t used, steps; } record_list;
 
-/* The records, oldest first; 0, or BULGEFS_BAD_JOURNAL.  Free records after use. */
-uint32_t steps_list(const bytes *journal, const bytes *steps, size_t image_length, record_list *);
+/* The records, oldest first; 0, or the refusal of bulgefs_journal_info.  Free records after use. */
+uint32_t steps_list(const bytes *image, const bytes *journal, const bytes *steps, record_list *);
 /* Adds what the journal got since the store was opened as one step. */
 void steps_add(store *);
 /* Cuts the steps that end above the journal's used length. */
@@ -184,6 +184,8 @@ enum { NOT_OF_VOLUME = 255 };
 uint32_t undo_record(bytes *image, bytes *journal, const bytes *after, each_change, void *ctx);
 /* Words for either, for the record of this number (from 1); gives REFUSED. */
 int refuse_record(const store *, uint32_t number, size_t record);
+/* Words for a refusal of the pair: the journal for 8 and above, otherwise the volume; gives REFUSED. */
+int refuse_pair(const store *, uint32_t number);
 
 /* ---- view.c: a sound image as the library tells it, its chains in plain C ---- */
 

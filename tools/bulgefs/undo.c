@@ -57,3 +57,8 @@ int refuse_record(const store *s, uint32_t number, size_t record)
         s->journal_path, record, s->path);
     return REFUSED;
 }
+
+int refuse_pair(const store *s, uint32_t number)
+{
+    return refuse(number, number < BULGEFS_BAD_JOURNAL ? s->path : s->journal_path);
+}

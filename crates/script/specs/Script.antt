@@ -16,8 +16,9 @@ use Rattle.store.specs.Get.{Which, theLatest, theNumber}
 use Rattle.journal.specs.Journal.{recordsFrom, started, startRefusal}
 use Rattle.journal.specs.Run.{Look, checkImage, findFile, readFile, lookAt, readAttributesOf, getSettingsIn, getSettings, showVolume, showEntry, Call, change, undo, look, Answer, changed, undone, checked, found, filled, shown, got, described, entered, State, state}
 use Rattle.journal.specs.Replay.{replayed}
-use Rattle.journal.specs.Kinds.{KindCall, call, further, KindAnswer, answered, replied, runOf, answersOf, standingOf, replayAnswersOf}
+use Rattle.journal.specs.Kinds.{Kind, KindCall, call, further, KindAnswer, answered, replied, oneOf, runOf, answersOf, standingOf, replayAnswersOf}
 use Rattle.write_list.specs.Runs.{lists}
+use Rattle.back.specs.Runs.{infos, backs}
 
 -- Of the item at an offset: its op, its name, its data and its length.
 abbrev pub opAt : List ℕ → ℕ → ℕ
@@ -57,9 +58,10 @@ Fits s at = at + itemSize s at ≤ length s
 -- 12 clear attributes, 13 read attributes (the data is its buffer, as for read), 14 clear flags, 15 write list (the data is the list), 16 the volume's
 -- numbers, 17 an entry of the directory of the name (the offset is the slot to begin with), 18 put settings (the name is the serial number, the data the
 -- settings), 19 get settings (the revision is in the last four bytes of the offset), 20 get latest settings; 21, 22 and 23 are 18, 19 and 20 in a directory
--- (the name is the directory and the serial number). In 16, 17, 19, 20, 22 and 23 the data is the buffer.
+-- (the name is the directory and the serial number); 24 journal info; 25 undo to a mark (the mark is in the last four bytes of the offset). In 16, 17, 19,
+-- 20, 22 and 23 the data is the buffer.
 abbrev pub lastOp : ℕ
-lastOp = 23
+lastOp = 25
 
 -- a put in a directory
 unfoldable pub putAt : List ℕ → ℕ → Change
@@ -112,8 +114,29 @@ showAt s at =
     cond (eqb (opAt s at) 16) (showVolume (dataAt s at))
     (cond (eqb (opAt s at) 17) (showEntry (nameAt s at) (be64 s (at + 9)) (dataAt s at)) (getAt s at))
 
-unfoldable pub itemCall : List ℕ → ℕ → KindCall lists
-itemCall s at = cond (eqb (opAt s at) 15) (further (dataAt s at)) (cond (shows (opAt s at)) (call (look (showAt s at))) (call (callAt s at)))
+-- The further calls of a script: a list of writes, an info of the journal, an undo to a mark.
+pub data ItemKind : Type 0 where
+  list : ItemKind
+  journalInfo : ItemKind
+  undoTo : ItemKind
+
+abbrev pub itemKindOf : ItemKind → Kind
+itemKindOf list = lists
+itemKindOf journalInfo = infos
+itemKindOf undoTo = backs
+
+abbrev pub itemKinds : Kind
+itemKinds = oneOf itemKindOf
+
+-- the calls from op 24 on
+unfoldable pub markCall : List ℕ → ℕ → KindCall itemKinds
+markCall s at = cond (eqb (opAt s at) 24) (further (journalInfo, tt)) (further (undoTo, be32 s (at + 13)))
+
+unfoldable pub itemCall : List ℕ → ℕ → KindCall itemKinds
+itemCall s at =
+    cond (eqb (opAt s at) 15) (further (list, dataAt s at))
+    (cond (leb 24 (opAt s at)) (markCall s at)
+    (cond (shows (opAt s at)) (call (look (showAt s at))) (call (callAt s at))))
 
 -- an item that is not cut off, with a known op
 unfoldable pub itemOk : List ℕ → ℕ → Bool
@@ -123,10 +146,10 @@ itemOk s at = leb (at + itemSize s at) (length s) && within 1 lastOp (opAt s at)
 unfoldable pub itemsFrom : List ℕ → ℕ → List ℕ
 itemsFrom s at = recordsFrom (itemSize s) (length s) at (length s - at)
 
-unfoldable pub callsFrom : List ℕ → ℕ → List (KindCall lists)
+unfoldable pub callsFrom : List ℕ → ℕ → List (KindCall itemKinds)
 callsFrom s at = map (itemCall s) (itemsFrom s at)
 
-abbrev pub callsOf : List ℕ → List (KindCall lists)
+abbrev pub callsOf : List ℕ → List (KindCall itemKinds)
 callsOf s = callsFrom s 0
 
 -- An answer as bytes: four numbers of 32 bits, of the volume's numbers eight, of an entry sixteen, its times as two each, the high one first; then, for
@@ -154,9 +177,14 @@ encoded (got a) = numbers (a .number) (a .revision) (a .size) 0 ++ (a .buffer)
 encoded (described a) = volumeHead a ++ (a .buffer)
 encoded (entered a) = entryHead a ++ (a .buffer)
 
-unfoldable pub encodedItem : KindAnswer lists → List ℕ
+unfoldable pub encodedReply : (i : ItemKind) → itemKindOf i .Reply → List ℕ
+encodedReply list r = numbers (r .number) (r .done) 0 0
+encodedReply journalInfo r = numbers (r .number) (r .used) (r .records) (r .last)
+encodedReply undoTo r = numbers (r .number) (r .done) 0 0
+
+unfoldable pub encodedItem : KindAnswer itemKinds → List ℕ
 encodedItem (answered a) = encoded a
-encodedItem (replied r) = numbers (r .number) (r .done) 0 0
+encodedItem (replied r) = encodedReply (r .0) (r .1)
 
 -- the length of the answer to a call, on every image and journal; of all answers to a script
 unfoldable pub answerSize : Call → ℕ
@@ -171,11 +199,11 @@ answerSize (look (getSettingsIn directory serial which buffer)) = 16 + length bu
 answerSize (look (showVolume buffer)) = 32 + length buffer
 answerSize (look (showEntry name start buffer)) = 64 + length buffer
 
-unfoldable pub itemRoom : KindCall lists → ℕ
+unfoldable pub itemRoom : KindCall itemKinds → ℕ
 itemRoom (call c) = answerSize c
-itemRoom (further l) = 16
+itemRoom (further c) = 16
 
-unfoldable pub answersSize : List (KindCall lists) → ℕ
+unfoldable pub answersSize : List (KindCall itemKinds) → ℕ
 answersSize [] = 0
 answersSize (c ∷ cs) = itemRoom c + answersSize cs
 
@@ -194,7 +222,7 @@ pub record Outcome : Type 0 where
 abbrev pub leaves : Status → List ℕ → List ℕ → List ℕ → Outcome
 leaves status image journal out = record { status = status; state = state image journal; out = out }
 
-unfoldable pub given : State → List ℕ → List ℕ → State → List (KindAnswer lists) → Outcome
+unfoldable pub given : State → List ℕ → List ℕ → State → List (KindAnswer itemKinds) → Outcome
 given p script out last replies =
     let made : Outcome = record { status = done; state = last; out = splice out 0 (joined encodedItem replies) } in
     let fitting = cond (leb (answersSize (callsOf script)) (length out)) made (record { status = noRoom; state = p; out = out }) in

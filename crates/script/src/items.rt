@@ -54,7 +54,7 @@ fn item_ok(script: &[u8], at: usize) -> bool
     if script[at] < 1 {
         return false;
     }
-    script[at] <= 23
+    script[at] <= 25
 }
 
 // Whether an op fills a buffer: read, and read attributes.

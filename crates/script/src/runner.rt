@@ -209,7 +209,7 @@ fn is_look(op: u8) -> bool
     op <= 4
 }
 
-// Make the call of the item at `at`, which is no list.
+// Make the call of the item at `at`, which is no list and no call on marks.
 fn make_call(script: &[u8], at: usize, image: &mut [u8], journal: &mut [u8], part: &mut [u8])
     requires { ⌜ (Item (now script) at (now part)) × (1 ≤ opAt (now script) at) ⌝ }
     ensures { λ _. ⌜ CallDone (state (now (image .entry)) (now (journal .entry))) (callAt (now (script .entry)) at) (now (image .exit)) (now (journal .exit)) (now (part .exit)) ⌝ }
@@ -239,13 +239,17 @@ fn make_list(script: &[u8], at: usize, image: &mut [u8], journal: &mut [u8], par
     );
 }
 
-// Make the call or write the list of the item at `at`, which is no look from op 16 on.
+// Make the call of the item at `at`, a list and a call on marks too, which is no look from op 16 on.
 fn make_plain(script: &[u8], at: usize, image: &mut [u8], journal: &mut [u8], part: &mut [u8])
     requires { ⌜ (Whole (now script) at (now part)) × (1 ≤ opAt (now script) at) × (shows (opAt (now script) at) ≡ false) ⌝ }
     ensures { λ _. ⌜ ItemDone (state (now (image .entry)) (now (journal .entry))) (itemCall (now (script .entry)) at) (now (image .exit)) (now (journal .exit)) (now (part .exit)) ⌝ }
 {
     if script[at] == 15 {
         make_list(script, at, image, journal, part);
+        return;
+    }
+    if 24 <= script[at] {
+        super::marks::make(script, at, image, journal, part);
         return;
     }
     make_call(script, at, image, journal, part);

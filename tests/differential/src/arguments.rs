@@ -4,13 +4,14 @@ use crate::images::good_name;
 use crate::rng::Rng;
 use crate::tester::Get;
 use crate::tree::{files, folders, items, slots, Item};
+use reference::journal::HEAD;
 use reference::layout::*;
 use reference::path::Want;
 use reference::store::ROOT;
 use reference::worked::list_of;
 use reference::{
     Append, Change, ClearAttributes, ClearFlags, Create, CreateDirectory, Delete, DeleteDirectory,
-    Move, Put, Replace, SetAttributes, Shorten, Which, Write,
+    Move, Put, Replace, SetAttributes, Shorten, State, Which, Write,
 };
 
 fn any(rng: &mut Rng, items: Vec<Item>) -> Option<Item> {
@@ -769,4 +770,45 @@ pub fn changes(rng: &mut Rng, image: &[u8]) -> [Change; 12] {
 pub fn any_data_block(rng: &mut Rng, image: &[u8]) -> u32 {
     let n = block_count(image);
     rng.between(root_block(n), n - 1) as u32
+}
+
+/// The marks of a journal that is well formed beside the image: 5, and where
+/// its records end.
+pub fn marks_of(state: &State) -> Vec<u32> {
+    let records = reference::journal::records(&state.journal, block_count(&state.image));
+    let ends = records.unwrap_or_default().into_iter().map(|record| record.end as u32);
+    [HEAD as u32].into_iter().chain(ends).collect()
+}
+
+/// A number that is none of these marks.
+pub fn no_mark(rng: &mut Rng, marks: &[u32]) -> u32 {
+    loop {
+        let near = rng.pick(marks);
+        let above = marks[marks.len() - 1] + rng.between(1, 2000) as u32;
+        let mark = match rng.below(9) {
+            0 => rng.below(5) as u32,
+            1 => near - 1,
+            2 => near + 1,
+            3 => near + 4,
+            4 => near + 516,
+            5 => rng.between(6, above as usize) as u32,
+            6 => above,
+            7 => 0x8000_0005,
+            _ => u32::MAX,
+        };
+        if !marks.contains(&mark) {
+            return mark;
+        }
+    }
+}
+
+/// A mark of the journal mostly, or a number that is none.
+pub fn any_mark(rng: &mut Rng, state: &State) -> u32 {
+    let marks = marks_of(state);
+    match rng.below(6) {
+        0 => no_mark(rng, &marks),
+        1 => marks[0],
+        2 => marks[marks.len() - 1],
+        _ => rng.pick(&marks),
+    }
 }

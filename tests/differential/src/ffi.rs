@@ -82,6 +82,15 @@ pub struct Listed {
 
 #[repr(C)]
 #[derive(Clone, Copy, Debug, PartialEq, Eq)]
+pub struct Journal {
+    pub number: u32,
+    pub used: u32,
+    pub records: u32,
+    pub last: u32,
+}
+
+#[repr(C)]
+#[derive(Clone, Copy, Debug, PartialEq, Eq)]
 pub struct Put {
     pub number: u32,
     pub revision: u32,
@@ -236,6 +245,13 @@ extern "C" {
 
     pub fn bulgefs_undo(image: *mut u8, image_len: usize,
                         journal: *mut u8, journal_len: usize) -> Changed;
+
+    pub fn bulgefs_journal_info(image: *const u8, image_len: usize,
+                                journal: *const u8, journal_len: usize) -> Journal;
+
+    pub fn bulgefs_undo_to(image: *mut u8, image_len: usize,
+                           journal: *mut u8, journal_len: usize,
+                           mark: u32) -> Listed;
 
     pub fn bulgefs_load_table(image: *const u8, image_len: usize,
                               entries: *mut u32, entry_count: usize) -> u32;

@@ -1,6 +1,6 @@
 //! The library's calls, on lent buffers. Nothing else calls an entry point.
 
-use crate::ffi::{self, Changed, Created, Filled, Found, Got, Listed, Part, Put, Uuid};
+use crate::ffi::{self, Changed, Created, Filled, Found, Got, Journal, Listed, Part, Put, Uuid};
 use crate::lent::Lent;
 use reference::{Create, CreateDirectory, State, Which};
 
@@ -248,6 +248,18 @@ impl Pair {
     pub fn undo(&mut self) -> Changed {
         let (image, image_len, journal, journal_len) = self.lent();
         unsafe { ffi::bulgefs_undo(image, image_len, journal, journal_len) }
+    }
+
+    pub fn undo_to(&mut self, mark: u32) -> Listed {
+        let (image, image_len, journal, journal_len) = self.lent();
+        unsafe { ffi::bulgefs_undo_to(image, image_len, journal, journal_len, mark) }
+    }
+
+    pub fn journal_info(&self) -> Journal {
+        let (image, journal) = (&self.image, &self.journal);
+        unsafe {
+            ffi::bulgefs_journal_info(image.ptr(), image.len(), journal.ptr(), journal.len())
+        }
     }
 
     fn lent(&mut self) -> (*mut u8, usize, *mut u8, usize) {

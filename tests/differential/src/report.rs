@@ -33,6 +33,8 @@ pub enum Entry {
     GetIn,
     GetLatestIn,
     Undo,
+    JournalInfo,
+    UndoTo,
     LoadTable,
     StoreTable,
     Salvage,
@@ -40,7 +42,7 @@ pub enum Entry {
 
 /// Every entry point, and the numbers that it can answer. Look in place has
 /// no number; its row counts what look up would have answered.
-const ENTRIES: [(Entry, &str, &[u32]); 31] = [
+const ENTRIES: [(Entry, &str, &[u32]); 33] = [
     (Entry::Check, "check", &[0, 1, 2, 3, 4, 5, 6, 7]),
     (Entry::PlainCheck, "plain_check", &[0, 1, 2, 3, 4, 5, 6, 7]),
     (Entry::Format, "format", &[0, 1, 9, 14]),
@@ -76,6 +78,8 @@ const ENTRIES: [(Entry, &str, &[u32]); 31] = [
     (Entry::GetIn, "get_in", &[0, 1, 2, 3, 4, 5, 6, 7, 10, 17, 22, 23, 24]),
     (Entry::GetLatestIn, "get_latest_in", &[0, 1, 2, 3, 4, 5, 6, 7, 10, 17, 22, 24]),
     (Entry::Undo, "undo", &[0, 1, 2, 3, 4, 5, 6, 7, 8, 16]),
+    (Entry::JournalInfo, "journal_info", &[0, 1, 2, 3, 4, 5, 6, 7, 8]),
+    (Entry::UndoTo, "undo_to", &[0, 1, 2, 3, 4, 5, 6, 7, 8, 27]),
     (Entry::LoadTable, "load_table", &[0, 1, 2, 3, 4, 5, 6, 7, 21]),
     (Entry::StoreTable, "store_table", &[0, 1, 2, 3, 4, 5, 6, 7, 21]),
     (Entry::Salvage, "salvage", &[0, 1, 2, 3, 4, 5, 9]),
@@ -107,7 +111,7 @@ const MET: [(Met, &str); 9] = [
     (Met::Freed, "a block freed"),
 ];
 
-const NUMBERS: usize = 27;
+const NUMBERS: usize = 28;
 const SHOWN_FAILURES: u64 = 20;
 
 pub struct Report {

@@ -413,6 +413,46 @@ impl Tester {
         number
     }
 
+    /// Undo to a mark. Gives the reference's number.
+    pub fn undo_to(&mut self, state: &State, mark: u32) -> u32 {
+        let mut pair = self.lend_pair(state);
+        self.undo_to_in(&mut pair, state, mark)
+    }
+
+    pub fn undo_to_in(&mut self, pair: &mut Pair, state: &State, mark: u32) -> u32 {
+        let got = pair.undo_to(mark);
+        let result = reference::undo_to(state, mark);
+        let number = number_of(&result);
+        let done = result.as_ref().map_or(0, |b| b.done);
+        let after = result.as_ref().map_or(state, |b| &b.state);
+        let mut troubles = vec![unequal(got, ffi::Listed { number, done })];
+        troubles.extend(pair.troubles(after));
+        self.check_damaged(&after.image);
+        self.report.call(Entry::UndoTo, number, troubles);
+        number
+    }
+
+    /// An info of the journal. Gives the reference's number.
+    pub fn journal_info(&mut self, state: &State) -> u32 {
+        let pair = self.lend_pair(state);
+        let got = pair.journal_info();
+        let result = reference::journal_info(state);
+        let number = number_of(&result);
+        let mut troubles = vec![unequal(got, journal(&result))];
+        troubles.extend(pair.troubles(state));
+        self.check_refused(&state.image, number);
+        self.report.call(Entry::JournalInfo, number, troubles);
+        number
+    }
+
+    /// An info of the journal, and an undo to each of these marks.
+    pub fn marks(&mut self, state: &State, marks: &[u32]) {
+        self.journal_info(state);
+        for &mark in marks {
+            self.undo_to(state, mark);
+        }
+    }
+
     pub fn lend_pair(&mut self, state: &State) -> Pair {
         Pair { image: self.lend(&state.image), journal: self.lend(&state.journal) }
     }
@@ -508,6 +548,14 @@ pub fn found(result: &Result<reference::Found, u32>) -> ffi::Found {
     match result {
         Ok(f) => ffi::Found { number: 0, slot: f.slot, size: f.size, blocks: f.blocks },
         Err(number) => ffi::Found { number: *number, slot: 0, size: 0, blocks: 0 },
+    }
+}
+
+/// What an info of a journal answers in C.
+pub fn journal(result: &Result<reference::JournalInfo, u32>) -> ffi::Journal {
+    match result {
+        Ok(j) => ffi::Journal { number: 0, used: j.used, records: j.records, last: j.last },
+        Err(number) => ffi::Journal { number: *number, used: 0, records: 0, last: 0 },
     }
 }
 

@@ -133,7 +133,12 @@ pub fn undo(state: &State) -> Result<Undone, Refusal> {
     sound(&state.image)?;
     let records = records(&state.journal, block_count(&state.image))?;
     let last = records.last().cloned().ok_or(16u32)?;
+    let record = last.len() as u32;
+    Ok(Undone { state: taken_back(state, last), record })
+}
 
+/// Image and journal without the last record, whose bytes are put back.
+pub fn taken_back(state: &State, last: Range<usize>) -> State {
     let mut image = state.image.clone();
     for (b, bytes) in saved_blocks(&state.journal[last.clone()]) {
         image[b * BLOCK..(b + 1) * BLOCK].copy_from_slice(bytes);
@@ -141,5 +146,5 @@ pub fn undo(state: &State) -> Result<Undone, Refusal> {
     let mut journal = state.journal.clone();
     journal[last.clone()].fill(0);
     put_number(&mut journal, 1, last.start as u32);
-    Ok(Undone { state: State { image, journal }, record: last.len() as u32 })
+    State { image, journal }
 }

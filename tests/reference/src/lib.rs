@@ -9,6 +9,7 @@ pub mod check;
 pub mod journal;
 pub mod layout;
 pub mod listing;
+pub mod marks;
 pub mod overview;
 pub mod path;
 pub mod pieces;
@@ -24,6 +25,7 @@ pub mod write_list;
 pub use check::check;
 pub use journal::{apply, start, undo, Applied, State, Undone};
 pub use listing::list;
+pub use marks::{journal_info, undo_to, Backed, JournalInfo};
 pub use overview::{info, next_entry, Told};
 pub use pieces::{append, append_whole, read_next, Append, Appended};
 pub use replay::{Answer, Call, Replay};
@@ -37,5 +39,5 @@ pub use volume::{
 };
 pub use write_list::{write_list, Listed};
 
-/// A refusal number, 1 to 26.
+/// A refusal number, 1 to 27.
 pub type Refusal = u32;

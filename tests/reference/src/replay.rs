@@ -2,7 +2,8 @@
 //! stand; it sees which calls are made and what each brings, and nothing of
 //! the volume under test. (The rules call it a sheet, and its changes rows.)
 
-use crate::journal::{apply, State};
+use crate::journal::{apply, used, State};
+use crate::marks::{journal_info, JournalInfo, NO_MARK};
 use crate::overview::{info, next_entry, none, Told, ENTRY_NUMBERS, VOLUME_NUMBERS};
 use crate::pieces::{append, piece_write, Append};
 use crate::store::{get_in, Revision, Which, ROOT};
@@ -19,6 +20,8 @@ pub enum Call {
     WriteList(Vec<u8>),
     Append(Append),
     Undo,
+    UndoTo(u32),
+    JournalInfo,
     Check,
     Lookup {
         path: Vec<u8>,
@@ -67,6 +70,12 @@ pub enum Answer {
         number: u32,
         done: u32,
     },
+    /// How many changes an undo to a mark took back.
+    Backed {
+        number: u32,
+        done: u32,
+    },
+    Journal(Result<JournalInfo, Refusal>),
     Checked(u32),
     Found(Result<Found, Refusal>),
     /// The number, the count and the whole buffer afterwards.
@@ -124,6 +133,8 @@ impl Replay {
             Call::WriteList(list) => self.write_list(list),
             Call::Append(a) => self.append(a),
             Call::Undo => self.undo(),
+            Call::UndoTo(mark) => self.undo_to(*mark),
+            Call::JournalInfo => Answer::Journal(self.journal_info()),
             look => look_at(&self.replayed.image, look),
         }
     }
@@ -170,6 +181,32 @@ impl Replay {
         }
     }
 
+    /// The mark is the used length after some of the standing changes: the
+    /// others go.
+    fn undo_to(&mut self, mark: u32) -> Answer {
+        let mut state = self.start.clone();
+        let mut kept = 0;
+        while used(&state.journal) as u32 != mark {
+            match self.standing.get(kept) {
+                None => return Answer::Backed { number: NO_MARK, done: 0 },
+                Some(next) => {
+                    state = apply(&state, next).expect("a standing change is accepted").state
+                }
+            }
+            kept += 1;
+        }
+        let done = (self.standing.len() - kept) as u32;
+        self.standing.truncate(kept);
+        self.replayed = state;
+        Answer::Backed { number: 0, done }
+    }
+
+    /// As many records stand as changes do.
+    fn journal_info(&self) -> Result<JournalInfo, Refusal> {
+        let info = journal_info(&self.replayed)?;
+        Ok(JournalInfo { records: self.standing.len() as u32, ..info })
+    }
+
     /// Makes all standing changes, in order, from the start.
     fn remake(&self) -> State {
         let mut state = self.start.clone();
@@ -203,9 +240,12 @@ fn look_at(image: &[u8], call: &Call) -> Answer {
         Call::Entry { path, slot, buffer } => {
             told(buffer, ENTRY_NUMBERS, next_entry(image, path, u64::from(*slot), buffer.len()))
         }
-        Call::Change(_) | Call::WriteList(_) | Call::Append(_) | Call::Undo => {
-            unreachable!("not a look")
-        }
+        Call::Change(_)
+        | Call::WriteList(_)
+        | Call::Append(_)
+        | Call::Undo
+        | Call::UndoTo(_)
+        | Call::JournalInfo => unreachable!("no look at an image alone"),
     }
 }
 

@@ -13,9 +13,8 @@ use Rattle.layout.specs.declared.reading.Filled.the-variants.{Bytes, Refused}
 use Rattle.layout.specs.Looks.{ReadAnswer, Extent, VolumeAnswer, EntryAnswer, read, extentOf, lookInPlace, readAttributes, volumeInfo, nextEntry}
 use Rattle.store.specs.Get.{GetAnswer, gotAnswer, getIn}
 use Rattle.journal.specs.Run.{Call, Answer, State, change, undo, look, checkImage, findFile, readFile, lookAt, readAttributesOf, showVolume, showEntry, getSettingsIn, filled, shown, got, described, entered, lookAnswer, answer, changeAnswer, changeRefusal, undoAnswer, undoRefusal}
-use Rattle.script.specs.Script.{opAt, nameAt, dataAt, numbers, volumeHead, entryHead, encoded, encodedItem, answerSize, itemRoom}
+use Rattle.script.specs.Script.{ItemKind, list, journalInfo, undoTo, itemKindOf, itemKinds, encodedReply, opAt, nameAt, dataAt, numbers, volumeHead, entryHead, encoded, encodedItem, answerSize, itemRoom}
 use Rattle.journal.specs.Kinds.{KindCall, call, further, answerOf}
-use Rattle.write_list.specs.Runs.{lists}
 use Rattle.script.specs.Walks.Scripts.{filledAt}
 use Rattle.layout.specs.Answers.{readAnswer, volumeAnswer, entryAnswer}
 use Rattle.layout.specs.declared.overview.VolumeInfo.{VolumeInfo}
@@ -79,10 +78,16 @@ answer-length p (look (showEntry name start buffer)) =
     let a : EntryAnswer = nextEntry (p .image) name start buffer in
     length-append (entryHead a) (a .buffer) ∙ rw (length-entryHead, entry-length (p .image) buffer name start)
 
-pub item-length : (p : State) (c : KindCall lists) → length (encodedItem (answerOf p c)) ≡ itemRoom c
+reply-length : (i : ItemKind) (r : itemKindOf i .Reply) → length (encodedReply i r) ≡ 16
+unfolding encodedReply
+reply-length list r = length-numbers _ _ _ _
+reply-length journalInfo r = length-numbers _ _ _ _
+reply-length undoTo r = length-numbers _ _ _ _
+
+pub item-length : (p : State) (c : KindCall itemKinds) → length (encodedItem (answerOf p c)) ≡ itemRoom c
 unfolding encodedItem answerOf itemRoom
 item-length p (call c) = answer-length p c
-item-length p (further l) = length-numbers _ _ _ _
+item-length p (further c) = reply-length (c .0) (itemKindOf (c .0) .reply p (c .1))
 
 -- the answers of read and look in place, as the code writes them
 pub read-encoded : (s buffer : List ℕ) (a : ReadAnswer) → length s ≡ 16 + length buffer → a .buffer ≡ buffer

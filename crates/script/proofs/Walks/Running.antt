@@ -11,14 +11,13 @@ use Rattle.layout.specs.Lists.{every, joined}
 use Rattle.layout.specs.Bytes.{splice}
 use Rattle.journal.specs.Run.{State, state}
 use Rattle.journal.specs.Kinds.{KindCall, stepOf, answerOf, runOf, answersOf}
-use Rattle.write_list.specs.Runs.{lists}
-use Rattle.script.specs.Script.{itemSize, itemCall, itemOk, itemsFrom, callsFrom, callsOf, encodedItem, itemRoom, answersSize, done, malformed, noRoom, Outcome, leaves, given, outcome}
+use Rattle.script.specs.Script.{itemKinds, itemSize, itemCall, itemOk, itemsFrom, callsFrom, callsOf, encodedItem, itemRoom, answersSize, done, malformed, noRoom, Outcome, leaves, given, outcome}
 use Rattle.script.specs.Walks.Scripts.{ItemDone}
 use Rattle.layout.proofs.Laws.Bytes.{putMid-splice, length-splice, splice-nil, splice-append}
 use Rattle.script.proofs.Walks.Scripts.{Next, next, calls-none, calls-step, sizes-step}
 use Rattle.script.proofs.Walks.Encoding.{item-length}
 
-pub answers-length : (p : State) (cs : List (KindCall lists)) → length (joined encodedItem (answersOf p cs)) ≡ answersSize cs
+pub answers-length : (p : State) (cs : List (KindCall itemKinds)) → length (joined encodedItem (answersOf p cs)) ≡ answersSize cs
 unfolding answersOf answersSize
 answers-length p [] = refl
 answers-length p (c ∷ cs) =
@@ -44,8 +43,8 @@ module _ (start : State) (s out₀ image journal out : List ℕ) (at q : ℕ) (i
   unfolding runOf answersOf
   run-step h image′ journal′ out′ part′ m e =
       let p : State = state image journal in
-      let c : KindCall lists = itemCall s at in
-      let rest : List (KindCall lists) = callsFrom s (at + itemSize s at) in
+      let c : KindCall itemKinds = itemCall s at in
+      let rest : List (KindCall itemKinds) = callsFrom s (at + itemSize s at) in
       let more : callsFrom s at ≡ c ∷ rest = calls-step s at h in
       let answered : List ℕ = encodedItem (answerOf p c) in
       let later : List ℕ = joined encodedItem (answersOf (stepOf p c) rest) in
@@ -60,7 +59,7 @@ module _ (start : State) (s out₀ image journal out : List ℕ) (at q : ℕ) (i
         room = omega arith;
         states = i .states ∙ ap (runOf p) more ∙ ap (λ (x : State). runOf x rest) (sym (m .after));
         outs =
-            i .outs ∙ ap (λ (cs : List (KindCall lists)). splice out q (joined encodedItem (answersOf p cs))) more
+            i .outs ∙ ap (λ (cs : List (KindCall itemKinds)). splice out q (joined encodedItem (answersOf p cs))) more
             ∙ sym (splice-append out q answered later (omega arith))
             ∙ rw (wrote, l, m .after);
       }
@@ -78,7 +77,7 @@ module _ (start : State) (s out₀ image journal out : List ℕ) (at q : ℕ) (i
   run-end h =
       let e : callsFrom s at ≡ [] = calls-none s at h in (
         sym (i .states ∙ ap (runOf (state image journal)) e),
-        sym (i .outs ∙ ap (λ (cs : List (KindCall lists)). splice out q (joined encodedItem (answersOf (state image journal) cs))) e ∙ splice-nil out q),
+        sym (i .outs ∙ ap (λ (cs : List (KindCall itemKinds)). splice out q (joined encodedItem (answersOf (state image journal) cs))) e ∙ splice-nil out q),
       )
 
 -- the outcome, by the two tests

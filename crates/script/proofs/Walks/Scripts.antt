@@ -13,10 +13,10 @@ use Rattle.layout.specs.Lists.{within, every}
 use Rattle.layout.specs.Bytes.{be32, be64}
 use Rattle.store.specs.Get.{theLatest, theNumber, getIn, get}
 use Rattle.journal.specs.Run.{Call, State, change, undo, look, checkImage, findFile, readFile, lookAt, readAttributesOf, showVolume, showEntry, getSettingsIn, getSettings, filled, got, lookAnswer, answer}
-use Rattle.script.specs.Script.{lastOp, opAt, nameAt, directoryAt, serialAt, dataAt, dataLength, itemSize, putAt, changeAt, callAt, shows, whichAt, getAt, showAt, itemCall, itemOk, itemsFrom, callsFrom, answerSize, itemRoom, answersSize}
+use Rattle.script.specs.Script.{list, journalInfo, undoTo, markCall, lastOp, opAt, nameAt, directoryAt, serialAt, dataAt, dataLength, itemSize, putAt, changeAt, callAt, shows, whichAt, getAt, showAt, itemCall, itemOk, itemsFrom, callsFrom, answerSize, itemRoom, answersSize}
 use Rattle.journal.specs.Kinds.{call, further}
 use Rattle.script.specs.Walks.Scripts.{looks, fills, headSize, filledAt}
-use Rattle.layout.proofs.Laws.Tests.{and-split, or-split, true-not-false}
+use Rattle.layout.proofs.Laws.Tests.{and-split, or-split, true-not-false, lt-or-ge}
 use Rattle.layout.proofs.Laws.Bytes.{length-part}
 use Rattle.journal.proofs.Laws.RecordWalk.{records-none, records-more, records-enough}
 
@@ -38,8 +38,10 @@ module _ (x : ℕ) where
   fills-split h = ⊎-elim (λ a. inl (eqb-true x 13 a)) (λ b. inr (eqb-true x 3 b)) (or-split (eqb x 13) (eqb x 3) h)
 
   -- the looks from op 16 on
-  pub shows-split : shows x ≡ true → 16 ≤ x
-  shows-split h = leb-true 16 x (and-split (leb 16 x) (leb x 23) (and-split (not (eqb x 18 || eqb x 21)) (within 16 23 x) h .1) .0)
+  pub shows-split : shows x ≡ true → (16 ≤ x) × (x < 24)
+  shows-split h =
+      let w = and-split (leb 16 x) (leb x 23) (and-split (not (eqb x 18 || eqb x 21)) (within 16 23 x) h .1) in
+      let l : x ≤ 23 = leb-true x 23 (w .1) in (leb-true 16 x (w .0), omega arith)
 
   neither : (a b : Bool) → a || b ≡ false → (a ≡ false) × (b ≡ false)
   neither true b h = absurd (true-not-false refl h)
@@ -198,18 +200,33 @@ module _ (s : List ℕ) (at : ℕ) where
       ⊎-elim (λ e. absurd (n .0 e)) (λ h. omega arith) (looks-split (opAt s at) l)
 
   -- a list, or a call, and the room for its answer
-  pub is-list : opAt s at ≡ 15 → itemCall s at ≡ further (dataAt s at)
+  pub is-list : opAt s at ≡ 15 → itemCall s at ≡ further (list, dataAt s at)
   unfolding itemCall
   is-list e = rw e
 
-  pub is-call : (opAt s at ≡ 15 → ⊥) → shows (opAt s at) ≡ false → itemCall s at ≡ call (callAt s at)
+  pub is-call : (opAt s at ≡ 15 → ⊥) → opAt s at < 24 → shows (opAt s at) ≡ false → itemCall s at ≡ call (callAt s at)
   unfolding itemCall
-  is-call n h = rw (ne-eqb (opAt s at) 15 n, h)
+  is-call n m h = rw (ne-eqb (opAt s at) 15 n, lt-leb 24 (opAt s at) m, h)
+
+  -- journal info, and undo to a mark
+  is-mark : 24 ≤ opAt s at → itemCall s at ≡ markCall s at
+  unfolding itemCall
+  is-mark h = rw (ne-eqb (opAt s at) 15 (λ e. omega arith), le-leb 24 (opAt s at) h)
+
+  pub is-info : opAt s at ≡ 24 → itemCall s at ≡ further (journalInfo, tt)
+  unfolding markCall
+  is-info e = is-mark (omega arith) ∙ rw e
+
+  pub is-undo-to : 24 ≤ opAt s at → (opAt s at ≡ 24 → ⊥) → itemCall s at ≡ further (undoTo, be32 s (at + 13))
+  unfolding markCall
+  is-undo-to h n = is-mark h ∙ rw (ne-eqb (opAt s at) 24 n)
 
   -- a look at the volume, at an entry or at settings
   pub is-show : shows (opAt s at) ≡ true → itemCall s at ≡ call (look (showAt s at))
   unfolding itemCall
-  is-show h = rw (ne-eqb (opAt s at) 15 (λ e. omega (arith, shows-split (opAt s at) h)), h)
+  is-show h =
+      let m = shows-split (opAt s at) h in
+      rw (ne-eqb (opAt s at) 15 (λ e. omega (arith, m .0)), lt-leb 24 (opAt s at) (m .1), h)
 
   pub shows-volume : opAt s at ≡ 16 → showAt s at ≡ showVolume (dataAt s at)
   unfolding showAt
@@ -276,24 +293,34 @@ module _ (s : List ℕ) (at : ℕ) where
   unfolding itemRoom
   room-list e = rw (is-list e)
 
-  pub room-call : (opAt s at ≡ 15 → ⊥) → shows (opAt s at) ≡ false → itemRoom (itemCall s at) ≡ answerSize (callAt s at)
+  pub room-mark : 24 ≤ opAt s at → itemRoom (itemCall s at) ≡ 16
+  unfolding itemRoom markCall
+  room-mark h = rw (is-mark h) (go (eqb (opAt s at) 24))
+    where
+      go : (b : Bool) → itemRoom (cond b (further (journalInfo, tt)) (further (undoTo, be32 s (at + 13)))) ≡ 16
+      go true = refl
+      go false = refl
+
+  pub room-call : (opAt s at ≡ 15 → ⊥) → opAt s at < 24 → shows (opAt s at) ≡ false → itemRoom (itemCall s at) ≡ answerSize (callAt s at)
   unfolding itemRoom
-  room-call n h = rw (is-call n h)
+  room-call n m h = rw (is-call n m h)
 
   pub room-read : at + itemSize s at ≤ length s → fills (opAt s at) ≡ true → itemRoom (itemCall s at) ≡ 16 + dataLength s at
   room-read h f =
-      room-call (λ e. ⊎-elim (λ a. omega arith) (λ b. omega arith) (fills-split (opAt s at) f)) (⊎-elim (λ a. rw a) (λ b. rw b) (fills-split (opAt s at) f))
+      room-call (λ e. ⊎-elim (λ a. omega arith) (λ b. omega arith) (fills-split (opAt s at) f)) (⊎-elim (λ a. omega arith) (λ b. omega arith) (fills-split (opAt s at) f))
+      (⊎-elim (λ a. rw a) (λ b. rw b) (fills-split (opAt s at) f))
       ∙ size-read h f
 
   pub room-look-in-place : opAt s at ≡ 4 → itemRoom (itemCall s at) ≡ 528
-  room-look-in-place e = room-call (λ f. omega arith) (rw e) ∙ size-look-in-place e
+  room-look-in-place e = room-call (λ f. omega arith) (omega arith) (rw e) ∙ size-look-in-place e
 
   pub room-plain : shows (opAt s at) ≡ false → fills (opAt s at) ≡ false → eqb (opAt s at) 4 ≡ false → itemRoom (itemCall s at) ≡ 16
-  room-plain h f g = go (ℕ-discrete (opAt s at) 15)
+  room-plain h f g = go (ℕ-discrete (opAt s at) 15) (lt-or-ge (opAt s at) 24)
     where
-      go : Dec (opAt s at ≡ 15) → itemRoom (itemCall s at) ≡ 16
-      go (yes e) = room-list e
-      go (no n) = room-call n h ∙ size-plain f g
+      go : Dec (opAt s at ≡ 15) → (opAt s at < 24) ⊎ (24 ≤ opAt s at) → itemRoom (itemCall s at) ≡ 16
+      go (yes e) m = room-list e
+      go (no n) (inl m) = room-call n m h ∙ size-plain f g
+      go (no n) (inr m) = room-mark m
 
   -- room for the answers from here on
   pub sizes-step : at < length s → answersSize (callsFrom s at) ≡ itemRoom (itemCall s at) + answersSize (callsFrom s (at + itemSize s at))

@@ -9,8 +9,7 @@ use Rattle.layout.specs.Bytes.{be64}
 use Rattle.layout.specs.Looks.{ReadAnswer, read, readAttributes}
 use Rattle.journal.specs.Run.{Call, State, step, answer, state}
 use Rattle.journal.specs.Kinds.{KindCall, stepOf, answerOf}
-use Rattle.write_list.specs.Runs.{lists}
-use Rattle.script.specs.Script.{Fits, opAt, nameAt, dataAt, callAt, itemCall, answerSize, itemRoom, encoded, encodedItem}
+use Rattle.script.specs.Script.{itemKinds, Fits, opAt, nameAt, dataAt, callAt, itemCall, answerSize, itemRoom, encoded, encodedItem}
 
 -- the ops of the calls that only look, and of those among them that fill a buffer
 abbrev pub looks : ℕ → Bool
@@ -43,6 +42,6 @@ pub record CallDone (p : State) (c : Call) (image journal part : List ℕ) : Typ
   pub after : state image journal ≡ step p c
   pub answered : part ≡ encoded (answer p c)
 
-pub record ItemDone (p : State) (c : KindCall lists) (image journal part : List ℕ) : Type 0 where
+pub record ItemDone (p : State) (c : KindCall itemKinds) (image journal part : List ℕ) : Type 0 where
   pub after : state image journal ≡ stepOf p c
   pub answered : part ≡ encodedItem (answerOf p c)

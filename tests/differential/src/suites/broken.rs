@@ -26,6 +26,7 @@ fn every_call(rng: &mut Rng, t: &mut Tester, sound: &[u8], image: &[u8]) {
     t.write_list(&state, &any_list(rng, sound));
     t.append(&state, &any_append(rng, sound));
     t.undo(&state);
+    t.marks(&state, &[any_mark(rng, &state)]);
     // Its own suites make most salvages.
     if rng.once_in(4) {
         t.salvage(image, &buffer);
@@ -141,6 +142,7 @@ pub fn journals(rng: &mut Rng, _: u64, t: &mut Tester) {
         t.write_list(&state, &any_list(rng, &state.image));
         t.append(&state, &any_append(rng, &state.image));
         t.undo(&state);
+        t.marks(&state, &[any_mark(rng, &state)]);
     }
     other_image(rng, t);
     noisy_journal(rng, t);
@@ -166,6 +168,7 @@ fn other_image(rng: &mut Rng, t: &mut Tester) {
         t.write_list(&state, &any_list(rng, &state.image));
         t.append(&state, &any_append(rng, &state.image));
         t.undo(&state);
+        t.marks(&state, &[any_mark(rng, &state)]);
     }
 }
 
@@ -191,5 +194,6 @@ fn noisy_journal(rng: &mut Rng, t: &mut Tester) {
         t.write_list(&state, &any_list(rng, &state.image));
         t.append(&state, &any_append(rng, &state.image));
         t.undo(&state);
+        t.marks(&state, &[any_mark(rng, &state)]);
     }
 }

@@ -7,6 +7,7 @@ mod full;
 mod kept;
 mod lister;
 mod lists;
+mod marks;
 mod names;
 mod order;
 mod orders;
@@ -56,6 +57,8 @@ pub const SUITES: &[Suite] = &[
     Suite { name: "list_forms", rounds: |_| 1, run: lists::forms },
     Suite { name: "pieces", rounds: |n| n.div_ceil(2), run: pieces::run },
     Suite { name: "pieces_long", rounds: |n| n.div_ceil(250), run: pieces::long },
+    Suite { name: "marks", rounds: |n| n, run: marks::run },
+    Suite { name: "marks_long", rounds: |n| n.div_ceil(100), run: marks::long },
     Suite { name: "store", rounds: |n| 2 * n, run: store::run },
     Suite { name: "store_puts", rounds: |n| 40 * n.div_ceil(500), run: store::puts },
     Suite { name: "store_lengths", rounds: |_| 1, run: store::lengths },

@@ -30,6 +30,7 @@ pub fn all(rng: &mut Rng, _: u64, t: &mut Tester) {
     replaces(rng, t);
     moves(rng, t);
     undos(rng, t);
+    marks(rng, t);
     salvages(rng, t);
 }
 
@@ -511,6 +512,29 @@ fn undos(rng: &mut Rng, t: &mut Tester) {
         let stage = maybe_damage(rng, &reasons, &mut image);
         let number = t.undo(&State { image, journal });
         t.report.agree("plan", number, lowest(&reasons, stage));
+    }
+}
+
+fn marks(rng: &mut Rng, t: &mut Tester) {
+    for reasons in subsets(&[1, 8, 27]) {
+        t.report.about(format!("undo to a mark, reasons {reasons:?}"));
+        let n = images::small_n(rng);
+        let mut image = images::of(rng, n);
+        let records = rng.below(4);
+        let mut journal = journals::with_records(rng, &image, records, 1000);
+        let state = State { image: image.clone(), journal: journal.clone() };
+        let good = marks_of(&state);
+        let mark = if reasons.contains(&27) { no_mark(rng, &good) } else { rng.pick(&good) };
+        if reasons.contains(&8) {
+            journal[0] = rng.pick(&[0, 2, 255]);
+        }
+        let stage = maybe_damage(rng, &reasons, &mut image);
+        let state = State { image, journal };
+        let number = t.undo_to(&state, mark);
+        t.report.agree("plan", number, lowest(&reasons, stage));
+        let told: Vec<u32> = reasons.into_iter().filter(|&reason| reason != 27).collect();
+        let number = t.journal_info(&state);
+        t.report.agree("plan", number, lowest(&told, stage));
     }
 }
 

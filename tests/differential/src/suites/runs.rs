@@ -10,7 +10,8 @@ use crate::lent::{difference, Lent};
 use crate::library::{self, Pair};
 use crate::report::Entry;
 use crate::rng::Rng;
-use crate::tester::{found, get_entry, Get, Tester};
+use crate::tester::{found, get_entry, journal, Get, Tester};
+use reference::journal::HEAD;
 use reference::path::Want;
 use reference::{Answer, Call, Replay, State};
 use std::thread;
@@ -95,8 +96,10 @@ fn any_step(rng: &mut Rng, replay: &Replay, mix: &Mix) -> Call {
 
 /// A call that a script has an op for.
 pub fn any_scripted(rng: &mut Rng, replay: &Replay, mix: &Mix) -> Call {
-    match rng.below(12) {
-        0 => Call::WriteList(any_list(rng, &replay.replayed().image)),
+    match rng.below(24) {
+        0 | 1 => Call::WriteList(any_list(rng, &replay.replayed().image)),
+        2 => Call::JournalInfo,
+        3 => Call::UndoTo(any_mark(rng, replay.replayed())),
         _ => any_call(rng, replay, mix),
     }
 }
@@ -117,6 +120,13 @@ fn play(rng: &mut Rng, t: &mut Tester, image: Vec<u8>, length: usize, mix: &Mix,
         }
     }
     t.report.about(format!("{about} undo of all that stands"));
+    // In one call on a copy, then one by one.
+    let mut copy = t.lend_pair(&pair.content());
+    let got = on_small_stack(|| copy.undo_to(HEAD as u32));
+    let all = ffi::Listed { number: 0, done: replay.standing().len() as u32 };
+    t.report.agree("all changes taken back in one call", got, all);
+    let back = copy.troubles(&first).into_iter().flatten().next();
+    t.report.agree("the start in one call, byte for byte", back, None);
     for _ in 0..=replay.standing().len() {
         make(t, &mut pair, &mut replay, &Call::Undo);
     }
@@ -213,6 +223,8 @@ fn brief(call: &Call) -> String {
         Call::WriteList(list) => format!("list of {} bytes", list.len()),
         Call::Append(a) => format!("piece of {} bytes", a.piece.len()),
         Call::Undo => "undo".into(),
+        Call::UndoTo(mark) => format!("undo to {mark}"),
+        Call::JournalInfo => "info of the journal".into(),
         Call::Check => "check".into(),
         Call::Lookup { .. } => "lookup".into(),
         Call::Read { offset, buffer, .. } => format!("read of {} bytes at {offset}", buffer.len()),
@@ -259,10 +271,12 @@ fn number_of(answer: &Answer) -> u32 {
     match answer {
         Answer::Changed { number, .. }
         | Answer::Listed { number, .. }
+        | Answer::Backed { number, .. }
         | Answer::Got { number, .. }
         | Answer::Read { number, .. } => *number,
         Answer::Checked(number) => *number,
         Answer::Found(result) => result.as_ref().err().copied().unwrap_or(0),
+        Answer::Journal(result) => result.as_ref().err().copied().unwrap_or(0),
         Answer::Part { .. } => 0,
         Answer::Told { numbers, .. } => numbers[0] as u32,
     }
@@ -307,6 +321,15 @@ fn call_library(
             let got = pair.undo();
             let answer = Answer::Changed { number: got.number, slot: 0, record: got.record };
             (Entry::Undo, answer, vec![])
+        }
+        Call::UndoTo(mark) => {
+            let got = pair.undo_to(*mark);
+            let answer = Answer::Backed { number: got.number, done: got.done };
+            (Entry::UndoTo, answer, vec![])
+        }
+        Call::JournalInfo => {
+            let (answer, zeros) = journal_answer(pair.journal_info());
+            (Entry::JournalInfo, answer, vec![zeros])
         }
         look => look_with_library(&pair.image, look),
     }
@@ -369,9 +392,12 @@ fn look_with_library(image: &Lent, call: &Call) -> (Entry, Answer, Vec<Option<St
             let troubles = vec![lent.trouble("path", path), name.trouble("name", &after)];
             (Entry::Entry, Answer::Told { numbers, buffer: after }, troubles)
         }
-        Call::Change(_) | Call::WriteList(_) | Call::Append(_) | Call::Undo => {
-            unreachable!("not a look")
-        }
+        Call::Change(_)
+        | Call::WriteList(_)
+        | Call::Append(_)
+        | Call::Undo
+        | Call::UndoTo(_)
+        | Call::JournalInfo => unreachable!("no look at an image alone"),
     }
 }
 
@@ -397,4 +423,15 @@ fn found_answer(got: ffi::Found) -> (Answer, Option<String>) {
     };
     let zeros = (found(&result) != got).then(|| format!("not zeros: {got:?}"));
     (Answer::Found(result), zeros)
+}
+
+/// The answer of an info of a journal, and whether a refusal comes without zeros.
+fn journal_answer(got: ffi::Journal) -> (Answer, Option<String>) {
+    let result = if got.number == 0 {
+        Ok(reference::JournalInfo { used: got.used, records: got.records, last: got.last })
+    } else {
+        Err(got.number)
+    };
+    let zeros = (journal(&result) != got).then(|| format!("not zeros: {got:?}"));
+    (Answer::Journal(result), zeros)
 }

@@ -254,6 +254,11 @@ fn item_of(rng: &mut Rng, call: &Call) -> Vec<u8> {
             let op = if directory.is_some() { op + 3 } else { op };
             (op, placed.as_deref().unwrap_or(serial), buffer)
         }
+        Call::JournalInfo => (24, &[], &[]),
+        Call::UndoTo(mark) => {
+            put_number(&mut header, 13, *mark);
+            (25, &[], &[])
+        }
         Call::Append(_) => unreachable!("a script has no op for a piece"),
     };
     header[0] = op;
@@ -302,7 +307,11 @@ fn answer_size(call: &Call) -> usize {
 fn encoded(answer: &Answer) -> Vec<u8> {
     let (numbers, payload) = match answer {
         Answer::Changed { number, slot, record } => ([*number, *slot, *record, 0], vec![]),
-        Answer::Listed { number, done } => ([*number, *done, 0, 0], vec![]),
+        Answer::Listed { number, done } | Answer::Backed { number, done } => {
+            ([*number, *done, 0, 0], vec![])
+        }
+        Answer::Journal(Ok(j)) => ([0, j.used, j.records, j.last], vec![]),
+        Answer::Journal(Err(number)) => ([*number, 0, 0, 0], vec![]),
         Answer::Checked(number) => ([*number, 0, 0, 0], vec![]),
         Answer::Found(Ok(f)) => ([0, f.slot, f.size, f.blocks], vec![]),
         Answer::Found(Err(number)) => ([*number, 0, 0, 0], vec![]),
