@@ -22,6 +22,9 @@ pub mod Taken
 pub mod CreateDirectory
 pub mod Space
 pub mod Write
+pub mod Cut
+pub mod Renewed
+pub mod Shorten
 pub mod Sound
 pub mod Format
 pub mod Framed
