@@ -25,6 +25,7 @@ pub mod Write
 pub mod Cut
 pub mod Renewed
 pub mod Shorten
+pub mod Replace
 pub mod Sound
 pub mod Format
 pub mod Framed

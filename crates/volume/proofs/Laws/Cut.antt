@@ -15,10 +15,10 @@ use Rattle.layout.specs.Bytes.{be32, block, zeros}
 use Rattle.layout.specs.Geometry.{blockCount, tableBlocks, rootBlock}
 use Rattle.layout.specs.Table.{next, chain, occupied, tableBlockOf}
 use Rattle.layout.specs.Directory.{typeOf, firstBlock, blocksOf, isFile, dirs, fileBlocks}
-use Rattle.volume.specs.Entries.{linked, freed, released, entriesNamed, blocksNamed}
+use Rattle.volume.specs.Entries.{linked, released, entriesNamed, blocksNamed}
 use Rattle.volume.specs.Write.{changedEntries}
 use Rattle.volume.specs.Shorten.{cutOff}
-use Rattle.volume.proofs.Laws.Table.{linked-length, linked-same, linked-at, linked-other, released-next, released-at, released-same, released-occupied, released-counted, released-left, released-block, released-zero}
+use Rattle.volume.proofs.Laws.Table.{linked-length, linked-same, linked-at, linked-other, released-next, released-at, released-same, released-occupied, released-counted, released-left, released-zero}
 use Rattle.volume.proofs.Laws.Frame.{entries-more, entries-table, entries-low, blocks-of, changed-new, changed-below, released-agree}
 use Rattle.layout.proofs.Laws.Tests.{eqb-self, lt-or-ge, lt-or-gt}
 use Rattle.layout.proofs.Laws.Bytes.{part-rest, part-same}
@@ -314,7 +314,7 @@ module _ (s : List ℕ) (S : Sound s) (e : ℕ) (E : Entry s e) (file : isFile (
       (λ i. let r = gone-at b i in f (r .0) (let y = r .1 in omega arith) (r .2) (r .3))
       (λ some pos q. let p = last-pos pos in f (j - 1) (omega arith) (omega arith) (q ∙ last-at (j - 1) (omega arith)))
 
-  cut-ends : (x : ℕ) → suc x ≡ j → next cut (nth (next s) x first) ≡ 1
+  pub cut-ends : (x : ℕ) → suc x ≡ j → next cut (nth (next s) x (firstBlock s e)) ≡ 1
   cut-ends x q = ⊎-elim shorter whole (lt-or-ge j k)
     where
       z : last ≡ nth (next s) x first

@@ -3,7 +3,7 @@ use Prim.Native.Nat.{ℕ, zero, suc, _+_, _-_, _*_, _/_, _≤_, _<_}
 use mathlib.Core.Path.{_≡_, refl, sym, _∙_}
 use mathlib.Core.Bool.{true, false, or-true}
 use mathlib.Core.List.{List}
-use mathlib.Core.Logic.{_⊎_, inl, inr, ⊎-elim, _≢_}
+use mathlib.Core.Logic.{_⊎_, inl, inr, ⊎-elim}
 use native.Mathlib.Omega.{arith}
 use native.Mathlib.Nat.{eq-or-lt-of-le}
 use borrow.Author.Tests.{eq-eqb, ne-eqb}
@@ -39,6 +39,7 @@ pub record Renewed (s s′ : List ℕ) (e first size blocks time : ℕ) : Type 0
   pub created : part s′ (e + 16) 8 ≡ part s (e + 16) 8
   pub modified : part s′ (e + 24) 8 ≡ bytes8 time
   pub rest : part s′ (e + 32) 96 ≡ part s (e + 32) 96
+  pub flags : part s′ (e + 40) 4 ≡ part s (e + 40) 4
   pub type : typeOf s′ e ≡ typeOf s e
   pub name : nameOf s′ e ≡ nameOf s e
   pub attribute : be32 s′ (e + 32) ≡ be32 s (e + 32)
@@ -108,6 +109,7 @@ module _ (s : List ℕ) (S : Sound s) (d : ℕ × ℕ) (di : In d (dirs s)) (k :
               (omega arith) (omega arith) (omega (arith, entry-high s S e mine)) renewed-length;
           modified = set-file-modified full e first size c time fits;
           rest = slot-part (e + 32) 96 (omega arith) (omega arith) (inr (omega arith));
+          flags = slot-part (e + 40) 4 (omega arith) (omega arith) (inr (omega arith));
           type = same-byte s done e 1 e (slot-same e 1 (omega arith) (omega arith) (inl (omega arith))) (omega arith) (omega arith);
           name = rw field-done;
           attribute = attribute-done 32 (omega arith) (omega arith);

@@ -1,47 +1,48 @@
 -- Shorten: the last blocks of the file are freed, the bytes behind the new end zeroed, the entry is set again. The image after it is sound; the file has the first of its
 -- bytes and blocks, and the other owners keep theirs.
-use Prim.Native.Nat.{ℕ, zero, suc, _+_, _-_, _*_, _/_, _≤_, _<_}
+use Prim.Native.Nat.{ℕ, suc, _+_, _-_, _*_, _/_, _≤_, _<_}
 use mathlib.Core.Path.{_≡_, refl, sym, ap, _∙_, subst}
 use mathlib.Core.Bool.{Bool, true, false, cond}
-use mathlib.Core.List.{List, [], _∷_, _++_}
+use mathlib.Core.List.{List, _∷_, _++_}
 use mathlib.Core.Logic.{_⊎_, inl, inr, ⊎-elim, _≢_}
 use native.Mathlib.Omega.{arith}
-use borrow.Author.Tests.{le-ltb, leb-true}
+use native.Mathlib.Nat.{eq-or-lt-of-le}
+use borrow.Author.Tests.{le-ltb, le-leb, leb-true}
 use lib.ListN.{length, getD, take, drop, List·getD-eq-default, take-append-drop}
 use lib.Dec.{eqb, leb, ltb}
 use lib.Seq.{take-append-le, take-take}
-use Rattle.layout.specs.Lists.{lastOr, distinct, joined}
-use Rattle.layout.specs.Bytes.{be32, bytes8, part, splice, zeros, block}
+use Rattle.layout.specs.Lists.{lastOr, joined}
+use Rattle.layout.specs.Bytes.{be32, splice, zeros, block}
 use Rattle.layout.specs.Geometry.{blockCount, tableBlocks, blocksFor}
-use Rattle.layout.specs.Table.{next, chain, freeBlocks, occupied}
-use Rattle.layout.specs.Directory.{slotAt, typeOf, firstBlock, sizeOf, blocksOf, isFile, nameOf, directory, dirs, fileBlocks, content}
+use Rattle.layout.specs.Table.{next}
+use Rattle.layout.specs.Directory.{slotAt, typeOf, firstBlock, sizeOf, blocksOf, isFile, directory, dirs, fileBlocks, content}
 use Rattle.layout.specs.Paths.{home, pathSlot, entryOf, fileRefusal}
 use Rattle.layout.specs.Check.{check}
 use Rattle.layout.specs.Claims.{SameAttributes}
 use Rattle.volume.specs.Entries.{entriesNamed}
 use Rattle.volume.specs.Write.{put, setFile, written, changedEntries}
 use Rattle.volume.specs.Shorten.{cutOff, tailLength, shortenAt, shortenNamed, shortenRefusal}
-use Rattle.volume.proofs.Laws.Places.{At, file-at-path}
+use Rattle.volume.proofs.Laws.Places.{file-at-path}
 use Rattle.volume.proofs.Laws.Growth.{put-steps}
 use Rattle.volume.proofs.Laws.Data.{put-outside, put-next, joined-put}
 use Rattle.volume.proofs.Laws.Frame.{entries-low, changed-below, written-in, put-agree}
-use Rattle.volume.proofs.Laws.Unchanged.{Bounded, slot-agree}
-use Rattle.volume.proofs.Laws.Cut.{chain-front, cut-agree, cut-next, cut-at, cut-block, cut-zero, cut-occupied, kept-is, kept-length, gone-length, kept-once, gone-once, gone-apart, gone-below, gone-above, gone-used, gone-last, last-small, last-used, cut-value, cut-midway}
+use Rattle.volume.proofs.Laws.Unchanged.{Bounded, file-agree}
+use Rattle.volume.proofs.Laws.Cut.{chain-front, cut-agree, cut-next, cut-at, cut-block, cut-zero, cut-occupied, kept-is, kept-length, gone-length, kept-once, gone-once, gone-apart, gone-below, gone-above, gone-used, gone-last, last-small, last-used, cut-value, cut-ends, cut-midway}
 use Rattle.volume.proofs.Laws.Renewed.{Renewed, renewed-full, renewed-outside, renewed-entry, renewed-sound, renewed-slot, renewed-next, renewed-count}
-use Rattle.layout.proofs.Laws.Tests.{require-zero, firstOf-zero, lt-or-ge}
-use Rattle.layout.proofs.Laws.Bytes.{length-zeros, zeros-none, splice-nil, length-bytes4, length-bytes8, take-splice}
-use Rattle.layout.proofs.Laws.Lists.{In, in-take, in-drop, in-append, in-left, in-right, in-single, joined-append, joined-same, last-in}
-use Rattle.layout.proofs.Laws.Frames.{Same, Agree, agree-more, agree-then, agree-block}
-use Rattle.layout.proofs.Laws.Chains.{nth, nth-agree, chainOk-split, chain-differ, chain-used, getD-chain, chain-agree, chain-start, Chain}
+use Rattle.layout.proofs.Laws.Tests.{require-zero, firstOf-zero}
+use Rattle.layout.proofs.Laws.Bytes.{length-zeros, take-splice}
+use Rattle.layout.proofs.Laws.Lists.{In, in-some, in-take, in-drop, in-append, in-left, in-right, in-single, joined-append, joined-same, last-in}
+use Rattle.layout.proofs.Laws.Frames.{Same, Agree, agree-more, agree-then}
+use Rattle.layout.proofs.Laws.Chains.{nth, chainOk-split, chain-differ, chain-used, getD-chain, in-chain, chain-start, Chain}
 use Rattle.layout.proofs.Laws.Counts.{chain-most, occupied-same}
 use Rattle.layout.proofs.Laws.Visits.{dirBlocks}
 use Rattle.layout.proofs.Laws.Trees.{sizeAt}
 use Rattle.layout.proofs.Laws.Sound.{heldAt, Sound, Entry, Owner, sound, check-zero}
 use Rattle.layout.proofs.Laws.Slots.{slot-entry}
-use Rattle.layout.proofs.Laws.Files.{Slot, entry-slot, file-in, length-blocks}
-use Rattle.layout.proofs.Laws.Owners.{free-of, blocksAt, file-blocks, file-no-self, file-above, file-below, file-used, file-apart, file-chained, second, second-blocks, second-no-self, entry-elsewhere, block-high, block-below, block-outside}
+use Rattle.layout.proofs.Laws.Files.{entry-slot, file-in, length-blocks}
+use Rattle.layout.proofs.Laws.Owners.{blocksAt, file-blocks, file-no-self, file-above, file-below, file-apart, file-chained, second, second-blocks, second-no-self, entry-elsewhere, block-high, block-below, block-outside}
 use Rattle.layout.proofs.Laws.Changed.{OneSlot}
-use Rattle.layout.proofs.Laws.Steps.{over-same, Midway, Staying, staying}
+use Rattle.layout.proofs.Laws.Steps.{Midway, Staying, staying}
 use Rattle.layout.proofs.Laws.Others.{same-attributes}
 
 -- what an accepted shorten makes of the entry at e, and of its file
@@ -75,6 +76,10 @@ unfolding shortenRefusal
 shorten-given s path size r =
     let f = firstOf-zero (fileRefusal s path) _ r in
     record { there = f .0; less = leb-true _ _ (require-zero (leb size (sizeOf s (entryOf isFile s path))) 11 _ (f .1) .0) }
+
+pub shorten-accepted : (s path : List ℕ) (size : ℕ) → ShortenGiven s path size → shortenRefusal s path size ≡ 0
+unfolding shortenRefusal
+shorten-accepted s path size G = rw (G .there, le-leb size (sizeOf s (entryOf isFile s path)) (G .less))
 
 module _ (s : List ℕ) (S : Sound s) (d : ℕ × ℕ) (di : In d (dirs s)) (k : ℕ) (k₁ : 1 ≤ k) (k₂ : k < 4 * sizeAt s (d .0) - 1) (file : isFile (typeOf s (slotAt (directory s (d .0)) k)) ≡ true)
     (size time : ℕ) (less : size ≤ sizeOf s (slotAt (directory s (d .0)) k))
@@ -286,3 +291,52 @@ module _ (s : List ℕ) (S : Sound s) (d : ℕ × ℕ) (di : In d (dirs s)) (k :
 
     pub shortened-file : Shortened s (shortenAt s e size time) e size time
     shortened-file = rw shorten-is (record { contents = done-content; blocks = done-blocks; whole = ap (joined (block done)) done-blocks ∙ done-data; entry = entry })
+
+    -- the links that change are of blocks of the table
+    pub shortened-entries : (x : ℕ) → In x (entriesNamed (changedEntries (lastOr 0 (take (blocksFor size) (fileBlocks s e))) (drop (blocksFor size) (fileBlocks s e)))) → x ≤ tableBlocks (blockCount s)
+    shortened-entries = entries-low n (changedEntries last gone) (changed-below n last gone last-below (gone-below s S e mine file j fewer))
+
+    -- which blocks are written
+    pub shortened-bounded : Bounded s (shortenAt s e size time) (shortenNamed s e size)
+    unfolding shortenNamed
+    shortened-bounded =
+        let holds : List ℕ = written kept size zeroed in
+        let entries : List ℕ = entriesNamed (changedEntries last gone) in
+        let rest : List ℕ = holds ++ (gone ++ entries) in
+        let ns : List ℕ = e / 512 ∷ rest in
+        let below = gone-below s S e mine file j fewer in
+        let a : Agree s cut ns = agree-more (cut-agree n (S .least) (S .most) s (S .whole) last last-below gone below) (λ x i. inr (in-right x holds (gone ++ entries) i)) in
+        let b : Agree cut full ns = agree-more (rw (length-zeros zeroed) at (put-agree n (S .least) kept cut size (zeros zeroed) cut-length kept-below)) (λ x i. inr (in-left x holds (gone ++ entries) i)) in
+        let c : Agree s full ns = agree-then a b (λ x i. i) (λ x i. i) in
+        rw shorten-is (record {
+          agree = agree-then c (file-agree s S e mine full first size j time (c .size ∙ S .whole)) (λ x i. i) (in-single (e / 512) ns (inl refl));
+          inside = λ b i. ⊎-elim (λ q. rw q (entry-slot s S e mine .inside))
+              (λ m. ⊎-elim (λ x. kept-below b (written-in kept size zeroed b x)) (λ x. ⊎-elim (below b) (λ y. omega (arith, shortened-entries b y, S .least)) (in-append b gone entries x)) (in-append b holds (gone ++ entries) m)) i;
+        })
+
+    -- the blocks that stay are in use
+    pub shortened-in-use : (q : ℕ) → In q (take (blocksFor size) (fileBlocks s e)) → next (shortenAt s e size time) q ≢ 0
+    shortened-in-use q i =
+        let r = in-chain (next s) (firstBlock s e) j q (rw (kept-is s S e mine file j fewer) at i) in
+        rw (shorten-is, r .2) (⊎-elim (λ z w. at-end (r .0) (r .1) z w) (λ z w. chain-used (next s) n (firstBlock s e) (blocksOf s e) chained (S .least) (r .0) (omega (arith, fewer, r .1)) (sym (front (r .0) z) ∙ w))
+        (eq-or-lt-of-le (r .1)))
+      where
+        at-end : (x : ℕ) → x < j → suc x ≡ j → next done (nth (next s) x (firstBlock s e)) ≡ 0 → ⊥
+        at-end x h z w =
+            let o = done-next (nth (next s) x (firstBlock s e)) (omega (arith, fewer, chained .below x (omega (arith, fewer)))) ∙ cut-ends s S e mine file j fewer x z in
+            omega arith
+
+    -- no block is freed: the table stays
+    pub shortened-links : blocksOf s e ≤ blocksFor size → (y : ℕ) → y < 128 * tableBlocks n → next (shortenAt s e size time) y ≡ next s y
+    shortened-links all y h =
+        let l = gone-length s S e mine file j fewer in
+        rw shorten-is (done-next y h ∙ cut-next n (S .least) (S .most) s (S .whole) last last-below gone (gone-below s S e mine file j fewer) (gone-above s S e mine file j fewer)
+        (gone-used s S e mine file j fewer) (gone-once s S e mine file j fewer) (gone-last s S e mine file j fewer) y h (λ i. absurd (omega (arith, in-some y gone i))) (λ some. absurd (omega arith)))
+
+pub kept-shorten : (s path : List ℕ) (size time : ℕ) → check s ≡ 0 → shortenRefusal s path size ≡ 0 → check (shortenAt s (entryOf isFile s path) size time) ≡ 0
+unfolding entryOf
+kept-shorten s path size time c r =
+    let G = shorten-given s path size r in
+    let A = file-at-path s path (G .there) in
+    let N = A .named in
+    check-zero _ (shortened-sound s (sound s c) (home s path, A .level) (A .home-in) (pathSlot isFile s path) (N .low) (N .high) (N .typed) size time (G .less))

@@ -1,23 +1,21 @@
 -- Write: blocks are taken, the data is put, the entry is set again. The image after it is sound; the file's content, blocks and entry are those
 -- that the write asks for, and the other files stay.
-use Prim.Native.Nat.{ℕ, zero, suc, _+_, _-_, _*_, _≤_, _<_, _/_, max}
-use mathlib.Core.Path.{_≡_, refl, sym, ap, _∙_, subst}
-use mathlib.Core.Bool.{true, false, or-true}
+use Prim.Native.Nat.{ℕ, _+_, _-_, _*_, _≤_, _<_, max}
+use mathlib.Core.Path.{_≡_, sym, ap, _∙_, subst}
+use mathlib.Core.Bool.{true}
 use mathlib.Core.List.{List, _++_}
-use mathlib.Core.Logic.{_⊎_, inl, inr, ⊎-elim, _≢_}
+use mathlib.Core.Logic.{_⊎_, inl, ⊎-elim, _≢_}
 use native.Mathlib.Omega.{arith}
-use native.Mathlib.Nat.{eq-or-lt-of-le}
-use borrow.Author.Tests.{eq-eqb, ne-eqb}
 use lib.ListN.{length, getD, take, List·getD-eq-default}
 use lib.Dec.{eqb}
 use lib.Seq.{take-append-le}
-use Rattle.layout.specs.Lists.{iff, lastOr, distinct, joined}
+use Rattle.layout.specs.Lists.{lastOr, distinct, joined}
 use Rattle.layout.specs.Bytes.{be32, bytes8, part, splice, zeros, block}
 use Rattle.layout.specs.Geometry.{blockCount, tableBlocks, blocksFor, rootBlock}
 use Rattle.layout.specs.Table.{next, chain, freeBlocks}
-use Rattle.layout.specs.Directory.{slotAt, typeOf, firstBlock, sizeOf, blocksOf, isFree, isFile, isDirectory, nameOf, nameOk, directory, dirs, fileBlocks, content}
+use Rattle.layout.specs.Directory.{slotAt, typeOf, firstBlock, sizeOf, blocksOf, isFile, nameOf, directory, dirs, fileBlocks, content}
 use Rattle.layout.specs.Paths.{home, pathSlot, entryOf}
-use Rattle.layout.specs.Check.{noAttributes, attributesOk, fileOk, slotOk, check}
+use Rattle.layout.specs.Check.{check}
 use Rattle.volume.specs.Entries.{grown, entriesNamed}
 use Rattle.volume.specs.Write.{newSize, needed, newBlocks, put, setFile, writeAt, changedEntries}
 use Rattle.volume.proofs.Laws.Places.{WriteGiven}
@@ -25,23 +23,21 @@ use Rattle.volume.proofs.Laws.Growth.{grown-steps, put-steps}
 use Rattle.volume.proofs.Laws.Space.{new-fresh, new-length, all-above, all-below, last-below, all-length, all-size}
 use Rattle.volume.proofs.Laws.Data.{put-outside, joined-put, grown-zero, put-next}
 use Rattle.volume.proofs.Laws.Table.{grown-next, grown-used}
-use Rattle.volume.proofs.Laws.Entries.{set-file-length, set-file-same, set-file-created, set-file-modified, set-file-first, set-file-size, set-file-blocks}
 use Rattle.volume.proofs.Laws.Renewed.{Renewed, renewed-small, renewed-full, renewed-outside, renewed-entry, renewed-sound, renewed-slot, renewed-count}
 use Rattle.volume.proofs.Laws.Frame.{entries-low, changed-below, grown-agree, grown-length}
 use Rattle.layout.proofs.Laws.Bytes.{splice-cut}
-use Rattle.layout.proofs.Laws.Tests.{and-split, and-join, is-false, within-split}
 use Rattle.layout.proofs.Laws.Lists.{In, in-append, joined-append, last-in, joined-same}
-use Rattle.layout.proofs.Laws.Frames.{Same, same-then, same-inner, same-byte, same-be32, same-part, before-next, Agree, agree-block}
+use Rattle.layout.proofs.Laws.Frames.{Same, before-next, Agree, agree-block}
 use Rattle.layout.proofs.Laws.Chains.{nth, Chain, getD-chain, in-chain, chain-agree, chain-distinct, chain-last, chain-start}
 use Rattle.layout.proofs.Laws.Counts.{chain-most, occupied-most, occupied-same}
 use Rattle.layout.proofs.Laws.Visits.{dirBlocks}
 use Rattle.layout.proofs.Laws.Trees.{sizeAt}
-use Rattle.layout.proofs.Laws.Sound.{heldAt, own-held, second-held, second-first, Sound, Entry, Owner, sound, check-zero}
-use Rattle.layout.proofs.Laws.Slots.{slot-entry, entry-high, entry-low, names-differ}
-use Rattle.layout.proofs.Laws.Files.{file-in, file-right, length-fileBlocks, length-blocks}
-use Rattle.layout.proofs.Laws.Owners.{free-count, blocksAt, file-held, file-used-type, file-no-self, file-holds, file-blocks, second, second-blocks, second-no-self, file-above, file-below, file-used, entry-elsewhere, Fresh, block-high, block-below, block-used, block-apart, block-outside}
+use Rattle.layout.proofs.Laws.Sound.{heldAt, Sound, Entry, Owner, sound, check-zero}
+use Rattle.layout.proofs.Laws.Slots.{slot-entry, entry-low}
+use Rattle.layout.proofs.Laws.Files.{file-in, length-fileBlocks, length-blocks}
+use Rattle.layout.proofs.Laws.Owners.{free-count, blocksAt, file-no-self, file-holds, file-blocks, second, second-blocks, second-no-self, file-above, file-below, file-used, entry-elsewhere, Fresh, block-high, block-below, block-used, block-apart, block-outside}
 use Rattle.layout.proofs.Laws.Changed.{OneSlot}
-use Rattle.layout.proofs.Laws.Steps.{over-same, Midway, Staying, staying, midway-start, dir-apart, midway-own, one-slot}
+use Rattle.layout.proofs.Laws.Steps.{over-same, Midway, Staying, staying, midway-start, dir-apart}
 use Rattle.layout.specs.Claims.{SameAttributes}
 use Rattle.layout.proofs.Laws.Others.{same-attributes}
 
