@@ -45,9 +45,8 @@
  *     the table and the form of directories; a flipped bit in a file's bytes,
  *     a time or a user is not found.
  *   - A write never shortens a file.  "300" written over "9600" leaves "3000".
- *     Give a setting a fixed length, or store the length in front of it, or
- *     delete the file, create it and write it again; undo takes back each step.
- *     Or use bulgefs_put_settings, which keeps the lengths itself.
+ *     bulgefs_replace gives a file other bytes as a whole, bulgefs_shorten cuts
+ *     it, and bulgefs_put_settings keeps the earlier revisions too.
  *   - Nothing ties a journal to its image.  Undo with another image's journal
  *     puts that image's blocks into this one.  Keep them together, and start
  *     the journal whenever you replace the image, by an older copy too.
@@ -560,6 +559,37 @@ bulgefs_changed bulgefs_write(uint8_t *image, size_t image_len,
                               const uint8_t *path, size_t path_len,
                               uint64_t offset, const uint8_t *data, size_t data_len,
                               uint64_t time);
+
+/*
+ * Shortens a file to its first size bytes.  The blocks that it no longer needs
+ * become free, and their bytes and those behind the new end become 0.  The
+ * modified time becomes time.  A size that the file has already is accepted:
+ * it sets the time and adds a record.  size must not be above the file's size.
+ * Refusals: 1 to 7, BULGEFS_BAD_JOURNAL, BULGEFS_BAD_ARGUMENT,
+ * BULGEFS_TOO_DEEP, BULGEFS_NOT_FOUND, BULGEFS_BAD_OFFSET (for size),
+ * BULGEFS_JOURNAL_FULL.
+ */
+BULGEFS_CHECKED
+bulgefs_changed bulgefs_shorten(uint8_t *image, size_t image_len,
+                                uint8_t *journal, size_t journal_len,
+                                const uint8_t *path, size_t path_len,
+                                uint64_t size, uint64_t time);
+
+/*
+ * Gives a file other bytes: they are then exactly data.  The modified time
+ * becomes time, and all else of the file stays.  It is one change that leaves
+ * what bulgefs_shorten to the smaller of the two sizes and bulgefs_write at 0
+ * would leave, both with this time.
+ * Refusals: 1 to 7, BULGEFS_BAD_JOURNAL, BULGEFS_BAD_ARGUMENT (also for
+ * data_len above 4,096), BULGEFS_TOO_DEEP, BULGEFS_NOT_FOUND,
+ * BULGEFS_VOLUME_FULL, BULGEFS_JOURNAL_FULL.
+ */
+BULGEFS_CHECKED
+bulgefs_changed bulgefs_replace(uint8_t *image, size_t image_len,
+                                uint8_t *journal, size_t journal_len,
+                                const uint8_t *path, size_t path_len,
+                                const uint8_t *data, size_t data_len,
+                                uint64_t time);
 
 /*
  * Appends a piece to a file: bulgefs_write at the file's end as it then stands,

@@ -5,7 +5,7 @@ ghost use mathlib.Core.Path.{_≡_};
 ghost use Rattle.layout.specs.Check.{check};
 ghost use Rattle.layout.specs.Looks.{LookupAnswer, ReadAnswer, Extent, lookup, read, extentOf, readAttributes, volumeInfo, nextEntry};
 ghost use Rattle.layout.specs.Answers.{volumeAnswer, entryAnswer};
-ghost use Rattle.store.specs.Change.{Change as ChangeAsked, create, write, delete, createDirectory, deleteDirectory, setAttributes, clearAttributes, clearFlags, putIn, put, slotGiven};
+ghost use Rattle.store.specs.Change.{Change as ChangeAsked, create, write, delete, createDirectory, deleteDirectory, setAttributes, clearAttributes, clearFlags, shorten, replace, putIn, put, slotGiven};
 ghost use Rattle.store.specs.Get.{theLatest, theNumber, gotAnswer, getIn, get};
 ghost use Rattle.volume.specs.Format.{formatRefusal, formatted};
 ghost use Rattle.chain_table.specs.Transfer.{loadTable, storeTable};
@@ -387,6 +387,34 @@ pub extern "C" fn bulgefs_clear_flags(image: &mut [u8], journal: &mut [u8], path
     ensures state { λ _. ⌜ state (now (image .exit)) (now (journal .exit)) ≡ afterChange (state (now (image .entry)) (now (journal .entry))) (clearFlags (now (path .entry))) ⌝ }
 {
     slotless(journal::calls::clear_flags(image, journal, path))
+}
+
+#[no_mangle]
+pub extern "C" fn bulgefs_shorten(
+    image: &mut [u8],
+    journal: &mut [u8],
+    path: &[u8],
+    size: u64,
+    time: u64,
+) -> Changed
+    ensures answer { λ r. ⌜ changed (r .number) 0 (r .size) ≡ changeAnswer (state (now (image .entry)) (now (journal .entry))) (shorten (now (path .entry)) size time) ⌝ }
+    ensures state { λ _. ⌜ state (now (image .exit)) (now (journal .exit)) ≡ afterChange (state (now (image .entry)) (now (journal .entry))) (shorten (now (path .entry)) size time) ⌝ }
+{
+    slotless(journal::calls::shorten(image, journal, path, size as usize, time))
+}
+
+#[no_mangle]
+pub extern "C" fn bulgefs_replace(
+    image: &mut [u8],
+    journal: &mut [u8],
+    path: &[u8],
+    bytes: &[u8],
+    time: u64,
+) -> Changed
+    ensures answer { λ r. ⌜ changed (r .number) 0 (r .size) ≡ changeAnswer (state (now (image .entry)) (now (journal .entry))) (replace (now (path .entry)) (now (bytes .entry)) time) ⌝ }
+    ensures state { λ _. ⌜ state (now (image .exit)) (now (journal .exit)) ≡ afterChange (state (now (image .entry)) (now (journal .entry))) (replace (now (path .entry)) (now (bytes .entry)) time) ⌝ }
+{
+    slotless(journal::calls::replace(image, journal, path, bytes, time))
 }
 
 // The slot of a put's answer is the revision's number.

@@ -1,6 +1,6 @@
 // The calls that are lent a journal. Each checks the image and scans the journal once.
 ghost use mathlib.Core.Path.{_≡_};
-ghost use Rattle.store.specs.Change.{create, write, delete, createDirectory, deleteDirectory, setAttributes, clearAttributes, clearFlags, putIn, put};
+ghost use Rattle.store.specs.Change.{create, write, delete, createDirectory, deleteDirectory, setAttributes, clearAttributes, clearFlags, shorten, replace, putIn, put};
 ghost use Rattle.store.specs.Asked.{askedIn, asked};
 ghost use Rattle.journal.specs.Run.{afterUndo, undoAnswer, afterChange, changeAnswer, state};
 ghost use Rattle.journal.specs.Walks.Changes.{Inspects, Ready, readyRefusal};
@@ -312,6 +312,35 @@ pub fn clear_flags(image: &mut [u8], journal: &mut [u8], path: &[u8]) -> Changed
         path,
         b"",
     )
+}
+
+// Shorten: a file keeps its first bytes.
+pub fn shorten(image: &mut [u8], journal: &mut [u8], path: &[u8], size: usize, time: u64) -> Changed
+    ensures answer { λ r. ⌜ changedAnswer r ≡ changeAnswer (state (now (image .entry)) (now (journal .entry))) (shorten (now (path .entry)) size time) ⌝ }
+    ensures state { λ _. ⌜ state (now (image .exit)) (now (journal .exit)) ≡ afterChange (state (now (image .entry)) (now (journal .entry))) (shorten (now (path .entry)) size time) ⌝ }
+    ensures numbered { λ r. ⌜ ChangeNumbered r ⌝ }
+{
+    let what = VolumeChange::Shorten {
+        size: size,
+        time: time,
+    };
+    change(image, journal, Change::Volume(what), path, b"")
+}
+
+// Replace: a file's bytes become the given ones.
+pub fn replace(
+    image: &mut [u8],
+    journal: &mut [u8],
+    path: &[u8],
+    bytes: &[u8],
+    time: u64,
+) -> Changed
+    ensures answer { λ r. ⌜ changedAnswer r ≡ changeAnswer (state (now (image .entry)) (now (journal .entry))) (replace (now (path .entry)) (now (bytes .entry)) time) ⌝ }
+    ensures state { λ _. ⌜ state (now (image .exit)) (now (journal .exit)) ≡ afterChange (state (now (image .entry)) (now (journal .entry))) (replace (now (path .entry)) (now (bytes .entry)) time) ⌝ }
+    ensures numbered { λ r. ⌜ ChangeNumbered r ⌝ }
+{
+    let what = VolumeChange::Replace { time: time };
+    change(image, journal, Change::Volume(what), path, bytes)
 }
 
 // Put settings in a directory: adds a revision to the settings of a serial number; the slot of its answer is the revision's number.

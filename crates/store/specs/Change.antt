@@ -35,6 +35,12 @@ clearAttributes path = plain (volume.clearAttributes path)
 abbrev pub clearFlags : (path : List ℕ) → Change
 clearFlags path = plain (volume.clearFlags path)
 
+abbrev pub shorten : (path : List ℕ) (size time : ℕ) → Change
+shorten path size time = plain (volume.shorten path size time)
+
+abbrev pub replace : (path bytes : List ℕ) (time : ℕ) → Change
+replace path bytes time = plain (volume.replace path bytes time)
+
 -- L10: a put in the root
 abbrev pub put : (serial : List ℕ) (time : ℕ) (bytes : List ℕ) → Change
 put serial time bytes = putIn root serial time bytes

@@ -1,4 +1,4 @@
--- Cases beyond document 01's: every stage of the check, every refusal number from 1 to 16, and the calls' other branches. One table in five parts,
+-- Cases beyond document 01's: every stage of the check, every refusal number from 1 to 16, and the calls' other branches. One table in seven parts,
 -- proved by computing the definitions (a part is as much as one declaration may compute).
 use Prim.Native.Nat.{ℕ}
 use mathlib.Core.List.{List, [], _∷_, _++_, map}
@@ -11,7 +11,7 @@ use Rattle.layout.specs.Check.{check}
 use Rattle.layout.specs.Listing.{listing}
 use Rattle.volume.specs.Entries.{setOccupied}
 use Rattle.volume.specs.Format.{formatRefusal, formatted}
-use Rattle.store.specs.Change.{create, write, delete, clearFlags, named, refusal, after}
+use Rattle.store.specs.Change.{create, write, delete, clearFlags, shorten, replace, named, refusal, after}
 use Rattle.journal.specs.Journal.{started, startRefusal, wellFormed, ascending}
 use Rattle.journal.specs.Run.{Look, change, undo, look, checkImage, findFile, readFile, lookAt, State, step, answer, changeRefusal, undoRefusal}
 use Rattle.samples.proofs.Rules.{rules}
@@ -165,6 +165,67 @@ changes =
     ∷ (step (record { image = formattedAs 8 1; journal = p₁ .journal }) undo .image, splice (formattedAs 8 1) 1024 (take 512 (drop 1024 (formattedAs 8 2))))
     ∷ []
 
+-- the numbers of file A, its modified time, the counts, the links of blocks 4 to 6, and the check
+numbersOf : List ℕ → List ℕ
+numbersOf s = map (be32 s) (1156 ∷ 1160 ∷ 1164 ∷ 1180 ∷ 20 ∷ 24 ∷ []) ++ (map (next s) (4 ∷ 5 ∷ 6 ∷ []) ++ (check s ∷ []))
+
+-- shorten, of the 513 bytes of file A
+pub shortens : List (List ℕ × List ℕ)
+shortens =
+    let s = p₂ .image in
+    let to = λ size. after s (shorten fileA size 77) in
+    let saved = λ size. numbers (answer p₂ (change (shorten fileA size 77))) ++ ascending 8 (named s (shorten fileA size 77)) in
+    let behind = splice s 2561 (7 ∷ []) in
+    let short : State = record { image = s; journal = started 525 } in
+    -- to 0: both blocks are freed
+    (saved 0, 0 ∷ 0 ∷ 2584 ∷ 0 ∷ 1 ∷ 2 ∷ 4 ∷ 5 ∷ [])
+    ∷ (numbersOf (to 0), 0 ∷ 0 ∷ 0 ∷ 77 ∷ 4 ∷ 4 ∷ 0 ∷ 0 ∷ 0 ∷ 0 ∷ [])
+    -- to 1: block 4 is the block of the new end; 5 is freed
+    ∷ (saved 1, 0 ∷ 0 ∷ 2584 ∷ 0 ∷ 1 ∷ 2 ∷ 4 ∷ 5 ∷ [])
+    ∷ (numbersOf (to 1), 4 ∷ 1 ∷ 1 ∷ 77 ∷ 5 ∷ 3 ∷ 1 ∷ 0 ∷ 0 ∷ 0 ∷ [])
+    ∷ (block (to 1) 4 ++ block (to 1) 5, pattern 1 ++ replicate 1023 0)
+    ∷ (step (step p₂ (change (shorten fileA 1 77))) undo .image, s)
+    -- to 512: block 4 ends there, and is not saved
+    ∷ (saved 512, 0 ∷ 0 ∷ 2068 ∷ 0 ∷ 1 ∷ 2 ∷ 5 ∷ [])
+    ∷ (numbersOf (to 512), 4 ∷ 512 ∷ 1 ∷ 77 ∷ 5 ∷ 3 ∷ 1 ∷ 0 ∷ 0 ∷ 0 ∷ [])
+    ∷ (block (to 512) 4 ++ block (to 512) 5, pattern 512 ++ replicate 512 0)
+    -- to 513, its size: a record of 520, and only the time changes; what stands behind the end stays
+    ∷ (saved 513, 0 ∷ 0 ∷ 520 ∷ 2 ∷ [])
+    ∷ (to 513, splice s 1180 (bytes4 77))
+    ∷ (after behind (shorten fileA 513 77), splice behind 1180 (bytes4 77))
+    -- 12, 9, 10; 15
+    ∷ (map (refusal s) (shorten fileA 514 1 ∷ shorten [] 514 1 ∷ shorten (inRoot 66) 0 1 ∷ []), 12 ∷ 9 ∷ 10 ∷ [])
+    ∷ (map (changeRefusal short) (shorten fileA 513 1 ∷ shorten fileA 512 1 ∷ shorten fileA 514 1 ∷ []), 0 ∷ 15 ∷ 12 ∷ [])
+    ∷ []
+
+-- replace, of the 513 bytes of file A
+pub replaces : List (List ℕ × List ℕ)
+replaces =
+    let s = p₂ .image in
+    let three : List ℕ = 51 ∷ 48 ∷ 48 ∷ [] in
+    let small = step p₂ (change (replace fileA three 77)) in
+    -- by 3 bytes: block 4 stays, 5 is freed; undo of it
+    (numbers (answer p₂ (change (replace fileA three 77))) ++ ascending 8 (named s (replace fileA three 77)), 0 ∷ 0 ∷ 2584 ∷ 0 ∷ 1 ∷ 2 ∷ 4 ∷ 5 ∷ [])
+    ∷ (numbersOf (small .image), 4 ∷ 3 ∷ 1 ∷ 77 ∷ 5 ∷ 3 ∷ 1 ∷ 0 ∷ 0 ∷ 0 ∷ [])
+    ∷ (block (small .image) 4 ++ block (small .image) 5, three ++ replicate 1021 0)
+    ∷ (small .image, after (after s (shorten fileA 3 77)) (write fileA 0 three 77))
+    ∷ (step small undo .image, s)
+    -- then by 2 and by 3 bytes, in the same block: records of 1,036
+    ∷ (numbers (answer small (change (replace fileA (pattern 2) 78))) ++ ascending 8 (named (small .image) (replace fileA (pattern 2) 78)), 0 ∷ 0 ∷ 1036 ∷ 2 ∷ 4 ∷ [])
+    ∷ (block (after (small .image) (replace fileA (pattern 2) 78)) 4, pattern 2 ++ replicate 510 0)
+    ∷ (ascending 8 (named (small .image) (replace fileA (pattern 3) 78)), 2 ∷ 4 ∷ [])
+    -- by no bytes: the block is freed
+    ∷ (ascending 8 (named (small .image) (replace fileA [] 78)) ++ numbersOf (after (small .image) (replace fileA [] 78)), 0 ∷ 1 ∷ 2 ∷ 4 ∷ 0 ∷ 0 ∷ 0 ∷ 78 ∷ 4 ∷ 4 ∷ 0 ∷ 0 ∷ 0 ∷ 0 ∷ [])
+    -- by more than it has: what the write at 0 leaves and names
+    ∷ (after s (replace fileA (pattern 1025) 77), after s (write fileA 0 (pattern 1025) 77))
+    ∷ (ascending 8 (named s (replace fileA (pattern 1025) 77)), 0 ∷ 1 ∷ 2 ∷ 4 ∷ 5 ∷ 6 ∷ [])
+    -- 14 past the last free block; 9, 10
+    ∷ (
+      map (refusal s) (replace fileA (pattern 2048) 1 ∷ replace fileA (pattern 2049) 1 ∷ replace fileA (pattern 4097) 1 ∷ replace [] [] 1 ∷ replace (inRoot 66) (pattern 4096) 1 ∷ []),
+      0 ∷ 14 ∷ 9 ∷ 9 ∷ 10 ∷ [],
+    )
+    ∷ []
+
 -- the journal's form: good; version; used too low and too high; a record of no blocks; one byte more; numbers that do not rise; a number not below n
 pub forms : List (List ℕ × List ℕ)
 forms =
@@ -193,9 +254,17 @@ changes-hold : AsExpected changes
 unfolding changes bit checks looked p₁ p₂ samples rules
 changes-hold = tt
 
+shortens-hold : AsExpected shortens
+unfolding shortens numbersOf bit checks looked p₁ p₂ samples rules
+shortens-hold = tt
+
+replaces-hold : AsExpected replaces
+unfolding replaces numbersOf bit checks looked p₁ p₂ samples rules
+replaces-hold = tt
+
 forms-hold : AsExpected forms
 unfolding forms bit checks looked p₁ p₂ samples rules
 forms-hold = tt
 
-pub further-cases : AsExpected stages × AsExpected looks × AsExpected starts × AsExpected changes × AsExpected forms
-further-cases = (stages-hold, looks-hold, starts-hold, changes-hold, forms-hold)
+pub further-cases : AsExpected stages × AsExpected looks × AsExpected starts × AsExpected changes × AsExpected shortens × AsExpected replaces × AsExpected forms
+further-cases = (stages-hold, looks-hold, starts-hold, changes-hold, shortens-hold, replaces-hold, forms-hold)

@@ -22,6 +22,10 @@ pub mod Taken
 pub mod CreateDirectory
 pub mod Space
 pub mod Write
+pub mod Cut
+pub mod Renewed
+pub mod Shorten
+pub mod Replace
 pub mod Sound
 pub mod Format
 pub mod Framed

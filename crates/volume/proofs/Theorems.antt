@@ -11,11 +11,11 @@ use lib.ListN.{length, getD, take}
 use lib.Dec.{eqb}
 use Rattle.layout.specs.Claims.{Inserted, LowestFree}
 use Rattle.layout.specs.Limits.{maxLevels}
-use Rattle.layout.specs.Lists.{has}
-use Rattle.layout.specs.Bytes.{be32, part, splice}
-use Rattle.layout.specs.Geometry.{blockCount}
+use Rattle.layout.specs.Lists.{has, joined}
+use Rattle.layout.specs.Bytes.{be32, part, splice, zeros, block}
+use Rattle.layout.specs.Geometry.{blockCount, blocksFor}
 use Rattle.layout.specs.Table.{next, freeBlocks}
-use Rattle.layout.specs.Directory.{firstBlock, blocksOf, isFile, isDirectory, isEmpty, directory, dirs, fileBlocks, attributeBlocks}
+use Rattle.layout.specs.Directory.{firstBlock, sizeOf, blocksOf, isFile, isDirectory, isEmpty, directory, dirs, fileBlocks, attributeBlocks}
 use Rattle.layout.specs.Check.{check}
 use Rattle.layout.specs.Paths.{parts, pathSlot, entryOf, fileRefusal}
 use Rattle.layout.specs.Looks.{lookup, lookupRefusal, read, lookInPlace, readAttributes}
@@ -25,7 +25,9 @@ use Rattle.volume.specs.Format.{formatRefusal, formatted}
 use Rattle.volume.specs.Write.{needed, newBlocks}
 use Rattle.volume.specs.Delete.{allBlocks}
 use Rattle.volume.specs.Attributes.{emptied}
-use Rattle.volume.specs.Change.{Change, create, write, createDirectory, deleteDirectory, setAttributes, clearAttributes, clearFlags, refusal, after, named, slotGiven}
+use Rattle.volume.specs.Shorten.{tailLength}
+use Rattle.volume.specs.Replace.{replaceAt, replaceNamed, replaceRefusal}
+use Rattle.volume.specs.Change.{Change, create, write, createDirectory, deleteDirectory, setAttributes, clearAttributes, clearFlags, shorten, replace, refusal, after, named, slotGiven}
 use Rattle.volume.specs.Claims.{NoRoom, NoRoomForSet, Blanked, Apart}
 use Rattle.volume.specs.Views.{File, nothing, just, fileOf, fileAt, folderAt, SameFiles, NoNewFlags, subject, made, madeFolder, takes, gives, givesFolder}
 use Rattle.volume.proofs.Laws.Framed.{frame}
@@ -36,7 +38,9 @@ use Rattle.volume.proofs.Laws.Places.{file-at-path, write-given, set-pa
 use Rattle.volume.proofs.Laws.Space.{refused-14, lacking-14, new-lowest, new-length}
 use Rattle.volume.proofs.Laws.Room.{set-refused-14, set-lacking-14, set-taken, set-many, set-lowest-free, free-once-emptied}
 use Rattle.volume.proofs.Laws.Views.{file-shown}
-use Rattle.volume.proofs.Laws.Effects.{create-slot-found, written-blocks, set-kept, clear-kept, flags-kept, flags-number, flags-bytes}
+use Rattle.volume.proofs.Laws.Effects.{create-slot-found, written-blocks, shortened-path, set-kept, clear-kept, flags-kept, flags-number, flags-bytes}
+use Rattle.volume.proofs.Laws.Shorten.{shorten-given, shorten-accepted}
+use Rattle.volume.proofs.Laws.Replace.{replace-there, replace-shorten, replace-accepted, replace-names, short-entry}
 use Rattle.volume.proofs.Laws.Acts.{acts, others-untouched, create-directory-found, create-directory-empty, create-directory-tree, delete-directory-tree}
 use Rattle.volume.proofs.Laws.Shown.{read-shown, attributes-read, look-shown, not-shown, splice-long, lookup-kept, own-lookup, own-read, own-look, file-owner, chains-apart, directory-apart, directory-owner, write-path}
 use Rattle.volume.proofs.Laws.Alike.{lookup-alike, read-alike, look-alike, attributes-alike}
@@ -237,6 +241,99 @@ module _ (s : List ℕ) (ok : check s ≡ 0) where
 
     pub lowest-taken : LowestFree s (newBlocks s e offset (length bytes))
     lowest-taken = new-lowest s e offset (length bytes)
+
+  -- An accepted shorten.
+  module _ (path : List ℕ) (size time : ℕ) (r : refusal s (shorten path size time) ≡ 0) where
+    abbrev shortened : List ℕ
+    shortened = after s (shorten path size time)
+
+    abbrev cut : ℕ
+    cut = entryOf isFile s path
+
+    found-shorten : fileRefusal s path ≡ 0
+    unfolding refusal
+    found-shorten = shorten-given s path size r .there
+
+    -- The file's size is the given one, and a read gives the first bytes of what it showed.
+    pub shorten-size : sizeOf shortened cut ≡ size
+    unfolding refusal after
+    shorten-size = shortened-path s path ok size time (shorten-given s path size r) .entry .size-is
+
+    pub shorten-read : (offset : ℕ) (buffer : List ℕ) → offset ≤ length (take size (fileOf s cut .bytes)) → read shortened path offset buffer
+        ≡ record { number = 0; count = min (length buffer) (length (take size (fileOf s cut .bytes)) - offset); buffer = splice buffer 0 (part (take size (fileOf s cut .bytes)) offset (min (length buffer) (length (take size (fileOf s cut .bytes)) - offset))) }
+    unfolding subject made
+    shorten-read offset buffer h =
+        read-shown shortened path (change-sound (shorten path size time) r) _ (own-file (shorten path size time) r ∙ ap (made (shorten path size time)) (file-shown s path found-shorten)) offset buffer h
+
+    -- It keeps its first blocks. What they hold stays, but for the bytes behind the new end, which are zero if the size falls (tailLength).
+    pub shorten-blocks : fileBlocks shortened cut ≡ take (blocksFor size) (fileBlocks s cut)
+    unfolding refusal after
+    shorten-blocks = shortened-path s path ok size time (shorten-given s path size r) .blocks
+
+    pub shorten-whole : joined (block shortened) (fileBlocks shortened cut) ≡ splice (joined (block s) (take (blocksFor size) (fileBlocks s cut))) size (zeros (tailLength (sizeOf s cut) size))
+    unfolding refusal after
+    shorten-whole = shortened-path s path ok size time (shorten-given s path size r) .whole
+
+    -- The file's attributes stay.
+    pub shorten-attributes : (buffer : List ℕ) → readAttributes shortened path buffer ≡ readAttributes s path buffer
+    unfolding subject made
+    shorten-attributes buffer =
+        let shown = file-shown s path found-shorten in
+        attributes-read shortened path (change-sound (shorten path size time) r) _ (own-file (shorten path size time) r ∙ ap (made (shorten path size time)) shown) buffer
+        ∙ sym (attributes-read s path ok (fileOf s (entryOf isFile s path)) shown buffer)
+
+  -- A replace is refused as a write at 0 is.
+  pub replace-refused : (path bytes : List ℕ) (time : ℕ) → refusal s (replace path bytes time) ≡ refusal s (write path 0 bytes time)
+  unfolding refusal replaceRefusal
+  replace-refused path bytes time = refl
+
+  -- An accepted replace.
+  module _ (path bytes : List ℕ) (time : ℕ) (r : refusal s (replace path bytes time) ≡ 0) where
+    abbrev replaced : List ℕ
+    replaced = after s (replace path bytes time)
+
+    abbrev first-half : Change
+    first-half = shorten path (min (sizeOf s (entryOf isFile s path)) (length bytes)) time
+
+    abbrev second-half : Change
+    second-half = write path 0 bytes time
+
+    given-replace : replaceRefusal s path (length bytes) ≡ 0
+    unfolding refusal
+    given-replace = r
+
+    -- It is a shorten to the smaller size and then a write at 0: both are accepted, the image is the one that they leave, and the named blocks are those of both.
+    pub replace-shortens : refusal s first-half ≡ 0
+    unfolding refusal
+    replace-shortens = shorten-accepted s path _ (replace-shorten s path (length bytes) given-replace)
+
+    pub replace-writes : refusal (after s first-half) second-half ≡ 0
+    unfolding refusal after
+    replace-writes = replace-accepted s path ok (length bytes) time given-replace
+
+    pub replace-both : replaced ≡ after (after s first-half) second-half
+    unfolding after replaceAt
+    replace-both = rw (short-entry s path ok (length bytes) time given-replace)
+
+    pub replace-named : named s (replace path bytes time) ≡ named s first-half ++ named (after s first-half) second-half
+    unfolding after named replaceNamed
+    replace-named = rw (short-entry s path ok (length bytes) time given-replace, replace-names s path ok (length bytes) time given-replace)
+
+    -- A read gives the given bytes, all of them and no others.
+    pub replace-read : (offset : ℕ) (buffer : List ℕ) → offset ≤ length bytes → read replaced path offset buffer
+        ≡ record { number = 0; count = min (length buffer) (length bytes - offset); buffer = splice buffer 0 (part bytes offset (min (length buffer) (length bytes - offset))) }
+    unfolding subject made
+    replace-read offset buffer h =
+        read-shown replaced path (change-sound (replace path bytes time) r) _
+        (own-file (replace path bytes time) r ∙ ap (made (replace path bytes time)) (file-shown s path (replace-there s path (length bytes) given-replace))) offset buffer h
+
+    -- The file's attributes stay.
+    pub replace-attributes : (buffer : List ℕ) → readAttributes replaced path buffer ≡ readAttributes s path buffer
+    unfolding subject made
+    replace-attributes buffer =
+        let shown = file-shown s path (replace-there s path (length bytes) given-replace) in
+        attributes-read replaced path (change-sound (replace path bytes time) r) _ (own-file (replace path bytes time) r ∙ ap (made (replace path bytes time)) shown) buffer
+        ∙ sym (attributes-read s path ok (fileOf s (entryOf isFile s path)) shown buffer)
 
   -- An accepted create: the file is found in the slot that is answered.
   pub create-found : (path : List ℕ) (type user group permissions flags time : ℕ) (r : refusal s (create path type user group permissions flags time) ≡ 0)

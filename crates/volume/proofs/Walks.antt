@@ -14,6 +14,8 @@ pub mod Write
 pub mod Plan
 pub mod WriteImage
 pub mod WriteNamed
+pub mod Shorten
+pub mod Replace
 pub mod Places
 pub mod Create
 pub mod DeleteDirectory

@@ -14,3 +14,5 @@ asked kinds.DeleteDirectory path bytes = rules.deleteDirectory path
 asked kinds.SetAttributes path bytes = rules.setAttributes path bytes
 asked kinds.ClearAttributes path bytes = rules.clearAttributes path
 asked kinds.ClearFlags path bytes = rules.clearFlags path
+asked (kinds.Shorten size time) path bytes = rules.shorten path size time
+asked (kinds.Replace time) path bytes = rules.replace path bytes time

@@ -7,6 +7,8 @@ use Rattle.volume.specs.Write.{writeRefusal, writeAt, writeNamed}
 use Rattle.volume.specs.Delete.{deleteAt, deleteNamed}
 use Rattle.volume.specs.Attributes.{setAttributesRefusal, setAttributesAt, setAttributesNamed, clearAttributesAt, clearAttributesNamed}
 use Rattle.volume.specs.Flags.{clearFlagsAt, clearFlagsNamed}
+use Rattle.volume.specs.Shorten.{shortenRefusal, shortenAt, shortenNamed}
+use Rattle.volume.specs.Replace.{replaceRefusal, replaceAt, replaceNamed}
 use Rattle.volume.specs.Directories.{createDirectoryRefusal, createDirectoryImage, createDirectoryNamed, deleteDirectoryRefusal}
 use Rattle.layout.specs.Directory.{isFile, isDirectory}
 use Rattle.layout.specs.Paths.{fileRefusal, entryOf}
@@ -20,6 +22,8 @@ pub data Change : Type 0 where
   setAttributes : (path bytes : List ℕ) → Change
   clearAttributes : (path : List ℕ) → Change
   clearFlags : (path : List ℕ) → Change
+  shorten : (path : List ℕ) (size time : ℕ) → Change
+  replace : (path bytes : List ℕ) (time : ℕ) → Change
 
 -- the refusal by the numbers 9 to 26, or 0
 unfoldable pub refusal : List ℕ → Change → ℕ
@@ -31,6 +35,8 @@ refusal s (deleteDirectory path) = deleteDirectoryRefusal s path
 refusal s (setAttributes path bytes) = setAttributesRefusal s path (length bytes)
 refusal s (clearAttributes path) = fileRefusal s path
 refusal s (clearFlags path) = fileRefusal s path
+refusal s (shorten path size time) = shortenRefusal s path size
+refusal s (replace path bytes time) = replaceRefusal s path (length bytes)
 
 -- of an accepted change: the image after it, its named blocks (in any order), and the slot that it answers (create, of a directory too)
 unfoldable pub after : List ℕ → Change → List ℕ
@@ -42,6 +48,8 @@ after s (deleteDirectory path) = deleteAt s (entryOf isDirectory s path)
 after s (setAttributes path bytes) = setAttributesAt s (entryOf isFile s path) bytes
 after s (clearAttributes path) = clearAttributesAt s (entryOf isFile s path)
 after s (clearFlags path) = clearFlagsAt s (entryOf isFile s path)
+after s (shorten path size time) = shortenAt s (entryOf isFile s path) size time
+after s (replace path bytes time) = replaceAt s (entryOf isFile s path) bytes time
 
 unfoldable pub named : List ℕ → Change → List ℕ
 named s (create path type user group permissions flags time) = createNamed s path
@@ -52,6 +60,8 @@ named s (deleteDirectory path) = deleteNamed s (entryOf isDirectory s path)
 named s (setAttributes path bytes) = setAttributesNamed s (entryOf isFile s path) (length bytes)
 named s (clearAttributes path) = clearAttributesNamed s (entryOf isFile s path)
 named s (clearFlags path) = clearFlagsNamed (entryOf isFile s path)
+named s (shorten path size time) = shortenNamed s (entryOf isFile s path) size
+named s (replace path bytes time) = replaceNamed s (entryOf isFile s path) (length bytes)
 
 unfoldable pub slotGiven : List ℕ → Change → ℕ
 slotGiven s (create path type user group permissions flags time) = createSlot s path
@@ -62,3 +72,5 @@ slotGiven s (deleteDirectory path) = 0
 slotGiven s (setAttributes path bytes) = 0
 slotGiven s (clearAttributes path) = 0
 slotGiven s (clearFlags path) = 0
+slotGiven s (shorten path size time) = 0
+slotGiven s (replace path bytes time) = 0

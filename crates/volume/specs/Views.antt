@@ -4,13 +4,13 @@ use mathlib.Core.Path.{_≡_}
 use mathlib.Core.List.{List, [], _∷_}
 use mathlib.Core.Bool.{Bool, true, false}
 use mathlib.Core.Logic.{_⊎_}
-use lib.ListN.{length}
+use lib.ListN.{length, take}
 use Rattle.layout.specs.Refusals.{accept}
 use Rattle.layout.specs.Bytes.{be32, bytes4, bytes8, part, splice, zeros}
 use Rattle.layout.specs.Geometry.{blocksFor}
 use Rattle.layout.specs.Directory.{blocksOf, isFile, isDirectory, content, attributes}
 use Rattle.layout.specs.Paths.{entryOf, fileRefusal, directoryRefusal}
-use Rattle.volume.specs.Change.{Change, create, write, delete, createDirectory, deleteDirectory, setAttributes, clearAttributes, clearFlags}
+use Rattle.volume.specs.Change.{Change, create, write, delete, createDirectory, deleteDirectory, setAttributes, clearAttributes, clearFlags, shorten, replace}
 
 -- a file: its bytes; type, user, group and permissions; both times; system flags; the bytes of its attributes
 pub record File : Type 0 where
@@ -78,6 +78,8 @@ subject (deleteDirectory path) = path
 subject (setAttributes path bytes) = path
 subject (clearAttributes path) = path
 subject (clearFlags path) = path
+subject (shorten path size time) = path
+subject (replace path bytes time) = path
 
 -- the changes of files
 unfoldable pub ofFile : Change → Bool
@@ -89,6 +91,8 @@ ofFile (deleteDirectory path) = false
 ofFile (setAttributes path bytes) = true
 ofFile (clearAttributes path) = true
 ofFile (clearFlags path) = true
+ofFile (shorten path size time) = true
+ofFile (replace path bytes time) = true
 
 -- what an accepted change makes of the file that its path shows
 abbrev pub over : Maybe File → (File → File) → Maybe File
@@ -106,6 +110,8 @@ made (deleteDirectory path) m = m
 made (setAttributes path bytes) m = over m (λ f. record { bytes = f .bytes; kind = f .kind; created = f .created; modified = f .modified; flags = f .flags; attributes = bytes })
 made (clearAttributes path) m = over m (λ f. record { bytes = f .bytes; kind = f .kind; created = f .created; modified = f .modified; flags = f .flags; attributes = [] })
 made (clearFlags path) m = over m (λ f. record { bytes = f .bytes; kind = f .kind; created = f .created; modified = f .modified; flags = zeros 4; attributes = f .attributes })
+made (shorten path size time) m = over m (λ f. record { bytes = take size (f .bytes); kind = f .kind; created = f .created; modified = bytes8 time; flags = f .flags; attributes = f .attributes })
+made (replace path bytes time) m = over m (λ f. record { bytes = bytes; kind = f .kind; created = f .created; modified = bytes8 time; flags = f .flags; attributes = f .attributes })
 
 -- the blocks that it takes and those that it gives back
 abbrev pub count : Maybe File → (File → ℕ) → ℕ
@@ -121,6 +127,8 @@ takes (deleteDirectory path) m = 0
 takes (setAttributes path bytes) m = length bytes / 512
 takes (clearAttributes path) m = 0
 takes (clearFlags path) m = 0
+takes (shorten path size time) m = 0
+takes (replace path bytes time) m = count m (λ f. blocksFor (length bytes) - blocksFor (length (f .bytes)))
 
 unfoldable pub gives : Change → Maybe File → ℕ
 gives (create path type user group permissions flags time) m = 0
@@ -131,6 +139,8 @@ gives (deleteDirectory path) m = 0
 gives (setAttributes path bytes) m = count m (λ f. length (f .attributes) / 512)
 gives (clearAttributes path) m = count m (λ f. length (f .attributes) / 512)
 gives (clearFlags path) m = 0
+gives (shorten path size time) m = count m (λ f. blocksFor (length (f .bytes)) - blocksFor size)
+gives (replace path bytes time) m = count m (λ f. blocksFor (length (f .bytes)) - blocksFor (length bytes))
 
 -- of the directory that its path shows: what it makes of it, and the blocks that it gives back
 unfoldable pub madeFolder : Change → Maybe Folder → Maybe Folder
@@ -143,6 +153,8 @@ madeFolder (deleteDirectory path) m = nothing
 madeFolder (setAttributes path bytes) m = m
 madeFolder (clearAttributes path) m = m
 madeFolder (clearFlags path) m = m
+madeFolder (shorten path size time) m = m
+madeFolder (replace path bytes time) m = m
 
 abbrev pub sizeIn : Maybe Folder → ℕ
 sizeIn nothing = 0
@@ -157,3 +169,5 @@ givesFolder (deleteDirectory path) m = sizeIn m
 givesFolder (setAttributes path bytes) m = 0
 givesFolder (clearAttributes path) m = 0
 givesFolder (clearFlags path) m = 0
+givesFolder (shorten path size time) m = 0
+givesFolder (replace path bytes time) m = 0

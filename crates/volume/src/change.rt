@@ -16,6 +16,8 @@ use super::create::create_at;
 use super::create_directory::create_directory;
 use super::delete::drop_entry;
 use super::file::clear_bytes;
+use super::replace::replace_at;
+use super::shorten::shorten_at;
 use super::write::write_at;
 use layout::file::File;
 
@@ -29,6 +31,8 @@ pub enum Change {
     SetAttributes,
     ClearAttributes,
     ClearFlags,
+    Shorten { size: usize, time: u64 },
+    Replace { time: u64 },
 }
 
 // What the change is about, or the refusal, 9 to 26.
@@ -67,6 +71,8 @@ pub fn refusal(image: &[u8], what: Change, path: &[u8], bytes: &[u8]) -> File
         ),
         Change::ClearAttributes => layout::file::open_file(image, path),
         Change::ClearFlags => layout::file::open_file(image, path),
+        Change::Shorten { size, .. } => super::shorten::shorten_refusal(image, path, size),
+        Change::Replace { .. } => super::write::write_refusal(image, path, 0, bytes.len()),
     }
 }
 
@@ -104,6 +110,8 @@ pub fn mark_named(
         ),
         Change::ClearAttributes => super::attributes::clear_attributes_named(image, found, marks),
         Change::ClearFlags => super::marks::mark(marks, found.block),
+        Change::Shorten { size, .. } => super::shorten::shorten_named(image, found, size, marks),
+        Change::Replace { .. } => super::replace::replace_named(image, found, bytes.len(), marks),
     }
 }
 
@@ -125,6 +133,10 @@ fn apply(image: &mut [u8], what: Change, path: &[u8], bytes: &[u8], found: File)
         Change::SetAttributes => set_attributes(image, found, bytes),
         Change::ClearAttributes => clear_attributes(image, found),
         Change::ClearFlags => clear_bytes(image, found.block, found.slot, 40, 4),
+        Change::Shorten { size, time } => {
+            shorten_at(image, found, size, time);
+        }
+        Change::Replace { time } => replace_at(image, found, bytes, time),
     }
 }
 
@@ -142,6 +154,8 @@ fn slot_of(what: Change, slot: usize) -> u32
         Change::SetAttributes => 0,
         Change::ClearAttributes => 0,
         Change::ClearFlags => 0,
+        Change::Shorten { .. } => 0,
+        Change::Replace { .. } => 0,
     }
 }
 

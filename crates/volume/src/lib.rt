@@ -15,6 +15,8 @@ pub mod marks;
 mod notes;
 pub mod number;
 pub mod place;
+mod replace;
+mod shorten;
 mod slot;
 pub mod table;
 pub mod write;

@@ -19,11 +19,12 @@ use Rattle.volume.specs.Entries.{directoryMade, blocksNamed}
 use Rattle.volume.specs.Create.{createSlot}
 use Rattle.volume.specs.Directories.{createDirectoryRefusal, newDirectoryBlocks, createDirectoryImage, deleteDirectoryRefusal}
 use Rattle.volume.specs.Delete.{allBlocks, deleteAt, deleteNamed}
-use Rattle.volume.specs.Change.{Change, create, write, delete, createDirectory, deleteDirectory, setAttributes, clearAttributes, clearFlags, refusal, after, named}
+use Rattle.volume.specs.Change.{Change, create, write, delete, createDirectory, deleteDirectory, setAttributes, clearAttributes, clearFlags, shorten, replace, refusal, after, named}
 use Rattle.volume.specs.Views.{Folder, Maybe, just, folderOf, fileAt, folderAt, subject, ofFile, made, takes, gives, madeFolder, sizeIn, givesFolder}
 use Rattle.volume.proofs.Laws.Places.{CreateDirectoryGiven, create-directory-given, write-given, leading-shorter, path-levels, path-name, place-is, place-home, place-free, place-new, place-there}
 use Rattle.volume.proofs.Laws.CreateDirectory.{made-inserted, made-slot, made-dir, made-bare, made-name, made-folder, made-used}
-use Rattle.volume.proofs.Laws.Content.{create-untouched, write-untouched, delete-untouched, set-untouched, clear-untouched, flags-untouched, create-directory-untouched}
+use Rattle.volume.proofs.Laws.Shorten.{shorten-given}
+use Rattle.volume.proofs.Laws.Content.{create-untouched, write-untouched, delete-untouched, set-untouched, clear-untouched, flags-untouched, shorten-untouched, replace-untouched, create-directory-untouched}
 use Rattle.volume.proofs.Laws.Views.{other-shown}
 use Rattle.volume.proofs.Laws.Folders.{Comes, came-before, came-slot, came-entry, came-after, came-others}
 use Rattle.volume.proofs.Laws.Effects.{Effect, effect}
@@ -311,6 +312,8 @@ acts s (deleteDirectory path) ok r = delete-directory-acts s path ok r
 acts s (setAttributes path bytes) ok r = file-acts s (setAttributes path bytes) (λ m. refl) (λ m. refl) (effect s (setAttributes path bytes) refl ok r)
 acts s (clearAttributes path) ok r = file-acts s (clearAttributes path) (λ m. refl) (λ m. refl) (effect s (clearAttributes path) refl ok r)
 acts s (clearFlags path) ok r = file-acts s (clearFlags path) (λ m. refl) (λ m. refl) (effect s (clearFlags path) refl ok r)
+acts s (shorten path size time) ok r = file-acts s (shorten path size time) (λ m. refl) (λ m. refl) (effect s (shorten path size time) refl ok r)
+acts s (replace path bytes time) ok r = file-acts s (replace path bytes time) (λ m. refl) (λ m. refl) (effect s (replace path bytes time) refl ok r)
 
 -- the files of all other paths stay where they are, with their entries and blocks
 pub others-untouched : (s : List ℕ) (c : Change) (other : List ℕ) → check s ≡ 0 → refusal s c ≡ 0 → other ≢ subject c → pathOk other ≡ true → Untouched s (after s c) other
@@ -323,3 +326,5 @@ others-untouched s (deleteDirectory path) other ok r ne good = delete-directory-
 others-untouched s (setAttributes path bytes) other ok r ne good = set-untouched s path other ok good ne bytes r
 others-untouched s (clearAttributes path) other ok r ne good = clear-untouched s path other ok good ne r
 others-untouched s (clearFlags path) other ok r ne good = flags-untouched s path other ok good ne r
+others-untouched s (shorten path size time) other ok r ne good = shorten-untouched s path other ok good ne size time (shorten-given s path size r)
+others-untouched s (replace path bytes time) other ok r ne good = replace-untouched s path other ok good ne bytes time r

@@ -1,19 +1,19 @@
 -- The blocks that are free after a change (L7): those that it freed hold only zeros, those that were free before hold what they held.
-use Prim.Native.Nat.{ℕ, suc, _+_, _-_, _*_, _/_, _≤_, _<_}
+use Prim.Native.Nat.{ℕ, suc, _+_, _-_, _*_, _/_, _≤_, _<_, min}
 use mathlib.Core.Path.{_≡_, refl, sym, ap, _∙_, subst}
 use mathlib.Core.Bool.{true, false}
 use mathlib.Core.List.{List, [], _∷_, _++_}
 use mathlib.Core.Logic.{_⊎_, inl, inr, ⊎-elim, _≢_}
 use native.Mathlib.Omega.{arith}
-use lib.ListN.{length, getD, take}
+use lib.ListN.{length, getD, take, take-append-drop}
 use lib.Dec.{eqb}
-use borrow.Author.Tests.{eqb-true}
+use borrow.Author.Tests.{eqb-true, eqb-false}
 use Rattle.layout.specs.Limits.{maxBlocks, maxLevels}
 use Rattle.layout.specs.Lists.{has, distinct, lastOr}
 use Rattle.layout.specs.Bytes.{block, zeros, splice}
-use Rattle.layout.specs.Geometry.{blockCount, tableBlocks, rootBlock}
+use Rattle.layout.specs.Geometry.{blockCount, tableBlocks, rootBlock, blocksFor}
 use Rattle.layout.specs.Table.{next, chain, freeBlocks}
-use Rattle.layout.specs.Directory.{slotAt, typeOf, firstBlock, blocksOf, isFile, isDirectory, directory, dirs, fileBlocks, attributeBlocks, freeSlot}
+use Rattle.layout.specs.Directory.{slotAt, typeOf, firstBlock, sizeOf, blocksOf, isFile, isDirectory, directory, dirs, fileBlocks, attributeBlocks, freeSlot}
 use Rattle.layout.specs.Check.{check}
 use Rattle.layout.specs.Paths.{parts, leading, lastPart, home, pathSlot, entryOf, fileRefusal, directoryRefusal}
 use Rattle.volume.specs.Entries.{directoryMade, released, taken, grown, entriesNamed, blocksNamed}
@@ -22,12 +22,14 @@ use Rattle.volume.specs.Write.{written, changedEntries, newBlocks, write
 use Rattle.volume.specs.Delete.{allBlocks, deleteAt, deleteNamed}
 use Rattle.volume.specs.Attributes.{emptied, newAttributes, setAttributesRefusal, setAttributesAt, setAttributesNamed, clearAttributesAt, clearAttributesNamed}
 use Rattle.volume.specs.Flags.{clearFlagsAt, clearFlagsNamed}
+use Rattle.volume.specs.Shorten.{keptBlocks, cutBlocks, tailLength, shortenAt, shortenNamed}
+use Rattle.volume.specs.Replace.{replaceRefusal, replaceAt}
 use Rattle.volume.specs.Directories.{createDirectoryRefusal, newDirectoryBlocks, createDirectoryImage, createDirectoryNamed, deleteDirectoryRefusal}
-use Rattle.volume.specs.Change.{Change, create, write, delete, createDirectory, deleteDirectory, setAttributes, clearAttributes, clearFlags, refusal, after, named}
+use Rattle.volume.specs.Change.{Change, create, write, delete, createDirectory, deleteDirectory, setAttributes, clearAttributes, clearFlags, shorten, replace, refusal, after, named}
 use Rattle.volume.specs.Claims.{Blanked}
 use Rattle.layout.proofs.Laws.Tests.{true-or-false, true-not-false, lt-or-ge, firstOf-zero}
 use Rattle.layout.proofs.Laws.Bytes.{length-zeros, getD-zeros, getD-part, getD-splice-before, getD-splice-inside, getD-splice-after, part-same, length-splice}
-use Rattle.layout.proofs.Laws.Lists.{In, in-append, has-eqb-in, in-has-eqb, last-in, head-apart, tail-distinct}
+use Rattle.layout.proofs.Laws.Lists.{In, in-append, in-take, in-drop, has-eqb-in, in-has-eqb, last-in, head-apart, tail-distinct}
 use Rattle.layout.proofs.Laws.Frames.{Agree, agree-block, agree-next, before-next, same-below}
 use Rattle.layout.proofs.Laws.Joins.{of-join}
 use Rattle.layout.proofs.Laws.Chains.{nth, chain-used, chain-distinct, in-chain}
@@ -38,13 +40,15 @@ use Rattle.layout.proofs.Laws.Slots.{entry-low, entry-high, right-dir}
 use Rattle.layout.proofs.Laws.Owners.{Fresh, free-fresh, file-used}
 use Rattle.volume.proofs.Laws.Table.{taken-length, taken-first, taken-zeros, released-next, released-zero}
 use Rattle.volume.proofs.Laws.Frame.{entries-low, blocks-not, written-in, changed-below, released-agree}
-use Rattle.volume.proofs.Laws.Framed.{frame, write-framed, at-entry, place-entry, child-chain, own-only}
-use Rattle.volume.proofs.Laws.Places.{create-given, create-directory-given, file-at-path, directory-at-path, path-levels, path-name, place-is, place-home, place-free, place-new, WriteGiven, write-given, set-path, set-given}
+use Rattle.volume.proofs.Laws.Framed.{frame, write-framed, shorten-framed, at-entry, place-entry, child-chain, own-only}
+use Rattle.volume.proofs.Laws.Places.{create-given, create-directory-given, At, file-at-path, directory-at-path, path-levels, path-name, place-is, place-home, place-free, place-new, WriteGiven, write-given, set-path, set-given}
 use Rattle.volume.proofs.Laws.CreateDirectory.{made-table}
 use Rattle.volume.proofs.Laws.Delete.{deleted-below, deleted-above, deleted-in-use, deleted-once}
 use Rattle.volume.proofs.Laws.Attributes.{old-below, old-used, emptied-length, emptied-next, set-fresh, both-below}
 use Rattle.volume.proofs.Laws.SetClear.{cleared-table, cleared-zero, set-table, set-zero}
 use Rattle.volume.proofs.Laws.Space.{new-fresh, last-below}
+use Rattle.volume.proofs.Laws.Shorten.{ShortenGiven, shorten-given, shortened-next, shortened-zero, shortened-in-use, shortened-entries}
+use Rattle.volume.proofs.Laws.Replace.{replace-shorten, replace-write, short-sound, short-count, short-entry}
 use Rattle.volume.proofs.Laws.Write.{written-table}
 
 -- a block that is free after blocks were taken was free before, and is none of them
@@ -283,6 +287,91 @@ module _ (s : List ℕ) (ok : check s ≡ 0) where
   unfolding refusal after named clearFlagsNamed
   flags-blanked path r = entry-blanked s T (entryOf isFile s path) (at-entry s T isFile path (file-at-path s path r)) _ (frame s (clearFlags path) ok r .agree)
 
+-- a file shortened: the blocks that it keeps stay in use
+module _ (s : List ℕ) (ok : check s ≡ 0) (path : List ℕ) (size time : ℕ) (G : ShortenGiven s path size) where
+  abbrev entry : ℕ
+  entry = entryOf isFile s path
+
+  abbrev short : List ℕ
+  short = shortenAt s (entryOf isFile s path) size time
+
+  abbrev held : List ℕ
+  held = fileBlocks s (entryOf isFile s path)
+
+  abbrev saved : List ℕ
+  saved = written (keptBlocks s entry size) size (tailLength (sizeOf s entry) size) ++ (cutBlocks s entry size ++ entriesNamed (changedEntries (lastOr 0 (keptBlocks s entry size)) (cutBlocks s entry size)))
+
+  A : At isFile s path
+  A = file-at-path s path (G .there)
+
+  held-used : (b : ℕ) → In b held → next s b ≢ 0
+  unfolding entryOf
+  held-used = file-used s (sound s ok) entry (at-entry s (sound s ok) isFile path A) (A .named .typed)
+
+  others-same : (b : ℕ) → b < blockCount s → (In b held → ⊥) → next short b ≡ next s b
+  unfolding entryOf
+  others-same b h out =
+      shortened-next s (sound s ok) (home s path, A .level) (A .home-in) (pathSlot isFile s path) (A .named .low) (A .named .high) (A .named .typed) size time (G .less) b (omega (arith, sound s ok .least)) out
+
+  -- a block that was free still is
+  still-free : (b : ℕ) → b < blockCount s → next s b ≡ 0 → next short b ≡ 0
+  still-free b h z = others-same b h (λ i. held-used b i z) ∙ z
+
+  not-saved : (b : ℕ) → next s b ≡ 0 → (In b held → ⊥) → In b saved → ⊥
+  unfolding entryOf
+  not-saved b z out m =
+      let freed : List ℕ = cutBlocks s entry size in
+      ⊎-elim (λ i. out (in-take b (blocksFor size) held (written-in (keptBlocks s entry size) size (tailLength (sizeOf s entry) size) b i)))
+      (λ i. ⊎-elim (λ j. out (in-drop b (blocksFor size) held j))
+      (λ j. low-used s (sound s ok) b
+      (shortened-entries s (sound s ok) (home s path, A .level) (A .home-in) (pathSlot isFile s path) (A .named .low) (A .named .high) (A .named .typed) size time (G .less) b j) z)
+      (in-append b freed (entriesNamed (changedEntries (lastOr 0 (keptBlocks s entry size)) freed)) i))
+      (in-append b (written (keptBlocks s entry size) size (tailLength (sizeOf s entry) size)) (freed ++ entriesNamed (changedEntries (lastOr 0 (keptBlocks s entry size)) freed)) m)
+
+  now-free : (b : ℕ) → b < blockCount s → next short b ≡ 0 → (has eqb b held ≡ true) ⊎ (has eqb b held ≡ false)
+      → ((next s b ≢ 0) × (block short b ≡ zeros 512)) ⊎ ((next s b ≡ 0) × (In b saved → ⊥))
+  unfolding entryOf
+  now-free b h z (inl v) =
+      let i = has-eqb-in b held v in
+      let parts : In b (keptBlocks s entry size ++ cutBlocks s entry size) = rw (take-append-drop (blocksFor size) held) i in
+      ⊎-elim
+      (λ j. absurd (shortened-in-use s (sound s ok) (home s path, A .level) (A .home-in) (pathSlot isFile s path) (A .named .low) (A .named .high) (A .named .typed) size time (G .less) b j z))
+      (λ j. inl (held-used b i, shortened-zero s (sound s ok) (home s path, A .level) (A .home-in) (pathSlot isFile s path) (A .named .low) (A .named .high) (A .named .typed) size time (G .less) b j))
+      (in-append b (keptBlocks s entry size) (cutBlocks s entry size) parts)
+  now-free b h z (inr v) =
+      let out : In b held → ⊥ = λ i. true-not-false (in-has-eqb b held i) v in
+      let w : next s b ≡ 0 = sym (others-same b h out) ∙ z in
+      inr (w, not-saved b w out)
+
+  shorten-blanked : Blanked s (shortenAt s (entryOf isFile s path) size time)
+  unfolding after named shortenNamed
+  shorten-blanked =
+      blanked s (sound s ok) entry (at-entry s (sound s ok) isFile path A) short saved (shorten-framed s (sound s ok) path A size time (G .less) .agree)
+      (λ b h z. now-free b h z (true-or-false (has eqb b held)))
+
+-- blocks were freed, then another change was made
+freed-then : (s t u : List ℕ) → blockCount t ≡ blockCount s → ((b : ℕ) → b < blockCount s → next s b ≡ 0 → next t b ≡ 0) → Blanked s t → Blanked t u → Blanked s u
+freed-then s t u n more B C =
+    record {
+      freed = λ b h used z. go b h used z (true-or-false (eqb (next t b) 0));
+      spared = λ b h free z. C .spared b (rw n h) (more b h free) z ∙ B .spared b h free (more b h free);
+    }
+  where
+    go : (b : ℕ) → b < blockCount s → next s b ≢ 0 → next u b ≡ 0 → (eqb (next t b) 0 ≡ true) ⊎ (eqb (next t b) 0 ≡ false) → block u b ≡ zeros 512
+    go b h used z (inl e) = let v : next t b ≡ 0 = eqb-true _ _ e in C .spared b (rw n h) v z ∙ B .freed b h used v
+    go b h used z (inr e) = C .freed b (rw n h) (eqb-false _ _ e) z
+
+replace-blanked : (s : List ℕ) → check s ≡ 0 → (path bytes : List ℕ) (time : ℕ) → replaceRefusal s path (length bytes) ≡ 0 → Blanked s (replaceAt s (entryOf isFile s path) bytes time)
+unfolding replaceAt
+replace-blanked s ok path bytes time r =
+    let e : ℕ = entryOf isFile s path in
+    let m : ℕ = min (sizeOf s e) (length bytes) in
+    let t : List ℕ = shortenAt s e m time in
+    let G = replace-shorten s path (length bytes) r in
+    freed-then s t (writeAt t e 0 bytes time) (short-count s path ok (length bytes) time r) (still-free s ok path m time G) (shorten-blanked s ok path m time G)
+    (subst (λ (x : ℕ). Blanked t (writeAt t x 0 bytes time)) (short-entry s path ok (length bytes) time r)
+    (write-blanked t (short-sound s path ok (length bytes) time r) path 0 bytes time (replace-write s path ok (length bytes) time r)))
+
 pub blank : (s : List ℕ) (c : Change) → check s ≡ 0 → refusal s c ≡ 0 → Blanked s (after s c)
 unfolding refusal after
 blank s (create path type user group permissions flags time) ok r = create-blanked s ok path type user group permissions flags time r
@@ -293,3 +382,5 @@ blank s (deleteDirectory path) ok r = delete-directory-blanked s ok path r
 blank s (setAttributes path bytes) ok r = set-blanked s ok path bytes r
 blank s (clearAttributes path) ok r = clear-blanked s ok path r
 blank s (clearFlags path) ok r = flags-blanked s ok path r
+blank s (shorten path size time) ok r = shorten-blanked s ok path size time (shorten-given s path size r)
+blank s (replace path bytes time) ok r = replace-blanked s ok path bytes time r

@@ -1,6 +1,6 @@
 -- Changes of files by paths: the files of all other paths stay, and every answer about them.
-use Prim.Native.Nat.{ℕ, suc, _+_, _-_, _*_}
-use mathlib.Core.Path.{_≡_, refl, sym, _∙_}
+use Prim.Native.Nat.{ℕ, suc, _+_, _-_, _*_, min}
+use mathlib.Core.Path.{_≡_, refl, sym, _∙_, subst}
 use mathlib.Core.Bool.{Bool, true, false, _&&_}
 use mathlib.Core.List.{List}
 use mathlib.Core.Logic.{_⊎_, inl, inr, _≢_}
@@ -9,7 +9,7 @@ use Rattle.layout.specs.Limits.{maxLevels}
 use Rattle.layout.specs.Lists.{same}
 use Rattle.layout.specs.Bytes.{block}
 use Rattle.layout.specs.Table.{next}
-use Rattle.layout.specs.Directory.{slotAt, typeOf, isFile, nameOf, directory, dirs, freeSlot}
+use Rattle.layout.specs.Directory.{slotAt, typeOf, sizeOf, isFile, nameOf, directory, dirs, freeSlot}
 use Rattle.layout.specs.Check.{check}
 use Rattle.layout.specs.Paths.{parts, pathOk, leading, lastPart, shallow, home, pathSlot, entryOf, fileRefusal}
 use Rattle.volume.specs.Create.{createRefusal, createImage}
@@ -17,6 +17,8 @@ use Rattle.volume.specs.Write.{writeAt}
 use Rattle.volume.specs.Delete.{deleteAt}
 use Rattle.volume.specs.Attributes.{setAttributesAt, clearAttributesAt, setAttributesRefusal}
 use Rattle.volume.specs.Flags.{clearFlagsAt}
+use Rattle.volume.specs.Shorten.{shortenAt}
+use Rattle.volume.specs.Replace.{replaceRefusal, replaceAt}
 use Rattle.volume.specs.Entries.{directoryMade}
 use Rattle.volume.specs.Directories.{createDirectoryRefusal, newDirectoryBlocks, createDirectoryImage, createDirectoryNamed}
 use Rattle.volume.specs.Change.{createDirectory, refusal, after, named}
@@ -27,6 +29,8 @@ use Rattle.volume.proofs.Laws.Write.{written-file, written-slot, writte
 use Rattle.volume.proofs.Laws.Delete.{deleted-slot, deleted-type, deleted-next, deleted-block}
 use Rattle.volume.proofs.Laws.SetClear.{cleared-slot, cleared-entry, cleared-next, cleared-block, set-slot, set-entry, set-next, set-block}
 use Rattle.volume.proofs.Laws.Flags.{flags-slot, flags-entry, flags-next, flags-block}
+use Rattle.volume.proofs.Laws.Shorten.{ShortenGiven, shortened-slot, shortened-file, shortened-value, shortened-block}
+use Rattle.volume.proofs.Laws.Replace.{replace-shorten, replace-write, short-sound, short-entry}
 use Rattle.volume.proofs.Laws.Create.{created-slot, created-no-dir, created-name, created-next, created-block}
 use Rattle.layout.proofs.Laws.Tests.{and-split, is-false, true-not-false}
 use Rattle.layout.proofs.Laws.Names.{same-eq}
@@ -35,7 +39,7 @@ use Rattle.layout.proofs.Laws.Sound.{Sound, Owner, sound}
 use Rattle.layout.proofs.Laws.Changed.{OneSlot}
 use Rattle.layout.proofs.Laws.Paths.{Named}
 use Rattle.layout.proofs.Laws.Owners.{blocksAt, file-no-dir}
-use Rattle.layout.specs.Claims.{Untouched}
+use Rattle.layout.specs.Claims.{Reached, Untouched}
 use Rattle.layout.proofs.Laws.Others.{untouched}
 use Rattle.layout.proofs.Laws.Ways.{other-path}
 
@@ -183,6 +187,48 @@ module _ (s path other : List ℕ) (ok : check s ≡ 0) (good : pathOk other ≡
         (flags-slot s S d (A .home-in) k (N .low) (N .high) (N .typed)) (K .type) (K .name)
         (λ a O p q. flags-next s S d (A .home-in) k (N .low) (N .high) (N .typed) a O)
         (λ a O p q. flags-block s S d (A .home-in) k (N .low) (N .high) (N .typed) a O)
+
+-- a shorten, and a replace
+pub shorten-untouched : (s path other : List ℕ) → check s ≡ 0 → pathOk other ≡ true → other ≢ path → (size time : ℕ) → ShortenGiven s path size
+    → Untouched s (shortenAt s (entryOf isFile s path) size time) other
+unfolding entryOf
+shorten-untouched s path other ok good ne size time G =
+    let A = file-at-path s path (G .there) in
+    let N = A .named in
+    let d : ℕ × ℕ = (home s path, A .level) in
+    let k : ℕ = pathSlot isFile s path in
+    let K = shortened-file s (sound s ok) d (A .home-in) k (N .low) (N .high) (N .typed) size time (G .less) .entry in
+    entry-untouched s path other ok good ne A (shortenAt s (slotAt (directory s (home s path)) k) size time)
+    (shortened-slot s (sound s ok) d (A .home-in) k (N .low) (N .high) (N .typed) size time (G .less)) (K .type) (K .name)
+    (λ a O p q no-self x i. shortened-value s (sound s ok) d (A .home-in) k (N .low) (N .high) (N .typed) size time (G .less) a O p x i)
+    (λ a O p q no-self x i. shortened-block s (sound s ok) d (A .home-in) k (N .low) (N .high) (N .typed) size time (G .less) a O p x i no-self)
+
+-- a change, then another
+pub untouched-then : (s t u other : List ℕ) → Untouched s t other → Untouched t u other → Untouched s u other
+untouched-then s t u other U W =
+    record {
+      slot = λ h. W .slot h ∙ U .slot h;
+      entry = λ r. W .entry (on r) ∙ U .entry r;
+      bytes = λ r. (rw (U .entry r) at (W .bytes (on r))) ∙ U .bytes r;
+      blocks = λ r. (rw (U .entry r) at (W .blocks (on r))) ∙ U .blocks r;
+      contents = λ r. (rw (U .entry r) at (W .contents (on r))) ∙ U .contents r;
+      second = λ r. let A = U .second r in let B = rw (U .entry r) at (W .second (on r)) in
+          record { size = B .size ∙ A .size; blocks = B .blocks ∙ A .blocks; bytes = B .bytes ∙ A .bytes };
+    }
+  where
+    on : Reached s other → Reached t other
+    on r = (r .0, λ z. r .1 (sym (U .slot (r .0)) ∙ z))
+
+pub replace-untouched : (s path other : List ℕ) → check s ≡ 0 → pathOk other ≡ true → other ≢ path → (bytes : List ℕ) (time : ℕ) → replaceRefusal s path (length bytes) ≡ 0
+    → Untouched s (replaceAt s (entryOf isFile s path) bytes time) other
+unfolding replaceAt
+replace-untouched s path other ok good ne bytes time r =
+    let e : ℕ = entryOf isFile s path in
+    let m : ℕ = min (sizeOf s e) (length bytes) in
+    let t : List ℕ = shortenAt s e m time in
+    untouched-then s t (writeAt t e 0 bytes time) other (shorten-untouched s path other ok good ne m time (replace-shorten s path (length bytes) r))
+    (subst (λ (x : ℕ). Untouched t (writeAt t x 0 bytes time) other) (short-entry s path ok (length bytes) time r)
+    (write-untouched t path other (short-sound s path ok (length bytes) time r) good ne 0 bytes time (replace-write s path ok (length bytes) time r)))
 
 -- a directory created: the file of every path stays
 pub create-directory-untouched : (s path other : List ℕ) → check s ≡ 0 → (type user group permissions flags time d : ℕ) → createDirectoryRefusal s path type flags d ≡ 0

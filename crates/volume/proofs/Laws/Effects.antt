@@ -1,11 +1,11 @@
 -- THE EFFECT OF A CHANGE OF A FILE: on what its own path shows a function of that alone, on what other paths show none, and how many blocks it takes and gives.
-use Prim.Native.Nat.{ℕ, _+_, _-_, _/_, _≤_, _<_, max}
+use Prim.Native.Nat.{ℕ, _+_, _-_, _/_, _≤_, _<_, max, min}
 use mathlib.Core.Path.{_≡_, refl, sym, ap, _∙_}
 use mathlib.Core.Bool.{true, false}
 use mathlib.Core.List.{List, [], _∷_, _++_}
 use mathlib.Core.Logic.{_⊎_, inl, inr, ⊎-elim, _≢_}
 use native.Mathlib.Omega.{arith}
-use lib.ListN.{length, getD}
+use lib.ListN.{length, getD, take, length-take}
 use Rattle.layout.specs.Limits.{maxLevels}
 use Rattle.layout.specs.Bytes.{be32, bytes4, bytes8, part, splice, zeros}
 use Rattle.layout.specs.Geometry.{blockCount, blocksFor}
@@ -19,8 +19,10 @@ use Rattle.volume.specs.Write.{newSize, needed, newBlocks, writeAt}
 use Rattle.volume.specs.Delete.{deleteAt}
 use Rattle.volume.specs.Attributes.{setAttributesAt, clearAttributesAt, setAttributesRefusal}
 use Rattle.volume.specs.Flags.{clearFlagsAt}
-use Rattle.volume.specs.Change.{Change, create, write, delete, createDirectory, deleteDirectory, setAttributes, clearAttributes, clearFlags, refusal, after}
-use Rattle.volume.specs.Views.{just, fileOf, fileAt, folderAt, subject, ofFile, made, takes, gives}
+use Rattle.volume.specs.Shorten.{shortenAt}
+use Rattle.volume.specs.Replace.{replaceRefusal, replaceAt}
+use Rattle.volume.specs.Change.{Change, create, write, delete, createDirectory, deleteDirectory, setAttributes, clearAttributes, clearFlags, shorten, replace, refusal, after}
+use Rattle.volume.specs.Views.{File, just, fileOf, fileAt, folderAt, subject, ofFile, made, takes, gives}
 use Rattle.volume.proofs.Laws.Places.{CreateGiven, create-given, At, file-at-path, at-accepted, WriteGiven, write-given, SetGiven, set-path, set-given, path-name, place-is, place-home, place-free, place-new, place-there}
 use Rattle.volume.proofs.Laws.Entries.{entry-length, entry-type, entry-size, entry-attribute-size}
 use Rattle.volume.proofs.Laws.Create.{created-slot, created-no-dir, created-name, created-sound}
@@ -29,9 +31,12 @@ use Rattle.volume.proofs.Laws.Delete.{deleted-slot, deleted-type, delet
 use Rattle.volume.proofs.Laws.Fields.{EntryKept}
 use Rattle.volume.proofs.Laws.SetClear.{cleared-sound, cleared-slot, cleared-entry, cleared-flags, cleared-content, cleared-none, cleared-used, set-sound, set-slot, set-entry, set-flags, set-content, set-bytes, set-used}
 use Rattle.volume.proofs.Laws.Flags.{flags-beside, flags-zero, flags-sound, flags-slot, flags-entry, flags-content, flags-attributes, flags-used}
-use Rattle.volume.proofs.Laws.Content.{write-untouched, delete-untouched, create-untouched, set-untouched, clear-untouched, flags-untouched}
+use Rattle.volume.proofs.Laws.Shorten.{Shortened, ShortenGiven, shorten-given, shortened-file, shortened-slot, shortened-sound, shortened-used, shortened-attributes}
+use Rattle.volume.proofs.Laws.Replace.{min-either, replace-there, replace-shorten, replace-write, short-sound, short-entry}
+use Rattle.volume.proofs.Laws.Content.{write-untouched, delete-untouched, create-untouched, set-untouched, clear-untouched, flags-untouched, shorten-untouched}
 use Rattle.volume.proofs.Laws.Views.{file-shown, other-shown, OneEntry, folder-shown, own-gone, own-slot, own-entry, own-shown}
 use Rattle.layout.proofs.Laws.Bytes.{part-part, part-same, be32-part, zeros-32, length-splice}
+use Rattle.layout.proofs.Laws.Splices.{splice-whole}
 use Rattle.layout.proofs.Laws.Tests.{true-not-false}
 use Rattle.layout.proofs.Laws.Lists.{In}
 use Rattle.layout.proofs.Laws.Names.{padded-length}
@@ -460,6 +465,130 @@ module _ (s path : List ℕ) (ok : check s ≡ 0) (offset : ℕ) (bytes : List �
         size = O .len;
       }
 
+-- SHORTEN
+module _ (s path : List ℕ) (ok : check s ≡ 0) (size time : ℕ) (G : ShortenGiven s path size) where
+  abbrev short-A : At isFile s path
+  short-A = file-at-path s path (G .there)
+
+  abbrev short-a : ℕ
+  short-a = slotAt (directory s (home s path)) (pathSlot isFile s path)
+
+  abbrev short : List ℕ
+  short = shortenAt s short-a size time
+
+  less : size ≤ sizeOf s short-a
+  unfolding entryOf
+  less = G .less
+
+  short-file : Shortened s short short-a size time
+  short-file = shortened-file s (sound s ok) (home s path, short-A .level) (short-A .home-in) (pathSlot isFile s path) (short-A .named .low) (short-A .named .high) (short-A .named .typed) size time less
+
+  short-only : OneSlot s (dirs s) short short-a
+  short-only = shortened-slot s (sound s ok) (home s path, short-A .level) (short-A .home-in) (pathSlot isFile s path) (short-A .named .low) (short-A .named .high) (short-A .named .typed) size time less
+
+  short-right : Sound short
+  short-right = shortened-sound s (sound s ok) (home s path, short-A .level) (short-A .home-in) (pathSlot isFile s path) (short-A .named .low) (short-A .named .high) (short-A .named .typed) size time less
+
+  short-attributes : attributes short short-a ≡ attributes s short-a
+  short-attributes =
+      shortened-attributes s (sound s ok) (home s path, short-A .level) (short-A .home-in) (pathSlot isFile s path) (short-A .named .low) (short-A .named .high) (short-A .named .typed) size time less .bytes
+
+  short-count : be32 short 20 + (blocksFor (length (content s short-a)) - blocksFor size) ≡ be32 s 20 + 0
+  short-count =
+      let u = shortened-used s (sound s ok) (home s path, short-A .level) (short-A .home-in) (pathSlot isFile s path) (short-A .named .low) (short-A .named .high) (short-A .named .typed) size time less in
+      let b = blocks-is s path ok (G .there) in
+      rw (bytes-length s path ok (G .there), ← b) (omega arith)
+
+  pub shorten-effect : Effect s (shorten path size time)
+  unfolding after subject made takes gives entryOf
+  shorten-effect =
+      let K = short-file .entry in
+      record {
+        own = rw (shown s path ok (G .there), there-still s path ok (G .there) short short-only short-right (K .type) (K .name))
+            (unfold fileOf in rw (short-file .contents, K .kind, K .created, K .modified, K .flags, short-attributes));
+        others = λ other ne. other-shown s short (sound s ok) (short-only .len) other (λ g. shorten-untouched s path other ok g ne size time G);
+        folders = folder-shown s short (sound s ok) (one-entry s path ok (G .there) short short-only (rw (K .type) (no-dir-file s path ok (G .there))));
+        used = rw (shown s path ok (G .there)) (unfold fileOf in short-count);
+        size = short-only .len;
+      }
+
+  -- its blocks and their bytes
+  pub shortened-path : Shortened s (shortenAt s (entryOf isFile s path) size time) (entryOf isFile s path) size time
+  unfolding entryOf
+  shortened-path = short-file
+
+-- REPLACE: the file is shortened, then written
+both-counted : (u t s old m count now : ℕ) → now ≡ m → ((m ≡ old) × (old ≤ count)) ⊎ ((m ≡ count) × (count ≤ old)) → t + (blocksFor old - blocksFor m) ≡ s + 0
+    → u + 0 ≡ t + (blocksFor (max now (0 + count)) - blocksFor now) → u + (blocksFor old - blocksFor count) ≡ s + (blocksFor count - blocksFor old)
+both-counted u t s old m count now e (inl q) f g = let a = q .0 in let b = q .1 in omega arith
+both-counted u t s old m count now e (inr q) f g = let a = q .0 in let b = q .1 in omega arith
+
+module _ (s path : List ℕ) (ok : check s ≡ 0) (bytes : List ℕ) (time : ℕ) (r : replaceRefusal s path (length bytes) ≡ 0) where
+  abbrev kept-size : ℕ
+  kept-size = min (sizeOf s (entryOf isFile s path)) (length bytes)
+
+  abbrev first-half : Change
+  first-half = shorten path (min (sizeOf s (entryOf isFile s path)) (length bytes)) time
+
+  abbrev second-half : Change
+  second-half = write path 0 bytes time
+
+  abbrev half : List ℕ
+  half = shortenAt s (entryOf isFile s path) (min (sizeOf s (entryOf isFile s path)) (length bytes)) time
+
+  found-file : fileRefusal s path ≡ 0
+  found-file = replace-there s path (length bytes) r
+
+  one : Effect s first-half
+  one = shorten-effect s path ok kept-size time (replace-shorten s path (length bytes) r)
+
+  two : Effect half second-half
+  two = write-effect half path (short-sound s path ok (length bytes) time r) 0 bytes time (replace-write s path ok (length bytes) time r)
+
+  same-image : after half second-half ≡ after s (replace path bytes time)
+  unfolding after replaceAt
+  same-image = ap (λ (x : ℕ). writeAt half x 0 bytes time) (short-entry s path ok (length bytes) time r)
+
+  abbrev was : File
+  was = fileOf s (slotAt (directory s (home s path)) (pathSlot isFile s path))
+
+  was-shown : fileAt s path ≡ just was
+  was-shown = shown s path ok found-file
+
+  was-length : length (was .bytes) ≡ sizeOf s (entryOf isFile s path)
+  unfolding fileOf entryOf
+  was-length = bytes-length s path ok found-file
+
+  half-shown : fileAt half path ≡ made first-half (just was)
+  unfolding after subject
+  half-shown = one .own ∙ ap (made first-half) was-shown
+
+  size-either : ((kept-size ≡ length (was .bytes)) × (length (was .bytes) ≤ length bytes)) ⊎ ((kept-size ≡ length bytes) × (length bytes ≤ length (was .bytes)))
+  size-either = rw was-length (min-either (sizeOf s (entryOf isFile s path)) (length bytes))
+
+  front-length : length (take kept-size (was .bytes)) ≡ kept-size
+  front-length = length-take kept-size (was .bytes) ∙ ⊎-elim (λ q. let a = q .0 in omega arith) (λ q. let a = q .0 in let b = q .1 in omega arith) size-either
+
+  front-less : length (take kept-size (was .bytes)) ≤ length bytes
+  front-less = rw front-length (⊎-elim (λ q. let a = q .0 in let b = q .1 in omega arith) (λ q. let a = q .0 in omega arith) size-either)
+
+  replace-count : be32 (after half second-half) 20 + (blocksFor (length (was .bytes)) - blocksFor (length bytes)) ≡ be32 s 20 + (blocksFor (length bytes) - blocksFor (length (was .bytes)))
+  unfolding after takes gives subject made
+  replace-count =
+      both-counted (be32 (after half second-half) 20) (be32 half 20) (be32 s 20) (length (was .bytes)) kept-size (length bytes) (length (take kept-size (was .bytes))) front-length size-either
+      (rw was-shown at (one .used)) (rw half-shown at (two .used))
+
+  pub replace-effect : Effect s (replace path bytes time)
+  unfolding subject made takes gives
+  replace-effect =
+      record {
+        own = ap (λ (x : List ℕ). fileAt x path) (sym same-image) ∙ two .own ∙ ap (made second-half) half-shown ∙ rw (was-shown, splice-whole (take kept-size (was .bytes)) bytes front-less);
+        others = λ other ne. ap (λ (x : List ℕ). fileAt x other) (sym same-image) ∙ two .others other ne ∙ (unfold after in one .others other ne);
+        folders = λ other. ap (λ (x : List ℕ). folderAt x other) (sym same-image) ∙ two .folders other ∙ (unfold after in one .folders other);
+        used = rw (← same-image, was-shown) replace-count;
+        size = rw (← same-image) (two .size ∙ (unfold after in one .size));
+      }
+
 -- ALL OF THEM
 pub effect : (s : List ℕ) (c : Change) → ofFile c ≡ true → check s ≡ 0 → refusal s c ≡ 0 → Effect s c
 unfolding ofFile refusal
@@ -471,3 +600,5 @@ effect s (deleteDirectory path) f ok r = absurd (true-not-false f refl)
 effect s (setAttributes path bytes) f ok r = set-effect s path ok (set-path s path (length bytes) r) bytes r
 effect s (clearAttributes path) f ok r = clear-effect s path ok r
 effect s (clearFlags path) f ok r = flags-effect s path ok r
+effect s (shorten path size time) f ok r = shorten-effect s path ok size time (shorten-given s path size r)
+effect s (replace path bytes time) f ok r = replace-effect s path ok bytes time r

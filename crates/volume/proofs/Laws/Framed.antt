@@ -1,15 +1,15 @@
 -- THE FRAME LAW: an accepted change on a sound image changes no byte outside its named blocks, and these are below n.
-use Prim.Native.Nat.{ℕ, _+_, _-_, _*_, _/_, _%_, _≤_, _<_, max}
+use Prim.Native.Nat.{ℕ, _+_, _-_, _*_, _/_, _%_, _≤_, _<_, max, min}
 use mathlib.Core.Path.{_≡_, refl, _∙_, subst}
 use mathlib.Core.Bool.{Bool, true}
 use mathlib.Core.List.{List, [], _∷_, _++_, append-nil}
 use mathlib.Core.Logic.{inl, inr, ⊎-elim}
 use native.Mathlib.Omega.{arith}
-use lib.ListN.{length, getD, take, length-append, length-take}
+use lib.ListN.{length, getD, take, length-take}
 use lib.Dec.{eqb}
 use Rattle.layout.specs.Limits.{maxLevels}
 use Rattle.layout.specs.Lists.{has, lastOr}
-use Rattle.layout.specs.Bytes.{splice, bytes4, bytes8, zeros}
+use Rattle.layout.specs.Bytes.{splice, zeros}
 use Rattle.layout.specs.Geometry.{blockCount, blocksFor}
 use Rattle.layout.specs.Table.{next, freeBlocks}
 use Rattle.layout.specs.Directory.{slotAt, typeOf, firstBlock, sizeOf, blocksOf, isFile, isDirectory, directory, fileBlocks, attributeBlocks, freeSlot}
@@ -17,21 +17,25 @@ use Rattle.layout.specs.Check.{check}
 use Rattle.layout.specs.Paths.{parts, leading, lastPart, shallow, home, pathSlot, entryOf, directoryRefusal}
 use Rattle.volume.specs.Entries.{entryBytes, directoryMade, released, grown, entriesNamed, blocksNamed}
 use Rattle.volume.specs.Create.{place, placeRefusal, createRefusal, createImage, createNamed}
-use Rattle.volume.specs.Write.{put, written, changedEntries, newSize, needed, newBlocks, setFile, writeAt, writeNamed}
+use Rattle.volume.specs.Write.{put, written, changedEntries, newSize, needed, newBlocks, writeAt, writeNamed}
 use Rattle.volume.specs.Delete.{allBlocks, deleteAt, deleteNamed}
 use Rattle.volume.specs.Attributes.{newAttributes, setAttributesNamed, clearAttributesNamed}
 use Rattle.volume.specs.Flags.{clearFlagsNamed}
+use Rattle.volume.specs.Shorten.{keptBlocks, cutBlocks, tailLength, shortenAt, shortenNamed}
+use Rattle.volume.specs.Replace.{replaceRefusal, replaceAt, replaceNamed}
 use Rattle.volume.specs.Directories.{createDirectoryRefusal, newDirectoryBlocks, createDirectoryImage, createDirectoryNamed, deleteDirectoryRefusal}
-use Rattle.volume.specs.Change.{Change, create, write, delete, createDirectory, deleteDirectory, setAttributes, clearAttributes, clearFlags, refusal, after, named}
+use Rattle.volume.specs.Change.{Change, create, write, delete, createDirectory, deleteDirectory, setAttributes, clearAttributes, clearFlags, shorten, replace, refusal, after, named}
 use Rattle.volume.proofs.Laws.Entries.{entry-length}
 use Rattle.volume.proofs.Laws.Frame.{entries-low, blocks-in, blocks-below, changed-first, changed-below, written-in, taken-written, released-agree, grown-agree, put-agree}
 use Rattle.volume.proofs.Laws.Places.{create-given, CreateDirectoryGiven, create-directory-given, At, file-at-path, directory-at-path, WriteGiven, write-given, SetGiven, set-path, set-given, path-levels, path-name, place-is, place-home, place-free}
-use Rattle.volume.proofs.Laws.Unchanged.{Bounded, slot-agree, entry-bounded}
+use Rattle.volume.proofs.Laws.Unchanged.{Bounded, slot-agree, file-agree, entry-bounded}
 use Rattle.volume.proofs.Laws.Delete.{deleted-bounded}
 use Rattle.volume.proofs.Laws.SetClear.{cleared-bounded, set-bounded}
 use Rattle.volume.proofs.Laws.Flags.{flags-bounded}
+use Rattle.volume.proofs.Laws.Shorten.{shorten-given, shortened-bounded}
+use Rattle.volume.proofs.Laws.Replace.{replace-there, replace-shorten, replace-given, replace-write, replace-names, short-sound, short-entry}
 use Rattle.volume.proofs.Laws.Space.{new-fresh, new-length, all-below, last-below}
-use Rattle.layout.proofs.Laws.Bytes.{length-bytes4, length-bytes8, length-zeros}
+use Rattle.layout.proofs.Laws.Bytes.{length-zeros}
 use Rattle.layout.proofs.Laws.Tests.{firstOf-zero}
 use Rattle.layout.proofs.Laws.Names.{padded-length}
 use Rattle.layout.proofs.Laws.Lists.{In, in-left, in-right, in-append, in-has-eqb, has-eqb-in, in-single, getD-in}
@@ -113,6 +117,15 @@ module _ (s : List ℕ) (S : Sound s) where
         let N = A .named in
         bounded-framed (entryOf isFile s path) (at-entry isFile path A) (clearAttributes path) (blocksNamed (attributeBlocks s (entryOf isFile s path))) refl
         (cleared-bounded s S d (A .home-in) k (N .low) (N .high) (N .typed))
+
+    pub shorten-framed : (size time : ℕ) → size ≤ sizeOf s (entryOf isFile s path) → Framed s (shorten path size time)
+    unfolding after named shortenNamed entryOf
+    shorten-framed size time less =
+        let N = A .named in
+        let e : ℕ = entryOf isFile s path in
+        bounded-framed e (at-entry isFile path A) (shorten path size time)
+        (written (keptBlocks s e size) size (tailLength (sizeOf s e) size) ++ (cutBlocks s e size ++ entriesNamed (changedEntries (lastOr 0 (keptBlocks s e size)) (cutBlocks s e size)))) refl
+        (shortened-bounded s S d (A .home-in) k (N .low) (N .high) (N .typed) size time less)
 
     flags-framed : Framed s (clearFlags path)
     unfolding after named clearFlagsNamed entryOf
@@ -264,25 +277,40 @@ module _ (s : List ℕ) (S : Sound s) where
     new-written x i = taken-written (fileBlocks s entry) new (sizeOf s entry) offset (length bytes) x (counts .0) (counts .1) (counts .2) i
 
     pub write-framed : Framed s (write path offset bytes time)
-    unfolding after named writeAt writeNamed setFile
+    unfolding after named writeAt writeNamed
     write-framed =
-        let p : List ℕ = bytes4 (getD (old ++ new) 0 0) ++ (bytes4 (newSize s entry offset (length bytes)) ++ bytes4 (length (old ++ new))) in
-        let lp : length p ≡ 12 = simp (length-append, length-bytes4) in
-        let lt : length (bytes8 time) ≡ 8 = length-bytes8 time in
         let ns : List ℕ = entry / 512 ∷ (holds ++ entries) in
         let first : (x : ℕ) → In x (entry / 512 ∷ []) → In x ns = in-single (entry / 512) ns (inl refl) in
         let larger = grown s n (lastOr 0 old) new in
         let filled = put larger (old ++ new) offset bytes in
-        let again = splice filled (entry + 4) p in
         let a : Agree s larger ns = agree-more (grown-agree n (S .least) new s (lastOr 0 old) (S .whole) before new-below)
         (λ x i. inr (⊎-elim (λ j. in-left x holds entries (new-written x j)) (λ j. in-right x holds entries j) (in-append x new entries i))) in
         let b : Agree larger filled ns = agree-more (put-agree n (S .least) (old ++ new) larger offset bytes (a .size ∙ S .whole) inside) (λ x i. inr (in-left x holds entries i)) in
         let c : Agree s filled ns = agree-then a b (λ x i. i) (λ x i. i) in
-        let d : Agree s again ns = agree-then c (slot-agree s S entry E filled (entry + 4) p (c .size ∙ S .whole) (omega arith) (omega arith)) (λ x i. i) first in
         framed-by entry E (write path offset bytes time) (holds ++ entries) refl
-        (agree-then d (slot-agree s S entry E again (entry + 24) (bytes8 time) (d .size ∙ S .whole) (omega arith) (omega arith)) (λ x i. i) first)
+        (agree-then c (file-agree s S entry E filled (getD (old ++ new) 0 0) (newSize s entry offset (length bytes)) (length (old ++ new)) time (c .size ∙ S .whole)) (λ x i. i) first)
         (λ x i. ⊎-elim (λ j. inside x (written-in (old ++ new) offset (length bytes) x j))
         (λ j. omega (arith, entries-low n (changedEntries (lastOr 0 old) new) (changed-below n (lastOr 0 old) new before new-below) x j, S .least)) (in-append x holds entries i))
+
+-- the file is shortened, then written
+replace-framed : (s path bytes : List ℕ) (time : ℕ) → check s ≡ 0 → replaceRefusal s path (length bytes) ≡ 0 → Framed s (replace path bytes time)
+unfolding after named replaceAt replaceNamed shortenNamed
+replace-framed s path bytes time ok r =
+    let e : ℕ = entryOf isFile s path in
+    let m : ℕ = min (sizeOf s e) (length bytes) in
+    let t : List ℕ = shortenAt s e m time in
+    let A = file-at-path s path (replace-there s path (length bytes) r) in
+    let one : Framed s (shorten path m time) = shorten-framed s (sound s ok) path A m time (replace-shorten s path (length bytes) r .less) in
+    let two : Framed s (write path 0 bytes time) = write-framed s (sound s ok) path 0 bytes time (replace-given s path (length bytes) r) in
+    let second : Agree t (writeAt t e 0 bytes time) (writeNamed s e 0 (length bytes)) =
+    subst (Agree t (writeAt t e 0 bytes time)) (replace-names s path ok (length bytes) time r)
+    (subst (λ (x : ℕ). Agree t (writeAt t x 0 bytes time) (writeNamed t x 0 (length bytes))) (short-entry s path ok (length bytes) time r)
+    (write-framed t (sound t (short-sound s path ok (length bytes) time r)) path 0 bytes time (replace-write s path ok (length bytes) time r) .agree)) in
+    let ns : List ℕ = written (keptBlocks s e m) m (tailLength (sizeOf s e) m) ++ (cutBlocks s e m ++ entriesNamed (changedEntries (lastOr 0 (keptBlocks s e m)) (cutBlocks s e m))) in
+    let ws : List ℕ = writeNamed s e 0 (length bytes) in
+    framed-by s (sound s ok) e (at-entry s (sound s ok) isFile path A) (replace path bytes time) (ns ++ ws) refl
+    (agree-then (one .agree) second (λ x i. in-left x (e / 512 ∷ ns) ws i) (λ x i. in-right x (e / 512 ∷ ns) ws i))
+    (λ x i. ⊎-elim (λ j. one .inside x (in-has-eqb x (e / 512 ∷ ns) (inr j))) (λ j. two .inside x (in-has-eqb x ws j)) (in-append x ns ws i))
 
 pub frame : (s : List ℕ) (c : Change) → check s ≡ 0 → refusal s c ≡ 0 → Framed s c
 unfolding refusal
@@ -294,3 +322,5 @@ frame s (deleteDirectory path) ok r = delete-directory-framed s (sound s ok) pat
 frame s (setAttributes path bytes) ok r = set-framed s (sound s ok) path (file-at-path s path (set-path s path (length bytes) r)) bytes (set-given s path (length bytes) r)
 frame s (clearAttributes path) ok r = clear-framed s (sound s ok) path (file-at-path s path r)
 frame s (clearFlags path) ok r = flags-framed s (sound s ok) path (file-at-path s path r)
+frame s (shorten path size time) ok r = let G = shorten-given s path size r in shorten-framed s (sound s ok) path (file-at-path s path (G .there)) size time (G .less)
+frame s (replace path bytes time) ok r = replace-framed s path bytes time ok r

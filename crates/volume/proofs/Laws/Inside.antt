@@ -13,10 +13,12 @@ use Rattle.layout.specs.Check.{check}
 use Rattle.layout.specs.Paths.{parts, pathOk, lastPart, shallow, home, pathSlot, directoryRefusal}
 use Rattle.volume.specs.Create.{placeRefusal}
 use Rattle.volume.specs.Directories.{deleteDirectoryRefusal}
-use Rattle.volume.specs.Change.{Change, create, write, delete, createDirectory, deleteDirectory, setAttributes, clearAttributes, clearFlags, refusal, after}
+use Rattle.volume.specs.Change.{Change, create, write, delete, createDirectory, deleteDirectory, setAttributes, clearAttributes, clearFlags, shorten, replace, refusal, after}
 use Rattle.volume.specs.Claims.{Apart}
 use Rattle.volume.specs.Views.{Folder, Maybe, nothing, just, folderAt, subject, madeFolder}
 use Rattle.volume.proofs.Laws.Places.{create-given, create-directory-given, At, file-at-path, directory-at-path, place-there, place-new, write-given, set-path}
+use Rattle.volume.proofs.Laws.Shorten.{shorten-given}
+use Rattle.volume.proofs.Laws.Replace.{replace-there}
 use Rattle.volume.proofs.Laws.Acts.{acts}
 use Rattle.layout.proofs.Laws.Tests.{is-false, require-zero, firstOf-zero}
 use Rattle.layout.proofs.Laws.Paths.{path-named}
@@ -34,6 +36,8 @@ led s (deleteDirectory path) r = let A = directory-at-path s path (firstOf-zero 
 led s (setAttributes path bytes) r = let A = file-at-path s path (set-path s path (length bytes) r) in (A .good, A .there)
 led s (clearAttributes path) r = let A = file-at-path s path r in (A .good, A .there)
 led s (clearFlags path) r = let A = file-at-path s path r in (A .good, A .there)
+led s (shorten path size time) r = let A = file-at-path s path (shorten-given s path size r .there) in (A .good, A .there)
+led s (replace path bytes time) r = let A = file-at-path s path (replace-there s path (length bytes) r) in (A .good, A .there)
 
 -- where there is a directory, no file is
 directory-no-file : (s : List ℕ) → Sound s → (path : List ℕ) → At isFile s path → pathSlot isDirectory s path ≢ 0 → ⊥
@@ -71,6 +75,8 @@ blocked s ok (deleteDirectory path) r was now = deleted-none s path ok r now
 blocked s ok (setAttributes path bytes) r was now = directory-no-file s (sound s ok) path (file-at-path s path (set-path s path (length bytes) r)) was
 blocked s ok (clearAttributes path) r was now = directory-no-file s (sound s ok) path (file-at-path s path r) was
 blocked s ok (clearFlags path) r was now = directory-no-file s (sound s ok) path (file-at-path s path r) was
+blocked s ok (shorten path size time) r was now = directory-no-file s (sound s ok) path (file-at-path s path (shorten-given s path size r .there)) was
+blocked s ok (replace path bytes time) r was now = directory-no-file s (sound s ok) path (file-at-path s path (replace-there s path (length bytes) r)) was
 
 -- d is accepted before c and after it: it is not inside c's path
 outside : (s : List ℕ) → check s ≡ 0 → (c d : Change) → refusal s c ≡ 0 → refusal s d ≡ 0 → refusal (after s c) d ≡ 0 → subject d ≢ subject c → isInside (subject d) (subject c) ≡ false

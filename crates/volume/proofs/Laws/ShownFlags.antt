@@ -9,7 +9,7 @@ use Rattle.layout.specs.Directory.{slotAt, typeOf, isFile, directory}
 use Rattle.layout.specs.Check.{check}
 use Rattle.layout.specs.Paths.{home, pathSlot, fileRefusal}
 use Rattle.volume.specs.Create.{placeRefusal}
-use Rattle.volume.specs.Change.{Change, create, write, delete, createDirectory, deleteDirectory, setAttributes, clearAttributes, clearFlags, refusal, after}
+use Rattle.volume.specs.Change.{Change, create, write, delete, createDirectory, deleteDirectory, setAttributes, clearAttributes, clearFlags, shorten, replace, refusal, after}
 use Rattle.volume.specs.Views.{File, Folder, Maybe, nothing, just, fileAt, folderAt, flagsIn, folderFlagsIn, NoNewFlags, subject, made, madeFolder}
 use Rattle.volume.proofs.Laws.Places.{create-given, create-directory-given, file-at-path, place-new}
 use Rattle.volume.proofs.Laws.Views.{shown-accepted}
@@ -37,6 +37,10 @@ module _ (s : List ℕ) where
   made-flags (clearAttributes path) (just f) r = inr refl
   made-flags (clearFlags path) nothing r = inl refl
   made-flags (clearFlags path) (just f) r = inl refl
+  made-flags (shorten path size time) nothing r = inl refl
+  made-flags (shorten path size time) (just f) r = inr refl
+  made-flags (replace path bytes time) nothing r = inl refl
+  made-flags (replace path bytes time) (just f) r = inr refl
 
   folder-flags : (c : Change) (m : Maybe Folder) → refusal s c ≡ 0 → (folderFlagsIn (madeFolder c m) ≡ zeros 4) ⊎ (folderFlagsIn (madeFolder c m) ≡ folderFlagsIn m)
   unfolding refusal madeFolder
@@ -48,6 +52,8 @@ module _ (s : List ℕ) where
   folder-flags (setAttributes path bytes) m r = inr refl
   folder-flags (clearAttributes path) m r = inr refl
   folder-flags (clearFlags path) m r = inr refl
+  folder-flags (shorten path size time) m r = inr refl
+  folder-flags (replace path bytes time) m r = inr refl
 
   -- where there is a file, no create is accepted
   file-no-place : (path : List ℕ) → fileRefusal s path ≡ 0 → placeRefusal s path ≡ 0 → ⊥
@@ -73,6 +79,8 @@ module _ (s : List ℕ) where
   made-stay (setAttributes path bytes) f g r q m ne = ap flagsIn (sym m)
   made-stay (clearAttributes path) f g r q m ne = ap flagsIn (sym m)
   made-stay (clearFlags path) f g r q m ne = absurd (ne refl)
+  made-stay (shorten path size time) f g r q m ne = ap flagsIn (sym m)
+  made-stay (replace path bytes time) f g r q m ne = ap flagsIn (sym m)
 
   module _ (c : Change) (ok : check s ≡ 0) (r : refusal s c ≡ 0) where
     file-flags-at : (path : List ℕ) → (path ≡ subject c) ⊎ (path ≢ subject c) → (flagsIn (fileAt (after s c) path) ≡ zeros 4) ⊎ (flagsIn (fileAt (after s c) path) ≡ flagsIn (fileAt s path))

@@ -2,16 +2,18 @@
 use Prim.Native.Nat.{ℕ, _+_, _*_, _/_, _≤_, _<_}
 use mathlib.Core.Path.{_≡_, refl, _∙_}
 use mathlib.Core.Bool.{true}
-use mathlib.Core.List.{List, _∷_, []}
+use mathlib.Core.List.{List, _∷_, [], _++_}
 use mathlib.Core.Logic.{inl, inr, ⊎-elim, _≢_}
 use native.Mathlib.Omega.{arith}
-use lib.ListN.{length}
-use Rattle.layout.specs.Bytes.{block, splice}
+use lib.ListN.{length, length-append}
+use Rattle.layout.specs.Bytes.{bytes4, bytes8, block, splice}
 use Rattle.layout.specs.Geometry.{blockCount, tableBlocks}
 use Rattle.layout.specs.Table.{next}
 use Rattle.layout.specs.Directory.{typeOf, firstBlock, sizeOf, blocksOf, isFile, dirs}
 use Rattle.volume.specs.Entries.{blocksNamed}
+use Rattle.volume.specs.Write.{setFile}
 use Rattle.volume.proofs.Laws.Frame.{blocks-below, blocks-not}
+use Rattle.layout.proofs.Laws.Bytes.{length-bytes4, length-bytes8}
 use Rattle.layout.proofs.Laws.Lists.{In, in-single}
 use Rattle.layout.proofs.Laws.Frames.{Agree, agree-then, agree-block, splice-agree}
 use Rattle.layout.proofs.Laws.Sound.{Sound, Entry, Owner}
@@ -33,6 +35,15 @@ module _ (s : List ℕ) (S : Sound s) (e : ℕ) (E : Entry s e) where
   slot-agree t at p len low high =
       let b : Slot s e = entry-slot s S e E in
       splice-agree t (e / 512) at p (omega (arith, b .inside, b .aligned)) (omega arith) (omega (arith, b .aligned))
+
+  pub file-agree : (t : List ℕ) (first size blocks time : ℕ) → length t ≡ 512 * n → Agree t (setFile t e first size blocks time) (e / 512 ∷ [])
+  unfolding setFile
+  file-agree t first size blocks time len =
+      let p : List ℕ = bytes4 first ++ (bytes4 size ++ bytes4 blocks) in
+      let lp : length p ≡ 12 = simp (length-append, length-bytes4) in
+      let lt : length (bytes8 time) ≡ 8 = length-bytes8 time in
+      let a = slot-agree t (e + 4) p len (omega arith) (omega arith) in
+      agree-then a (slot-agree (splice t (e + 4) p) (e + 24) (bytes8 time) (a .size ∙ len) (omega arith) (omega arith)) (λ x i. i) (λ x i. i)
 
   -- a change that writes to blocks bs and what they name, then to the entry
   pub entry-bounded : (t bs : List ℕ) → Agree s t (blocksNamed bs) → ((q : ℕ) → In q bs → q < n) → (at : ℕ) (p : List ℕ) → e ≤ at → at + length p ≤ e + 128

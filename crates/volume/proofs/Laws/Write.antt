@@ -1,23 +1,21 @@
 -- Write: blocks are taken, the data is put, the entry is set again. The image after it is sound; the file's content, blocks and entry are those
 -- that the write asks for, and the other files stay.
-use Prim.Native.Nat.{ℕ, zero, suc, _+_, _-_, _*_, _≤_, _<_, _/_, max}
-use mathlib.Core.Path.{_≡_, refl, sym, ap, _∙_, subst}
-use mathlib.Core.Bool.{true, false, or-true}
+use Prim.Native.Nat.{ℕ, _+_, _-_, _*_, _≤_, _<_, max}
+use mathlib.Core.Path.{_≡_, sym, ap, _∙_, subst}
+use mathlib.Core.Bool.{true}
 use mathlib.Core.List.{List, _++_}
-use mathlib.Core.Logic.{_⊎_, inl, inr, ⊎-elim, _≢_}
+use mathlib.Core.Logic.{_⊎_, inl, ⊎-elim, _≢_}
 use native.Mathlib.Omega.{arith}
-use native.Mathlib.Nat.{eq-or-lt-of-le}
-use borrow.Author.Tests.{eq-eqb, ne-eqb}
 use lib.ListN.{length, getD, take, List·getD-eq-default}
 use lib.Dec.{eqb}
 use lib.Seq.{take-append-le}
-use Rattle.layout.specs.Lists.{iff, lastOr, distinct, joined}
+use Rattle.layout.specs.Lists.{lastOr, distinct, joined}
 use Rattle.layout.specs.Bytes.{be32, bytes8, part, splice, zeros, block}
 use Rattle.layout.specs.Geometry.{blockCount, tableBlocks, blocksFor, rootBlock}
 use Rattle.layout.specs.Table.{next, chain, freeBlocks}
-use Rattle.layout.specs.Directory.{slotAt, typeOf, firstBlock, sizeOf, blocksOf, isFree, isFile, isDirectory, nameOf, nameOk, directory, dirs, fileBlocks, content}
+use Rattle.layout.specs.Directory.{slotAt, typeOf, firstBlock, sizeOf, blocksOf, isFile, nameOf, directory, dirs, fileBlocks, content}
 use Rattle.layout.specs.Paths.{home, pathSlot, entryOf}
-use Rattle.layout.specs.Check.{noAttributes, attributesOk, fileOk, slotOk, check}
+use Rattle.layout.specs.Check.{check}
 use Rattle.volume.specs.Entries.{grown, entriesNamed}
 use Rattle.volume.specs.Write.{newSize, needed, newBlocks, put, setFile, writeAt, changedEntries}
 use Rattle.volume.proofs.Laws.Places.{WriteGiven}
@@ -25,22 +23,21 @@ use Rattle.volume.proofs.Laws.Growth.{grown-steps, put-steps}
 use Rattle.volume.proofs.Laws.Space.{new-fresh, new-length, all-above, all-below, last-below, all-length, all-size}
 use Rattle.volume.proofs.Laws.Data.{put-outside, joined-put, grown-zero, put-next}
 use Rattle.volume.proofs.Laws.Table.{grown-next, grown-used}
-use Rattle.volume.proofs.Laws.Entries.{set-file-length, set-file-same, set-file-created, set-file-modified, set-file-first, set-file-size, set-file-blocks}
+use Rattle.volume.proofs.Laws.Renewed.{Renewed, renewed-small, renewed-full, renewed-outside, renewed-entry, renewed-sound, renewed-slot, renewed-count}
 use Rattle.volume.proofs.Laws.Frame.{entries-low, changed-below, grown-agree, grown-length}
 use Rattle.layout.proofs.Laws.Bytes.{splice-cut}
-use Rattle.layout.proofs.Laws.Tests.{and-split, and-join, is-false, within-split}
 use Rattle.layout.proofs.Laws.Lists.{In, in-append, joined-append, last-in, joined-same}
-use Rattle.layout.proofs.Laws.Frames.{Same, same-then, same-inner, same-byte, same-be32, same-part, before-next, Agree, agree-block}
+use Rattle.layout.proofs.Laws.Frames.{Same, before-next, Agree, agree-block}
 use Rattle.layout.proofs.Laws.Chains.{nth, Chain, getD-chain, in-chain, chain-agree, chain-distinct, chain-last, chain-start}
 use Rattle.layout.proofs.Laws.Counts.{chain-most, occupied-most, occupied-same}
 use Rattle.layout.proofs.Laws.Visits.{dirBlocks}
 use Rattle.layout.proofs.Laws.Trees.{sizeAt}
-use Rattle.layout.proofs.Laws.Sound.{heldAt, own-held, second-held, second-first, Sound, Entry, Owner, sound, check-zero}
-use Rattle.layout.proofs.Laws.Slots.{slot-entry, entry-high, entry-low, names-differ}
-use Rattle.layout.proofs.Laws.Files.{file-in, file-right, length-fileBlocks, length-blocks}
-use Rattle.layout.proofs.Laws.Owners.{free-count, blocksAt, file-held, file-used-type, file-no-self, file-holds, file-blocks, second, second-blocks, second-no-self, file-above, file-below, file-used, entry-elsewhere, Fresh, block-high, block-below, block-used, block-apart, block-outside}
+use Rattle.layout.proofs.Laws.Sound.{heldAt, Sound, Entry, Owner, sound, check-zero}
+use Rattle.layout.proofs.Laws.Slots.{slot-entry, entry-low}
+use Rattle.layout.proofs.Laws.Files.{file-in, length-fileBlocks, length-blocks}
+use Rattle.layout.proofs.Laws.Owners.{free-count, blocksAt, file-no-self, file-holds, file-blocks, second, second-blocks, second-no-self, file-above, file-below, file-used, entry-elsewhere, Fresh, block-high, block-below, block-used, block-apart, block-outside}
 use Rattle.layout.proofs.Laws.Changed.{OneSlot}
-use Rattle.layout.proofs.Laws.Steps.{over-same, Midway, Staying, staying, midway-start, dir-apart, midway-own, one-slot}
+use Rattle.layout.proofs.Laws.Steps.{over-same, Midway, Staying, staying, midway-start, dir-apart}
 use Rattle.layout.specs.Claims.{SameAttributes}
 use Rattle.layout.proofs.Laws.Others.{same-attributes}
 
@@ -154,91 +151,29 @@ module _ (s : List ℕ) (S : Sound s) (d : ℕ × ℕ) (di : In d (dirs s)) (k :
     first-none : c ≡ 0 → first ≡ 0
     first-none q = List·getD-eq-default (old ++ new) 0 (omega (arith, length-is))
 
-    pub first-small : first < 0x100000000
-    first-small = ⊎-elim (λ q. omega (arith, first-none (sym q))) (λ q. omega (arith, first-is q, larger-chain .below 0 q, S .most)) (eq-or-lt-of-le {n = 0} {m = c} (omega arith))
-
     -- the blocks, old and new, are the chain from the first
     pub larger-blocks : chain (next larger) first c ≡ old ++ new
     larger-blocks = chain-start (next larger) c first (grow .0) first-is ∙ grow .2
 
-    -- the entry, set again
-    fits : e + 128 ≤ length full
-    fits = omega (arith, filled .len, entry-high s S e mine)
+    -- the entry, set again, and the image is sound
+    pub first-small : first < 0x100000000
+    first-small = renewed-small s S d di k k₁ k₂ file full (grow .0) c filled first size time first-is first-none size-is few
 
-    done-length : length done ≡ length s
-    done-length = set-file-length full e first size c time fits ∙ filled .len
+    long : length done ≡ length full
+    long = renewed-full s S d di k k₁ k₂ file full (grow .0) c filled first size time first-is first-none size-is few
 
     outside : (a w : ℕ) → (a + w ≤ e) ⊎ (e + 128 ≤ a) → Same full done a w
-    outside a w h = set-file-same full e first size c time fits a w (⊎-elim (λ x. inl (omega arith)) (λ x. inr (omega arith)) h)
+    outside = renewed-outside s S d di k k₁ k₂ file full (grow .0) c filled first size time first-is first-none size-is few
 
-    -- the slot before it is set again
-    slot-kept : Same s full e 128
-    slot-kept = let h = mine .aligned in same-inner s full (512 * (e / 512)) 512 e 128 (filled .kept (e / 512) (mine .within-tree)) (omega arith) (omega arith)
-
-    -- the other bytes of the slot
-    slot-same : (a w : ℕ) → e ≤ a → a + w ≤ e + 128 → (a + w ≤ e + 4) ⊎ (e + 32 ≤ a) → Same s done a w
-    slot-same a w h g o = same-then s full done a w (same-inner s full e 128 a w slot-kept h g) (set-file-same full e first size c time fits a w o)
-
-    slot-part : (a w : ℕ) → e ≤ a → a + w ≤ e + 128 → (a + w ≤ e + 4) ⊎ (e + 32 ≤ a) → part done a w ≡ part s a w
-    slot-part a w h g o = same-part s done a w a w (slot-same a w h g o) (omega arith) (omega arith) (omega (arith, entry-high s S e mine)) done-length
-
-    first-done : firstBlock done e ≡ first
-    first-done = set-file-first full e first size c time fits first-small
-
-    size-done : sizeOf done e ≡ size
-    size-done = set-file-size full e first size c time fits (omega (arith, few, size-is, S .most))
-
-    blocks-done : blocksOf done e ≡ c
-    blocks-done = set-file-blocks full e first size c time fits (omega (arith, few, S .most))
-
-    type-done : typeOf done e ≡ typeOf s e
-    type-done = same-byte s done e 1 e (slot-same e 1 (omega arith) (omega arith) (inl (omega arith))) (omega arith) (omega arith)
-
-    field-done : part done (e + 48) 80 ≡ part s (e + 48) 80
-    field-done = slot-part (e + 48) 80 (omega arith) (omega arith) (inr (omega arith))
-
-    name-done : nameOf done e ≡ nameOf s e
-    unfolding nameOf
-    name-done = rw field-done
-
-    attribute-done : (i : ℕ) → 32 ≤ i → i + 4 ≤ 128 → be32 done (e + i) ≡ be32 s (e + i)
-    attribute-done i h g = same-be32 s done (e + i) 4 (e + i) (slot-same (e + i) 4 (omega arith) (omega arith) (inr (omega arith))) (omega arith) (omega arith)
-
-    -- the image is sound
-    empty-exact : iff (eqb first 0) (eqb size 0) ≡ true
-    empty-exact = go c refl
-      where
-        go : (x : ℕ) → c ≡ x → iff (eqb first 0) (eqb size 0) ≡ true
-        go zero q = rw (eq-eqb first 0 (first-none q), eq-eqb size 0 (omega (arith, size-is)))
-        go (suc x) q = rw (ne-eqb first 0 (λ o. omega (arith, first-is (omega arith), larger-chain .above 0 (omega arith))), ne-eqb size 0 (λ o. omega (arith, size-is)))
-
-    slot-ok : slotOk done e ≡ true
-    unfolding slotOk fileOk nameOk attributesOk noAttributes
-    slot-ok =
-        let w = file-right s S d di k k₁ k₂ file in
-        let a = and-split (nameOk s e) _ w in
-        let b = and-split (attributesOk s e) _ (a .1) in
-        rw (type-done, file, name-done, field-done, attribute-done 32 (omega arith) (omega arith), attribute-done 36 (omega arith) (omega arith), first-done, size-done, blocks-done)
-        (rw (and-join (a .0) (and-join (b .0) (and-join (eq-eqb c (blocksFor size) size-is) empty-exact))) (or-true (isFree (typeOf s e))))
+    entry : Renewed s done e first size c time
+    entry = renewed-entry s S d di k k₁ k₂ file full (grow .0) c filled first size time first-is first-none size-is few
 
     write-is : writeAt s e offset bytes time ≡ done
     unfolding writeAt
     write-is = rw length-is
 
-    no-dir : isDirectory (typeOf s e) ≡ false
-    no-dir = is-false _ (λ q. let x = within-split 0x20 0x5F (typeOf s e) q in let y = within-split 0x60 0x9F (typeOf s e) file in omega arith)
-
-    used : typeOf s e ≢ 0
-    used = file-used-type (typeOf s e) file
-
     pub written-sound : Sound (writeAt s e offset bytes time)
-    written-sound =
-        rw write-is
-        (midway-own s S d di k k₁ k₂ full (grow .0) c filled done (set-file-length full e first size c time fits) outside no-dir (rw type-done no-dir) slot-ok
-        (λ u j h g ne uj q. names-differ s S d di j k h k₁ g k₂ ne uj used (sym q ∙ name-done)) (λ pos. first-done ∙ first-is pos)
-        (own-held done e (mine .aligned) ∙ (rw (type-done, blocks-done) (file-held (typeOf s e) c file)))
-        (rw (second-held done e (mine .aligned), second-held s e (mine .aligned), type-done, attribute-done 36 (omega arith) (omega arith)))
-        (λ pos. rw (second-first done e, second-first s e) (attribute-done 32 (omega arith) (omega arith))))
+    written-sound = rw write-is (renewed-sound s S d di k k₁ k₂ file full (grow .0) c filled first size time first-is first-none size-is few)
 
     -- the others stay
     taken-agree : Agree s larger (new ++ entriesNamed (changedEntries last new))
@@ -280,14 +215,13 @@ module _ (s : List ℕ) (S : Sound s) (d : ℕ × ℕ) (di : In d (dirs s)) (k :
 
       pub written-block : ((x : ℕ × ℕ) → In x (dirs s) → a ≢ 512 * x .0) → block (writeAt s e offset bytes time) q ≡ block s q
       written-block apart =
-          rw write-is (entry-elsewhere s S e mine full done (filled .len) (set-file-length full e first size c time fits) outside q (block-below s S a A q i)
+          rw write-is (entry-elsewhere s S e mine full done (filled .len) long outside q (block-below s S a A q i)
           (λ z. block-outside s S a A apart q i (subst (λ (y : ℕ). In y (dirBlocks s)) z (mine .within-tree))) ∙ data-kept)
 
     -- the file's attributes stay
     pub written-attributes : SameAttributes s (writeAt s e offset bytes time) e
     written-attributes =
-        same-attributes s (writeAt s e offset bytes time) e (mine .aligned) file (rw write-is type-done) (rw write-is (attribute-done 32 (omega arith) (omega arith)))
-        (rw write-is (attribute-done 36 (omega arith) (omega arith)))
+        same-attributes s (writeAt s e offset bytes time) e (mine .aligned) file (rw write-is (entry .type)) (rw write-is (entry .attribute)) (rw write-is (entry .attribute-size))
         (λ q i. written-next (e + 28) (second s S e mine file) (λ z. omega arith) q (rw (second-blocks s S e mine file) i))
         (λ q i. written-block (e + 28) (second s S e mine file) (λ z. omega arith) q (rw (second-blocks s S e mine file) i) (second-no-self s S e mine file))
 
@@ -302,12 +236,12 @@ module _ (s : List ℕ) (S : Sound s) (d : ℕ × ℕ) (di : In d (dirs s)) (k :
         let w = grow .1 .used in
         let m = S .most in
         let g = grown-used n (S .least) new s last (S .whole) last-small (fresh .below) (omega (arith, occupied-most (next s) n)) in
-        rw write-is (same-be32 full done 0 28 20 (outside 0 28 (inl (omega (arith, entry-low s S e mine)))) (omega arith) (omega arith)
+        rw write-is (renewed-count s S d di k k₁ k₂ file full (grow .0) c filled first size time first-is first-none size-is few 20 (omega arith)
         ∙ filled .used ∙ occupied-same (next larger) (next full) n (λ y h. ap (λ (z : ℕ). eqb z 0) (full-next y (omega arith))) ∙ sym w ∙ g ∙ ap (λ (z : ℕ). be32 s 20 + z) l)
 
     -- only this slot of the directories differs
     pub written-slot : OneSlot s (dirs s) (writeAt s e offset bytes time) e
-    written-slot = rw write-is (one-slot s S d di k k₁ k₂ (firstBlock s) (heldAt s) e full (grow .0) c filled done (set-file-length full e first size c time fits) outside)
+    written-slot = rw write-is (renewed-slot s S d di k k₁ k₂ file full (grow .0) c filled first size time first-is first-none size-is few)
 
     -- the file is as written
     done-next : (y : ℕ) → y < 128 * tableBlocks n → next done y ≡ next larger y
@@ -319,7 +253,7 @@ module _ (s : List ℕ) (S : Sound s) (d : ℕ × ℕ) (di : In d (dirs s)) (k :
     done-blocks : fileBlocks done e ≡ old ++ new
     unfolding fileBlocks
     done-blocks =
-        rw (first-done, blocks-done)
+        rw (entry .first-is, entry .blocks-is)
         (chain-start (next done) c first (grow .0) first-is ∙ chain-agree (next larger) (next done) (grow .0) c (λ y h. done-next (nth (next larger) y (grow .0)) (omega (arith, larger-chain .below y h))) ∙ grow .2)
 
     all-distinct : distinct eqb (old ++ new) ≡ true
@@ -329,7 +263,7 @@ module _ (s : List ℕ) (S : Sound s) (d : ℕ × ℕ) (di : In d (dirs s)) (k :
     unfolding newSize
     done-joined =
         joined-same (block full) (block done) (old ++ new)
-        (λ q i. entry-elsewhere s S e mine full done (filled .len) (set-file-length full e first size c time fits) outside q (below q i)
+        (λ q i. entry-elsewhere s S e mine full done (filled .len) long outside q (below q i)
         (λ z. all-far q i (subst (λ (y : ℕ). In y (dirBlocks s)) z (mine .within-tree))))
         ∙ joined-put n (S .least) (old ++ new) larger offset bytes larger-length below all-distinct (omega (arith, length-is, size-is))
 
@@ -352,7 +286,7 @@ module _ (s : List ℕ) (S : Sound s) (d : ℕ × ℕ) (di : In d (dirs s)) (k :
           let lc = length-fileBlocks s e in
           let x : take (sizeOf s e) (joined (block larger) (old ++ new)) ≡ take (sizeOf s e) (joined (block s) old) =
           ap (take (sizeOf s e)) (joined-append (block larger) old new) ∙ take-append-le (sizeOf s e) (joined (block larger) old) (joined (block larger) new) (omega arith) ∙ ap (take (sizeOf s e)) old-kept in
-          rw (size-done, done-blocks, done-joined)
+          rw (entry .size-is, done-blocks, done-joined)
           (splice-cut (joined (block larger) (old ++ new)) (sizeOf s e) offset bytes inside (omega (arith, length-is)) ∙ ap (λ (r : List ℕ). splice r offset bytes) x)
 
       pub written-file : Written s (writeAt s e offset bytes time) e offset bytes time
@@ -360,17 +294,15 @@ module _ (s : List ℕ) (S : Sound s) (d : ℕ × ℕ) (di : In d (dirs s)) (k :
       written-file =
           rw write-is (record {
             contents = done-content;
-            size = size-done;
+            size = entry .size-is;
             blocks = done-blocks;
             whole = done-data;
-            kind = slot-part e 4 (omega arith) (omega arith) (inl (omega arith));
-            created = same-part s done (e + 16) 8 (e + 16) 8
-                (same-then s full done (e + 16) 8 (same-inner s full e 128 (e + 16) 8 slot-kept (omega arith) (omega arith)) (set-file-created full e first size c time fits))
-                (omega arith) (omega arith) (omega (arith, entry-high s S e mine)) done-length;
-            modified = set-file-modified full e first size c time fits;
-            rest = slot-part (e + 32) 96 (omega arith) (omega arith) (inr (omega arith));
-            type = type-done;
-            name = name-done;
+            kind = entry .kind;
+            created = entry .created;
+            modified = entry .modified;
+            rest = entry .rest;
+            type = entry .type;
+            name = entry .name;
           })
 
 pub kept-write : (s path : List ℕ) (offset : ℕ) (bytes : List ℕ) (time : ℕ) → check s ≡ 0 → WriteGiven s path offset (length bytes)

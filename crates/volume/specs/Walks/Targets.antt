@@ -4,7 +4,7 @@ use mathlib.Core.Path.{_≡_}
 use mathlib.Core.List.{List}
 use Rattle.layout.specs.Directory.{isFile, isDirectory}
 use Rattle.layout.specs.Walks.Looks.{Located}
-use Rattle.volume.specs.Change.{Change, create, write, delete, createDirectory, deleteDirectory, setAttributes, clearAttributes, clearFlags, refusal}
+use Rattle.volume.specs.Change.{Change, create, write, delete, createDirectory, deleteDirectory, setAttributes, clearAttributes, clearFlags, shorten, replace, refusal}
 use Rattle.volume.specs.declared.change.Change as code
 use Rattle.volume.specs.declared.change.Change.the-variants as kinds
 use Rattle.volume.specs.Walks.Places.{Vacant}
@@ -25,6 +25,8 @@ Target s (deleteDirectory path) slot block first size blocks = Located isDirecto
 Target s (setAttributes path bytes) slot block first size blocks = Located isFile s path slot block first size blocks
 Target s (clearAttributes path) slot block first size blocks = Located isFile s path slot block first size blocks
 Target s (clearFlags path) slot block first size blocks = Located isFile s path slot block first size blocks
+Target s (shorten path length time) slot block first size blocks = Located isFile s path slot block first size blocks
+Target s (replace path bytes time) slot block first size blocks = Located isFile s path slot block first size blocks
 
 -- what preparing a change gives: the number of its refusal, and if that is 0, what it is about
 pub record Prepared (s : List ℕ) (c : Change) (number slot block first size blocks : ℕ) : Type 0 where
@@ -41,3 +43,5 @@ answered kinds.DeleteDirectory slot = 0
 answered kinds.SetAttributes slot = 0
 answered kinds.ClearAttributes slot = 0
 answered kinds.ClearFlags slot = 0
+answered (kinds.Shorten size time) slot = 0
+answered (kinds.Replace time) slot = 0

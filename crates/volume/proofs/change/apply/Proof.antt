@@ -92,6 +92,26 @@ clear-bytes-requires c κs =
     let h = sound-shape (c .before .before .before .before .before .before .args .image .now) (c .before .before .before .before .before .before .pre .0) in
     (omega (arith, t .inside), omega arith)
 
+enum-known-what-4 : tie.Need-enum-known-what-4
+enum-known-what-4 c = search needs
+
+shorten-at-requires : tie.Need-shorten-at-requires
+unfolding refusal Target
+shorten-at-requires c κs =
+    let r = rw (c .before .before .what4 .given .1) at (c .before .before .before .before .before .before .before .pre .1) in
+    let t = rw (c .before .before .what4 .given .1) at (c .before .before .before .before .before .before .before .pre .2) in
+    (c .before .before .before .before .before .before .before .pre .0, record { path = c .before .before .before .before .before .before .before .args .path .now; accepted = r; located = t })
+
+enum-known-what-5 : tie.Need-enum-known-what-5
+enum-known-what-5 c = search needs
+
+replace-at-requires : tie.Need-replace-at-requires
+unfolding refusal Target
+replace-at-requires c κs =
+    let r = rw (c .before .before .what5 .given .1) at (c .before .before .before .before .before .before .before .pre .1) in
+    let t = rw (c .before .before .what5 .given .1) at (c .before .before .before .before .before .before .before .pre .2) in
+    (c .before .before .before .before .before .before .before .pre .0, record { path = c .before .before .before .before .before .before .before .args .path .now; accepted = r; located = t })
+
 same-length : tie.Need-same-length
 same-length c = search needs
 
@@ -160,6 +180,24 @@ returns-8 c =
     let t = rw (c .before .before .before .before .enum-told5 .given .1) at (c .before .before .before .before .before .before .before .before .before .pre .2) in
     rw (c .before .before .before .before .enum-told5 .given .1) (c .before .before .clear-bytes .ensures ∙ rw (t .place))
 
+same-length-9 : tie.Need-same-length-9
+same-length-9 c = search needs
+
+returns-9 : tie.Need-returns-9
+unfolding after Target
+returns-9 c =
+    let t = rw (c .before .before .before .before .before .what4 .given .1) at (c .before .before .before .before .before .before .before .before .before .before .pre .2) in
+    rw (c .before .before .before .before .before .what4 .given .1) (c .before .before .shorten-at .ensures .1 ∙ rw (t .place))
+
+same-length-10 : tie.Need-same-length-10
+same-length-10 c = search needs
+
+returns-10 : tie.Need-returns-10
+unfolding after Target
+returns-10 c =
+    let t = rw (c .before .before .before .before .before .what5 .given .1) at (c .before .before .before .before .before .before .before .before .before .before .pre .2) in
+    rw (c .before .before .before .before .before .what5 .given .1) (c .before .before .replace-at .ensures ∙ rw (t .place))
+
 pub apply-spec : {M : Type 1} → statement M
 apply-spec =
     tie.close
@@ -180,6 +218,10 @@ apply-spec =
     clear-attributes-requires
     enum-told-5
     clear-bytes-requires
+    enum-known-what-4
+    shorten-at-requires
+    enum-known-what-5
+    replace-at-requires
     same-length
     returns
     same-length-2
@@ -195,4 +237,8 @@ apply-spec =
     same-length-7
     returns-7
     same-length-8
-    returns-8)
+    returns-8
+    same-length-9
+    returns-9
+    same-length-10
+    returns-10)

@@ -92,6 +92,26 @@ mark-requires-2 c κs =
     let t = rw (c .before .enum-told6 .given .1) at (c .before .before .before .before .before .before .before .pre .2) in
     omega (arith, t .inside, c .before .before .before .before .before .before .before .pre .3)
 
+enum-known-what-3 : tie.Need-enum-known-what-3
+enum-known-what-3 c = search needs
+
+shorten-named-requires : tie.Need-shorten-named-requires
+unfolding refusal Target
+shorten-named-requires c κs =
+    let r = rw (c .before .before .what3 .given .1) at (c .before .before .before .before .before .before .before .before .pre .1) in
+    let t = rw (c .before .before .what3 .given .1) at (c .before .before .before .before .before .before .before .before .pre .2) in
+    (c .before .before .before .before .before .before .before .before .pre .0, record { path = c .before .before .before .before .before .before .before .before .args .path .now; accepted = r; located = t }, c .before .before .before .before .before .before .before .before .pre .3)
+
+enum-told-7 : tie.Need-enum-told-7
+enum-told-7 c = search needs
+
+replace-named-requires : tie.Need-replace-named-requires
+unfolding refusal Target
+replace-named-requires c κs =
+    let r = rw (c .before .enum-told7 .given .1) at (c .before .before .before .before .before .before .before .pre .1) in
+    let t = rw (c .before .enum-told7 .given .1) at (c .before .before .before .before .before .before .before .pre .2) in
+    (c .before .before .before .before .before .before .before .pre .0, record { path = c .before .before .before .before .before .before .before .args .path .now; accepted = r; located = t }, c .before .before .before .before .before .before .before .pre .3)
+
 same-length : tie.Need-same-length
 same-length c = search needs
 
@@ -164,6 +184,24 @@ returns-8 c =
     let t = rw (c .before .before .before .before .enum-told6 .given .1) at (c .before .before .before .before .before .before .before .before .before .before .pre .2) in
     rw (c .before .before .before .before .enum-told6 .given .1) (c .before .before .mark2 .ensures ∙ rw (located-block t))
 
+same-length-9 : tie.Need-same-length-9
+same-length-9 c = search needs
+
+returns-9 : tie.Need-returns-9
+unfolding named Target
+returns-9 c =
+    let t = rw (c .before .before .before .before .before .what3 .given .1) at (c .before .before .before .before .before .before .before .before .before .before .before .pre .2) in
+    rw (c .before .before .before .before .before .what3 .given .1) (c .before .before .shorten-named .ensures ∙ rw (t .place))
+
+same-length-10 : tie.Need-same-length-10
+same-length-10 c = search needs
+
+returns-10 : tie.Need-returns-10
+unfolding named Target
+returns-10 c =
+    let t = rw (c .before .before .before .before .enum-told7 .given .1) at (c .before .before .before .before .before .before .before .before .before .before .pre .2) in
+    rw (c .before .before .before .before .enum-told7 .given .1) (c .before .before .replace-named .ensures ∙ rw (t .place))
+
 pub mark-named-spec : {M : Type 1} → statement M
 mark-named-spec =
     tie.close
@@ -184,6 +222,10 @@ mark-named-spec =
     clear-attributes-named-requires
     enum-told-6
     mark-requires-2
+    enum-known-what-3
+    shorten-named-requires
+    enum-told-7
+    replace-named-requires
     same-length
     returns
     same-length-2
@@ -199,4 +241,8 @@ mark-named-spec =
     same-length-7
     returns-7
     same-length-8
-    returns-8)
+    returns-8
+    same-length-9
+    returns-9
+    same-length-10
+    returns-10)

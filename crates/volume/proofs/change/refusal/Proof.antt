@@ -1,5 +1,6 @@
 use borrow.Author.Needs.{needs}
 use Rattle.volume.specs.Change.{refusal}
+use Rattle.volume.specs.Replace.{replaceRefusal}
 use Rattle.volume.specs.Walks.Targets.{Target}
 use Rattle.volume.proofs.change.refusal.Statement.{statement}
 use Rattle.volume.proofs.change.refusal.Tie as tie
@@ -52,6 +53,18 @@ enum-told-5 c = search needs
 open-file-requires-3 : tie.Need-open-file-requires-3
 open-file-requires-3 c κs = search needs
 
+enum-known-what-4 : tie.Need-enum-known-what-4
+enum-known-what-4 c = search needs
+
+shorten-refusal-requires : tie.Need-shorten-refusal-requires
+shorten-refusal-requires c κs = search needs
+
+enum-told-6 : tie.Need-enum-told-6
+enum-told-6 c = search needs
+
+write-refusal-requires-2 : tie.Need-write-refusal-requires-2
+write-refusal-requires-2 c κs = search needs
+
 returns : tie.Need-returns
 unfolding refusal Target
 returns c = rw (c .before .before .what .given .1) (record { number-is = c .create-refusal .ensures .number-is; target = c .create-refusal .ensures .vacant })
@@ -84,6 +97,14 @@ returns-8 : tie.Need-returns-8
 unfolding refusal Target
 returns-8 c = rw (c .before .enum-told5 .given .1) (record { number-is = c .open-file3 .ensures .number-is; target = c .open-file3 .ensures .file })
 
+returns-9 : tie.Need-returns-9
+unfolding refusal Target
+returns-9 c = rw (c .before .before .what4 .given .1) (record { number-is = c .shorten-refusal .ensures .number-is; target = c .shorten-refusal .ensures .file })
+
+returns-10 : tie.Need-returns-10
+unfolding refusal Target replaceRefusal
+returns-10 c = rw (c .before .enum-told6 .given .1) (record { number-is = c .write-refusal2 .ensures .number-is; target = c .write-refusal2 .ensures .file })
+
 pub refusal-spec : {M : Type 1} → statement M
 refusal-spec =
     tie.close
@@ -104,6 +125,10 @@ refusal-spec =
     open-file-requires-2
     enum-told-5
     open-file-requires-3
+    enum-known-what-4
+    shorten-refusal-requires
+    enum-told-6
+    write-refusal-requires-2
     returns
     returns-2
     returns-3
@@ -111,4 +136,6 @@ refusal-spec =
     returns-5
     returns-6
     returns-7
-    returns-8)
+    returns-8
+    returns-9
+    returns-10)
