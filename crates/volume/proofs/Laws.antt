@@ -15,6 +15,7 @@ pub mod Attributes
 pub mod SetClear
 pub mod Flags
 pub mod Delete
+pub mod Move
 pub mod DeleteDirectory
 pub mod Create
 pub mod Created
