@@ -16,6 +16,7 @@ pub mod SetClear
 pub mod Flags
 pub mod Delete
 pub mod Move
+pub mod Moved
 pub mod DeleteDirectory
 pub mod Create
 pub mod Created
