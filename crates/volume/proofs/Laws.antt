@@ -33,9 +33,10 @@ pub mod Content
 pub mod Views
 pub mod Folders
 pub mod Effects
+pub mod Arrived
 pub mod Acts
 pub mod Shown
-pub mod ShownFlags
 pub mod Alike
 pub mod Orders
+pub mod ShownFlags
 pub mod Inside

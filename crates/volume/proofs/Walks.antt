@@ -20,3 +20,4 @@ pub mod DeleteDirectory
 pub mod Taken
 pub mod CreateDirectory
 pub mod Targets
+pub mod Move

@@ -7,6 +7,7 @@ use Rattle.volume.specs.Write.{writeRefusal, writeAt, writeNamed}
 use Rattle.volume.specs.Delete.{deleteAt, deleteNamed}
 use Rattle.volume.specs.Attributes.{setAttributesRefusal, setAttributesAt, setAttributesNamed, clearAttributesAt, clearAttributesNamed}
 use Rattle.volume.specs.Flags.{clearFlagsAt, clearFlagsNamed}
+use Rattle.volume.specs.Move.{moveRefusal, moveSlot, moveImage, moveNamed}
 use Rattle.volume.specs.Directories.{createDirectoryRefusal, createDirectoryImage, createDirectoryNamed, deleteDirectoryRefusal}
 use Rattle.layout.specs.Directory.{isFile, isDirectory}
 use Rattle.layout.specs.Paths.{fileRefusal, entryOf}
@@ -20,6 +21,7 @@ pub data Change : Type 0 where
   setAttributes : (path bytes : List ℕ) → Change
   clearAttributes : (path : List ℕ) → Change
   clearFlags : (path : List ℕ) → Change
+  move : (path to : List ℕ) → Change
 
 -- the refusal by the numbers 9 to 26, or 0
 unfoldable pub refusal : List ℕ → Change → ℕ
@@ -31,8 +33,9 @@ refusal s (deleteDirectory path) = deleteDirectoryRefusal s path
 refusal s (setAttributes path bytes) = setAttributesRefusal s path (length bytes)
 refusal s (clearAttributes path) = fileRefusal s path
 refusal s (clearFlags path) = fileRefusal s path
+refusal s (move path to) = moveRefusal s path to
 
--- of an accepted change: the image after it, its named blocks (in any order), and the slot that it answers (create, of a directory too)
+-- of an accepted change: the image after it, its named blocks (in any order), and the slot that it answers (create, of a directory too; move)
 unfoldable pub after : List ℕ → Change → List ℕ
 after s (create path type user group permissions flags time) = createImage s path type user group permissions flags time
 after s (write path offset bytes time) = writeAt s (entryOf isFile s path) offset bytes time
@@ -42,6 +45,7 @@ after s (deleteDirectory path) = deleteAt s (entryOf isDirectory s path)
 after s (setAttributes path bytes) = setAttributesAt s (entryOf isFile s path) bytes
 after s (clearAttributes path) = clearAttributesAt s (entryOf isFile s path)
 after s (clearFlags path) = clearFlagsAt s (entryOf isFile s path)
+after s (move path to) = moveImage s path to
 
 unfoldable pub named : List ℕ → Change → List ℕ
 named s (create path type user group permissions flags time) = createNamed s path
@@ -52,6 +56,7 @@ named s (deleteDirectory path) = deleteNamed s (entryOf isDirectory s path)
 named s (setAttributes path bytes) = setAttributesNamed s (entryOf isFile s path) (length bytes)
 named s (clearAttributes path) = clearAttributesNamed s (entryOf isFile s path)
 named s (clearFlags path) = clearFlagsNamed (entryOf isFile s path)
+named s (move path to) = moveNamed s path to
 
 unfoldable pub slotGiven : List ℕ → Change → ℕ
 slotGiven s (create path type user group permissions flags time) = createSlot s path
@@ -62,3 +67,4 @@ slotGiven s (deleteDirectory path) = 0
 slotGiven s (setAttributes path bytes) = 0
 slotGiven s (clearAttributes path) = 0
 slotGiven s (clearFlags path) = 0
+slotGiven s (move path to) = moveSlot s path to

@@ -2,15 +2,16 @@
 use Prim.Native.Nat.{ℕ, _+_, _-_, _/_, max}
 use mathlib.Core.Path.{_≡_}
 use mathlib.Core.List.{List, [], _∷_}
-use mathlib.Core.Bool.{Bool, true, false}
+use mathlib.Core.Bool.{Bool, true, false, cond}
 use mathlib.Core.Logic.{_⊎_}
 use lib.ListN.{length}
+use Rattle.layout.specs.Lists.{has, same}
 use Rattle.layout.specs.Refusals.{accept}
 use Rattle.layout.specs.Bytes.{be32, bytes4, bytes8, part, splice, zeros}
 use Rattle.layout.specs.Geometry.{blocksFor}
 use Rattle.layout.specs.Directory.{blocksOf, isFile, isDirectory, content, attributes}
 use Rattle.layout.specs.Paths.{entryOf, fileRefusal, directoryRefusal}
-use Rattle.volume.specs.Change.{Change, create, write, delete, createDirectory, deleteDirectory, setAttributes, clearAttributes, clearFlags}
+use Rattle.volume.specs.Change.{Change, create, write, delete, createDirectory, deleteDirectory, setAttributes, clearAttributes, clearFlags, move}
 
 -- a file: its bytes; type, user, group and permissions; both times; system flags; the bytes of its attributes
 pub record File : Type 0 where
@@ -55,7 +56,7 @@ pub record SameFiles (s s′ : List ℕ) : Type 0 where
   pub free : be32 s 24 ≡ be32 s′ 24
 
 -- L11, "Create, of a directory too, now wants zero there": the system flags that a path shows, zero where it shows nothing; and of a change from s to s′,
--- that they are zero after it, or what they were
+-- that they are zero after it, or what they were at the path whose file it is: where a move has brought a file, those that the file had
 abbrev pub flagsIn : Maybe File → List ℕ
 flagsIn nothing = zeros 4
 flagsIn (just x) = x .flags
@@ -64,8 +65,8 @@ abbrev pub folderFlagsIn : Maybe Folder → List ℕ
 folderFlagsIn nothing = zeros 4
 folderFlagsIn (just x) = x .flags
 
-pub record NoNewFlags (s s′ : List ℕ) : Type 0 where
-  pub files : (path : List ℕ) → (flagsIn (fileAt s′ path) ≡ zeros 4) ⊎ (flagsIn (fileAt s′ path) ≡ flagsIn (fileAt s path))
+pub record NoNewFlags (s s′ : List ℕ) (origin : List ℕ → List ℕ) : Type 0 where
+  pub files : (path : List ℕ) → (flagsIn (fileAt s′ path) ≡ zeros 4) ⊎ (flagsIn (fileAt s′ path) ≡ flagsIn (fileAt s (origin path)))
   pub folders : (path : List ℕ) → (folderFlagsIn (folderAt s′ path) ≡ zeros 4) ⊎ (folderFlagsIn (folderAt s′ path) ≡ folderFlagsIn (folderAt s path))
 
 -- the path that a change is about
@@ -78,8 +79,28 @@ subject (deleteDirectory path) = path
 subject (setAttributes path bytes) = path
 subject (clearAttributes path) = path
 subject (clearFlags path) = path
+subject (move path to) = path
 
--- the changes of files
+-- of a move also the path where its file is then; and all the paths that a change is about
+unfoldable pub further : Change → List (List ℕ)
+further (create path type user group permissions flags time) = []
+further (write path offset bytes time) = []
+further (delete path) = []
+further (createDirectory path type user group permissions flags time d) = []
+further (deleteDirectory path) = []
+further (setAttributes path bytes) = []
+further (clearAttributes path) = []
+further (clearFlags path) = []
+further (move path to) = to ∷ []
+
+abbrev pub subjects : Change → List (List ℕ)
+subjects c = subject c ∷ further c
+
+-- the path that showed before a change on `from`, with the further paths `tos`, what a path shows after it
+abbrev pub originOf : List ℕ → List (List ℕ) → List ℕ → List ℕ
+originOf from tos path = cond (has same path tos) from path
+
+-- the changes of a file where it is
 unfoldable pub ofFile : Change → Bool
 ofFile (create path type user group permissions flags time) = true
 ofFile (write path offset bytes time) = true
@@ -89,6 +110,7 @@ ofFile (deleteDirectory path) = false
 ofFile (setAttributes path bytes) = true
 ofFile (clearAttributes path) = true
 ofFile (clearFlags path) = true
+ofFile (move path to) = false
 
 -- what an accepted change makes of the file that its path shows
 abbrev pub over : Maybe File → (File → File) → Maybe File
@@ -106,6 +128,7 @@ made (deleteDirectory path) m = m
 made (setAttributes path bytes) m = over m (λ f. record { bytes = f .bytes; kind = f .kind; created = f .created; modified = f .modified; flags = f .flags; attributes = bytes })
 made (clearAttributes path) m = over m (λ f. record { bytes = f .bytes; kind = f .kind; created = f .created; modified = f .modified; flags = f .flags; attributes = [] })
 made (clearFlags path) m = over m (λ f. record { bytes = f .bytes; kind = f .kind; created = f .created; modified = f .modified; flags = zeros 4; attributes = f .attributes })
+made (move path to) m = nothing
 
 -- the blocks that it takes and those that it gives back
 abbrev pub count : Maybe File → (File → ℕ) → ℕ
@@ -121,6 +144,7 @@ takes (deleteDirectory path) m = 0
 takes (setAttributes path bytes) m = length bytes / 512
 takes (clearAttributes path) m = 0
 takes (clearFlags path) m = 0
+takes (move path to) m = 0
 
 unfoldable pub gives : Change → Maybe File → ℕ
 gives (create path type user group permissions flags time) m = 0
@@ -131,6 +155,7 @@ gives (deleteDirectory path) m = 0
 gives (setAttributes path bytes) m = count m (λ f. length (f .attributes) / 512)
 gives (clearAttributes path) m = count m (λ f. length (f .attributes) / 512)
 gives (clearFlags path) m = 0
+gives (move path to) m = 0
 
 -- of the directory that its path shows: what it makes of it, and the blocks that it gives back
 unfoldable pub madeFolder : Change → Maybe Folder → Maybe Folder
@@ -143,6 +168,7 @@ madeFolder (deleteDirectory path) m = nothing
 madeFolder (setAttributes path bytes) m = m
 madeFolder (clearAttributes path) m = m
 madeFolder (clearFlags path) m = m
+madeFolder (move path to) m = m
 
 abbrev pub sizeIn : Maybe Folder → ℕ
 sizeIn nothing = 0
@@ -157,3 +183,4 @@ givesFolder (deleteDirectory path) m = sizeIn m
 givesFolder (setAttributes path bytes) m = 0
 givesFolder (clearAttributes path) m = 0
 givesFolder (clearFlags path) m = 0
+givesFolder (move path to) m = 0

@@ -1,5 +1,5 @@
 // A change as one value, for the journal above: its refusal, its named blocks as marks and the change itself, on an image that the caller has
-// checked. The path and the data stand beside it. Its path is looked up once: what the refusal found is handed on.
+// checked. The path and the data stand beside it; the data of a move is its second path. Its path is looked up once: what the refusal found is handed on.
 ghost use mathlib.Core.Path.{_≡_};
 ghost use Prim.Native.Nat.{_≤_, _<_};
 ghost use lib.ListN.{length};
@@ -29,6 +29,7 @@ pub enum Change {
     SetAttributes,
     ClearAttributes,
     ClearFlags,
+    Move,
 }
 
 // What the change is about, or the refusal, 9 to 26.
@@ -67,6 +68,7 @@ pub fn refusal(image: &[u8], what: Change, path: &[u8], bytes: &[u8]) -> File
         ),
         Change::ClearAttributes => layout::file::open_file(image, path),
         Change::ClearFlags => layout::file::open_file(image, path),
+        Change::Move => super::moving::move_refusal(image, path, bytes),
     }
 }
 
@@ -104,6 +106,7 @@ pub fn mark_named(
         ),
         Change::ClearAttributes => super::attributes::clear_attributes_named(image, found, marks),
         Change::ClearFlags => super::marks::mark(marks, found.block),
+        Change::Move => super::moving::move_named(found, marks),
     }
 }
 
@@ -125,10 +128,11 @@ fn apply(image: &mut [u8], what: Change, path: &[u8], bytes: &[u8], found: File)
         Change::SetAttributes => set_attributes(image, found, bytes),
         Change::ClearAttributes => clear_attributes(image, found),
         Change::ClearFlags => clear_bytes(image, found.block, found.slot, 40, 4),
+        Change::Move => super::moving::move_entry(image, found, bytes),
     }
 }
 
-// The slot that a change answers: of a create, of a directory too, that of its entry; 0 for the others.
+// The slot that a change answers: of a create, of a directory too, and of a move that of its entry; 0 for the others.
 fn slot_of(what: Change, slot: usize) -> u32
     requires { ⌜ slot < 256 ⌝ }
     ensures { λ r. ⌜ r ≡ answered what slot ⌝ }
@@ -142,6 +146,7 @@ fn slot_of(what: Change, slot: usize) -> u32
         Change::SetAttributes => 0,
         Change::ClearAttributes => 0,
         Change::ClearFlags => 0,
+        Change::Move => slot as u32,
     }
 }
 

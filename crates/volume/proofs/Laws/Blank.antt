@@ -22,8 +22,9 @@ use Rattle.volume.specs.Write.{written, changedEntries, newBlocks, write
 use Rattle.volume.specs.Delete.{allBlocks, deleteAt, deleteNamed}
 use Rattle.volume.specs.Attributes.{emptied, newAttributes, setAttributesRefusal, setAttributesAt, setAttributesNamed, clearAttributesAt, clearAttributesNamed}
 use Rattle.volume.specs.Flags.{clearFlagsAt, clearFlagsNamed}
+use Rattle.volume.specs.Move.{movePlace, moveRefusal, moveImage, moveNamed}
 use Rattle.volume.specs.Directories.{createDirectoryRefusal, newDirectoryBlocks, createDirectoryImage, createDirectoryNamed, deleteDirectoryRefusal}
-use Rattle.volume.specs.Change.{Change, create, write, delete, createDirectory, deleteDirectory, setAttributes, clearAttributes, clearFlags, refusal, after, named}
+use Rattle.volume.specs.Change.{Change, create, write, delete, createDirectory, deleteDirectory, setAttributes, clearAttributes, clearFlags, move, refusal, after, named}
 use Rattle.volume.specs.Claims.{Blanked}
 use Rattle.layout.proofs.Laws.Tests.{true-or-false, true-not-false, lt-or-ge, firstOf-zero}
 use Rattle.layout.proofs.Laws.Bytes.{length-zeros, getD-zeros, getD-part, getD-splice-before, getD-splice-inside, getD-splice-after, part-same, length-splice}
@@ -46,6 +47,7 @@ use Rattle.volume.proofs.Laws.Attributes.{old-below, old-used, emptied-
 use Rattle.volume.proofs.Laws.SetClear.{cleared-table, cleared-zero, set-table, set-zero}
 use Rattle.volume.proofs.Laws.Space.{new-fresh, last-below}
 use Rattle.volume.proofs.Laws.Write.{written-table}
+use Rattle.volume.proofs.Laws.Moved.{move-given, old-entry, new-entry, move-next, move-bounded}
 
 -- a block that is free after blocks were taken was free before, and is none of them
 module _ (n : ℕ) (n₁ : 3 ≤ n) (most : n ≤ maxBlocks) where
@@ -283,6 +285,15 @@ module _ (s : List ℕ) (ok : check s ≡ 0) where
   unfolding refusal after named clearFlagsNamed
   flags-blanked path r = entry-blanked s T (entryOf isFile s path) (at-entry s T isFile path (file-at-path s path r)) _ (frame s (clearFlags path) ok r .agree)
 
+  -- no link changes, and both slots stand in blocks in use
+  move-blanked : (path to : List ℕ) → moveRefusal s path to ≡ 0 → Blanked s (moveImage s path to)
+  unfolding moveNamed
+  move-blanked path to r =
+      let G = move-given s path to r in
+      blanked s T (entryOf isFile s path) (old-entry s path to ok G) (moveImage s path to) (movePlace s path to / 512 ∷ []) (move-bounded s path to ok G .agree)
+      λ b bn z. let v : next s b ≡ 0 = sym (move-next s path to ok G b (omega (arith, T .least))) ∙ z in
+      inr (v, λ i. ⊎-elim (λ q. tree-used s T (movePlace s path to / 512) (new-entry s path to ok G .within-tree) (ap (next s) (sym q) ∙ v)) (λ x. x) i)
+
 pub blank : (s : List ℕ) (c : Change) → check s ≡ 0 → refusal s c ≡ 0 → Blanked s (after s c)
 unfolding refusal after
 blank s (create path type user group permissions flags time) ok r = create-blanked s ok path type user group permissions flags time r
@@ -293,3 +304,4 @@ blank s (deleteDirectory path) ok r = delete-directory-blanked s ok path r
 blank s (setAttributes path bytes) ok r = set-blanked s ok path bytes r
 blank s (clearAttributes path) ok r = clear-blanked s ok path r
 blank s (clearFlags path) ok r = flags-blanked s ok path r
+blank s (move path to) ok r = move-blanked s ok path to r

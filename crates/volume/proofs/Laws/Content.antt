@@ -35,7 +35,7 @@ use Rattle.layout.proofs.Laws.Sound.{Sound, Owner, sound}
 use Rattle.layout.proofs.Laws.Changed.{OneSlot}
 use Rattle.layout.proofs.Laws.Paths.{Named}
 use Rattle.layout.proofs.Laws.Owners.{blocksAt, file-no-dir}
-use Rattle.layout.specs.Claims.{Untouched}
+use Rattle.layout.specs.Claims.{Untouched, Reached}
 use Rattle.layout.proofs.Laws.Others.{untouched}
 use Rattle.layout.proofs.Laws.Ways.{other-path}
 
@@ -52,19 +52,19 @@ deep-untouched s s′ other f =
     }
 
 -- the entry of a path is no file of another path's name
-beside : (s t : List ℕ) (e : ℕ) (path other : List ℕ) → nameOf t e ≡ lastPart (parts path) → (home s other ≢ home s path) ⊎ (lastPart (parts other) ≢ lastPart (parts path))
+pub beside : (s t : List ℕ) (e : ℕ) (path other : List ℕ) → nameOf t e ≡ lastPart (parts path) → (home s other ≢ home s path) ⊎ (lastPart (parts other) ≢ lastPart (parts path))
     → (home s other ≢ home s path) ⊎ ((isFile (typeOf t e) && same (nameOf t e) (lastPart (parts other))) ≡ false)
 beside s t e path other q (inl ne) = inl ne
 beside s t e path other q (inr ne) = inr (is-false _ (λ y. ne (sym (same-eq (nameOf t e) (lastPart (parts other)) (and-split (isFile (typeOf t e)) _ y .1)) ∙ q)))
 
-no-file : (t : List ℕ) (e : ℕ) (name : List ℕ) → typeOf t e ≡ 0 → (isFile (typeOf t e) && same (nameOf t e) name) ≡ false
+pub no-file : (t : List ℕ) (e : ℕ) (name : List ℕ) → typeOf t e ≡ 0 → (isFile (typeOf t e) && same (nameOf t e) name) ≡ false
 no-file t e name z = rw z
 
 module _ (s path other : List ℕ) (ok : check s ≡ 0) (good : pathOk other ≡ true) (ne : other ≢ path) where
   S : Sound s
   S = sound s ok
 
-  by-depth : (s′ : List ℕ) → (shallow (leading (parts other)) ≡ true → Untouched s s′ other) → Untouched s s′ other
+  pub by-depth : (s′ : List ℕ) → (shallow (leading (parts other)) ≡ true → Untouched s s′ other) → Untouched s s′ other
   by-depth s′ f = go (shallow (leading (parts other))) refl
     where
       go : (w : Bool) → shallow (leading (parts other)) ≡ w → Untouched s s′ other
@@ -183,6 +183,22 @@ module _ (s path other : List ℕ) (ok : check s ≡ 0) (good : pathOk other ≡
         (flags-slot s S d (A .home-in) k (N .low) (N .high) (N .typed)) (K .type) (K .name)
         (λ a O p q. flags-next s S d (A .home-in) k (N .low) (N .high) (N .typed) a O)
         (λ a O p q. flags-block s S d (A .home-in) k (N .low) (N .high) (N .typed) a O)
+
+-- a change, then another
+pub untouched-then : (s t u other : List ℕ) → Untouched s t other → Untouched t u other → Untouched s u other
+untouched-then s t u other U W =
+    record {
+      slot = λ h. W .slot h ∙ U .slot h;
+      entry = λ r. W .entry (on r) ∙ U .entry r;
+      bytes = λ r. (rw (U .entry r) at (W .bytes (on r))) ∙ U .bytes r;
+      blocks = λ r. (rw (U .entry r) at (W .blocks (on r))) ∙ U .blocks r;
+      contents = λ r. (rw (U .entry r) at (W .contents (on r))) ∙ U .contents r;
+      second = λ r. let A = U .second r in let B = rw (U .entry r) at (W .second (on r)) in
+          record { size = B .size ∙ A .size; blocks = B .blocks ∙ A .blocks; bytes = B .bytes ∙ A .bytes };
+    }
+  where
+    on : Reached s other → Reached t other
+    on r = (r .0, λ z. r .1 (sym (U .slot (r .0)) ∙ z))
 
 -- a directory created: the file of every path stays
 pub create-directory-untouched : (s path other : List ℕ) → check s ≡ 0 → (type user group permissions flags time d : ℕ) → createDirectoryRefusal s path type flags d ≡ 0

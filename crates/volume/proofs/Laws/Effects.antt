@@ -19,7 +19,7 @@ use Rattle.volume.specs.Write.{newSize, needed, newBlocks, writeAt}
 use Rattle.volume.specs.Delete.{deleteAt}
 use Rattle.volume.specs.Attributes.{setAttributesAt, clearAttributesAt, setAttributesRefusal}
 use Rattle.volume.specs.Flags.{clearFlagsAt}
-use Rattle.volume.specs.Change.{Change, create, write, delete, createDirectory, deleteDirectory, setAttributes, clearAttributes, clearFlags, refusal, after}
+use Rattle.volume.specs.Change.{Change, create, write, delete, createDirectory, deleteDirectory, setAttributes, clearAttributes, clearFlags, move, refusal, after}
 use Rattle.volume.specs.Views.{just, fileOf, fileAt, folderAt, subject, ofFile, made, takes, gives}
 use Rattle.volume.proofs.Laws.Places.{CreateGiven, create-given, At, file-at-path, at-accepted, WriteGiven, write-given, SetGiven, set-path, set-given, path-name, place-is, place-home, place-free, place-new, place-there}
 use Rattle.volume.proofs.Laws.Entries.{entry-length, entry-type, entry-size, entry-attribute-size}
@@ -471,3 +471,4 @@ effect s (deleteDirectory path) f ok r = absurd (true-not-false f refl)
 effect s (setAttributes path bytes) f ok r = set-effect s path ok (set-path s path (length bytes) r) bytes r
 effect s (clearAttributes path) f ok r = clear-effect s path ok r
 effect s (clearFlags path) f ok r = flags-effect s path ok r
+effect s (move path to) f ok r = absurd (true-not-false f refl)

@@ -21,8 +21,9 @@ use Rattle.volume.specs.Write.{put, written, changedEntries, newSize, ne
 use Rattle.volume.specs.Delete.{allBlocks, deleteAt, deleteNamed}
 use Rattle.volume.specs.Attributes.{newAttributes, setAttributesNamed, clearAttributesNamed}
 use Rattle.volume.specs.Flags.{clearFlagsNamed}
+use Rattle.volume.specs.Move.{movePlace, moveRefusal, moveNamed}
 use Rattle.volume.specs.Directories.{createDirectoryRefusal, newDirectoryBlocks, createDirectoryImage, createDirectoryNamed, deleteDirectoryRefusal}
-use Rattle.volume.specs.Change.{Change, create, write, delete, createDirectory, deleteDirectory, setAttributes, clearAttributes, clearFlags, refusal, after, named}
+use Rattle.volume.specs.Change.{Change, create, write, delete, createDirectory, deleteDirectory, setAttributes, clearAttributes, clearFlags, move, refusal, after, named}
 use Rattle.volume.proofs.Laws.Entries.{entry-length}
 use Rattle.volume.proofs.Laws.Frame.{entries-low, blocks-in, blocks-below, changed-first, changed-below, written-in, taken-written, released-agree, grown-agree, put-agree}
 use Rattle.volume.proofs.Laws.Places.{create-given, CreateDirectoryGiven, create-directory-given, At, file-at-path, directory-at-path, WriteGiven, write-given, SetGiven, set-path, set-given, path-levels, path-name, place-is, place-home, place-free}
@@ -30,6 +31,7 @@ use Rattle.volume.proofs.Laws.Unchanged.{Bounded, slot-agree, entry-bou
 use Rattle.volume.proofs.Laws.Delete.{deleted-bounded}
 use Rattle.volume.proofs.Laws.SetClear.{cleared-bounded, set-bounded}
 use Rattle.volume.proofs.Laws.Flags.{flags-bounded}
+use Rattle.volume.proofs.Laws.Moved.{move-given, old-entry, move-bounded}
 use Rattle.volume.proofs.Laws.Space.{new-fresh, new-length, all-below, last-below}
 use Rattle.layout.proofs.Laws.Bytes.{length-bytes4, length-bytes8, length-zeros}
 use Rattle.layout.proofs.Laws.Tests.{firstOf-zero}
@@ -284,6 +286,12 @@ module _ (s : List ℕ) (S : Sound s) where
         (λ x i. ⊎-elim (λ j. inside x (written-in (old ++ new) offset (length bytes) x j))
         (λ j. omega (arith, entries-low n (changedEntries (lastOr 0 old) new) (changed-below n (lastOr 0 old) new before new-below) x j, S .least)) (in-append x holds entries i))
 
+move-framed : (s path to : List ℕ) → check s ≡ 0 → moveRefusal s path to ≡ 0 → Framed s (move path to)
+unfolding after named moveNamed
+move-framed s path to ok r =
+    let G = move-given s path to r in
+    bounded-framed s (sound s ok) (entryOf isFile s path) (old-entry s path to ok G) (move path to) (movePlace s path to / 512 ∷ []) refl (move-bounded s path to ok G)
+
 pub frame : (s : List ℕ) (c : Change) → check s ≡ 0 → refusal s c ≡ 0 → Framed s c
 unfolding refusal
 frame s (create path type user group permissions flags time) ok r = create-framed s (sound s ok) path type user group permissions flags time r
@@ -294,3 +302,4 @@ frame s (deleteDirectory path) ok r = delete-directory-framed s (sound s ok) pat
 frame s (setAttributes path bytes) ok r = set-framed s (sound s ok) path (file-at-path s path (set-path s path (length bytes) r)) bytes (set-given s path (length bytes) r)
 frame s (clearAttributes path) ok r = clear-framed s (sound s ok) path (file-at-path s path r)
 frame s (clearFlags path) ok r = flags-framed s (sound s ok) path (file-at-path s path r)
+frame s (move path to) ok r = move-framed s path to ok r

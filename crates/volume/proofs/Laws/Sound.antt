@@ -4,13 +4,14 @@ use mathlib.Core.Path.{_≡_}
 use mathlib.Core.List.{List}
 use lib.ListN.{length}
 use Rattle.layout.specs.Check.{check}
-use Rattle.volume.specs.Change.{Change, create, write, delete, createDirectory, deleteDirectory, setAttributes, clearAttributes, clearFlags, refusal, after}
+use Rattle.volume.specs.Change.{Change, create, write, delete, createDirectory, deleteDirectory, setAttributes, clearAttributes, clearFlags, move, refusal, after}
 use Rattle.volume.proofs.Laws.Places.{write-given}
 use Rattle.volume.proofs.Laws.Create.{kept-create}
 use Rattle.volume.proofs.Laws.Write.{kept-write}
 use Rattle.volume.proofs.Laws.Delete.{kept-delete}
 use Rattle.volume.proofs.Laws.SetClear.{kept-set, kept-clear}
 use Rattle.volume.proofs.Laws.Flags.{kept-flags}
+use Rattle.volume.proofs.Laws.Moved.{kept-move}
 use Rattle.volume.proofs.Laws.DeleteDirectory.{kept-delete-directory}
 use Rattle.volume.proofs.Laws.CreateDirectory.{kept-create-directory}
 
@@ -27,3 +28,4 @@ kept s (deleteDirectory path) ok r = kept-delete-directory s path ok r
 kept s (setAttributes path bytes) ok r = kept-set s path bytes ok r
 kept s (clearAttributes path) ok r = kept-clear s path ok r
 kept s (clearFlags path) ok r = kept-flags s path ok r
+kept s (move path to) ok r = kept-move s path to ok r

@@ -19,6 +19,7 @@ module _ (s path bytes : List ℕ) (slot block first size blocks : ℕ) where
   target-low kinds.SetAttributes t = t .low
   target-low kinds.ClearAttributes t = t .low
   target-low kinds.ClearFlags t = t .low
+  target-low kinds.Move t = t .low
 
   pub target-slot : (what : code.Change) → Target s (asked what path bytes) slot block first size blocks → answered what slot ≡ slotGiven s (asked what path bytes)
   unfolding Target answered slotGiven
@@ -30,3 +31,4 @@ module _ (s path bytes : List ℕ) (slot block first size blocks : ℕ) where
   target-slot kinds.SetAttributes t = refl
   target-slot kinds.ClearAttributes t = refl
   target-slot kinds.ClearFlags t = refl
+  target-slot kinds.Move t = t .lowest

@@ -8,6 +8,8 @@ use Rattle.volume.specs.Walks.Targets.{Target}
 use Rattle.volume.proofs.Laws.Places.{create-given, write-at}
 use Rattle.volume.proofs.Walks.Delete.{file-droppable, dropped-image}
 use Rattle.volume.proofs.Walks.DeleteDirectory.{delete-directory-given, child-droppable}
+use Rattle.volume.proofs.Laws.Moved.{move-given}
+use Rattle.volume.proofs.Walks.Move.{old-within, new-within, move-written}
 use Rattle.volume.proofs.change.apply.Statement.{statement}
 use Rattle.volume.proofs.change.apply.Tie as tie
 
@@ -92,6 +94,17 @@ clear-bytes-requires c κs =
     let h = sound-shape (c .before .before .before .before .before .before .args .image .now) (c .before .before .before .before .before .before .pre .0) in
     (omega (arith, t .inside), omega arith)
 
+enum-told-6 : tie.Need-enum-told-6
+enum-told-6 c = search needs
+
+move-entry-requires : tie.Need-move-entry-requires
+unfolding refusal Target
+move-entry-requires c κs =
+    let p = c .before .before .before .before .before .before .pre in
+    let r = rw (c .before .enum-told6 .given .1) at (p .1) in
+    let t = rw (c .before .enum-told6 .given .1) at (p .2) in
+    (old-within t (p .0), new-within t (p .0), move-given _ _ _ r .good)
+
 same-length : tie.Need-same-length
 same-length c = search needs
 
@@ -160,6 +173,15 @@ returns-8 c =
     let t = rw (c .before .before .before .before .enum-told5 .given .1) at (c .before .before .before .before .before .before .before .before .before .pre .2) in
     rw (c .before .before .before .before .enum-told5 .given .1) (c .before .before .clear-bytes .ensures ∙ rw (t .place))
 
+same-length-9 : tie.Need-same-length-9
+same-length-9 c = search needs
+
+returns-9 : tie.Need-returns-9
+unfolding after Target
+returns-9 c =
+    let t = rw (c .before .before .before .before .enum-told6 .given .1) at (c .before .before .before .before .before .before .before .before .before .pre .2) in
+    rw (c .before .before .before .before .enum-told6 .given .1) (c .before .before .move-entry .ensures ∙ move-written t)
+
 pub apply-spec : {M : Type 1} → statement M
 apply-spec =
     tie.close
@@ -180,6 +202,8 @@ apply-spec =
     clear-attributes-requires
     enum-told-5
     clear-bytes-requires
+    enum-told-6
+    move-entry-requires
     same-length
     returns
     same-length-2
@@ -195,4 +219,6 @@ apply-spec =
     same-length-7
     returns-7
     same-length-8
-    returns-8)
+    returns-8
+    same-length-9
+    returns-9)

@@ -10,6 +10,7 @@ use Rattle.volume.proofs.Walks.Create.{create-marked}
 use Rattle.volume.proofs.Walks.CreateDirectory.{create-directory-named}
 use Rattle.volume.proofs.Walks.Delete.{file-droppable, dropped-named}
 use Rattle.volume.proofs.Walks.DeleteDirectory.{delete-directory-given, child-droppable}
+use Rattle.volume.proofs.Walks.Move.{move-marked}
 use Rattle.volume.proofs.change.mark_named.Statement.{statement}
 use Rattle.volume.proofs.change.mark_named.Tie as tie
 
@@ -92,6 +93,16 @@ mark-requires-2 c κs =
     let t = rw (c .before .enum-told6 .given .1) at (c .before .before .before .before .before .before .before .pre .2) in
     omega (arith, t .inside, c .before .before .before .before .before .before .before .pre .3)
 
+enum-told-7 : tie.Need-enum-told-7
+enum-told-7 c = search needs
+
+move-named-requires : tie.Need-move-named-requires
+unfolding Target
+move-named-requires c κs =
+    let p = c .before .before .before .before .before .before .before .pre in
+    let t = rw (c .before .enum-told7 .given .1) at (p .2) in
+    (omega (arith, t .old-inside, p .3), omega (arith, t .inside, p .3))
+
 same-length : tie.Need-same-length
 same-length c = search needs
 
@@ -164,6 +175,15 @@ returns-8 c =
     let t = rw (c .before .before .before .before .enum-told6 .given .1) at (c .before .before .before .before .before .before .before .before .before .before .pre .2) in
     rw (c .before .before .before .before .enum-told6 .given .1) (c .before .before .mark2 .ensures ∙ rw (located-block t))
 
+same-length-9 : tie.Need-same-length-9
+same-length-9 c = search needs
+
+returns-9 : tie.Need-returns-9
+unfolding named Target
+returns-9 c =
+    let t = rw (c .before .before .before .before .enum-told7 .given .1) at (c .before .before .before .before .before .before .before .before .before .before .pre .2) in
+    rw (c .before .before .before .before .enum-told7 .given .1) (c .before .before .move-named .ensures ∙ move-marked t _)
+
 pub mark-named-spec : {M : Type 1} → statement M
 mark-named-spec =
     tie.close
@@ -184,6 +204,8 @@ mark-named-spec =
     clear-attributes-named-requires
     enum-told-6
     mark-requires-2
+    enum-told-7
+    move-named-requires
     same-length
     returns
     same-length-2
@@ -199,4 +221,6 @@ mark-named-spec =
     same-length-7
     returns-7
     same-length-8
-    returns-8)
+    returns-8
+    same-length-9
+    returns-9)

@@ -52,6 +52,12 @@ enum-told-5 c = search needs
 open-file-requires-3 : tie.Need-open-file-requires-3
 open-file-requires-3 c κs = search needs
 
+enum-told-6 : tie.Need-enum-told-6
+enum-told-6 c = search needs
+
+move-refusal-requires : tie.Need-move-refusal-requires
+move-refusal-requires c κs = search needs
+
 returns : tie.Need-returns
 unfolding refusal Target
 returns c = rw (c .before .before .what .given .1) (record { number-is = c .create-refusal .ensures .number-is; target = c .create-refusal .ensures .vacant })
@@ -84,6 +90,10 @@ returns-8 : tie.Need-returns-8
 unfolding refusal Target
 returns-8 c = rw (c .before .enum-told5 .given .1) (record { number-is = c .open-file3 .ensures .number-is; target = c .open-file3 .ensures .file })
 
+returns-9 : tie.Need-returns-9
+unfolding refusal Target
+returns-9 c = rw (c .before .enum-told6 .given .1) (record { number-is = c .move-refusal .ensures .number-is; target = c .move-refusal .ensures .moving })
+
 pub refusal-spec : {M : Type 1} → statement M
 refusal-spec =
     tie.close
@@ -104,6 +114,8 @@ refusal-spec =
     open-file-requires-2
     enum-told-5
     open-file-requires-3
+    enum-told-6
+    move-refusal-requires
     returns
     returns-2
     returns-3
@@ -111,4 +123,5 @@ refusal-spec =
     returns-5
     returns-6
     returns-7
-    returns-8)
+    returns-8
+    returns-9)

@@ -33,6 +33,12 @@ enum-told-7 c = search needs
 enum-told-8 : tie.Need-enum-told-8
 enum-told-8 c = search needs
 
+enum-told-9 : tie.Need-enum-told-9
+enum-told-9 c = search needs
+
+cast-result-3 : tie.Need-cast-result-3
+cast-result-3 c = search needs
+
 returns : tie.Need-returns
 unfolding answered
 returns c = rw (c .enum-told .given .1)
@@ -65,6 +71,10 @@ returns-8 : tie.Need-returns-8
 unfolding answered
 returns-8 c = rw (c .enum-told8 .given .1)
 
+returns-9 : tie.Need-returns-9
+unfolding answered
+returns-9 c = rw (c .enum-told9 .given .1)
+
 pub slot-of-spec : {M : Type 1} → statement M
 slot-of-spec =
     tie.close
@@ -79,6 +89,8 @@ slot-of-spec =
     enum-told-6
     enum-told-7
     enum-told-8
+    enum-told-9
+    cast-result-3
     returns
     returns-2
     returns-3
@@ -86,4 +98,5 @@ slot-of-spec =
     returns-5
     returns-6
     returns-7
-    returns-8)
+    returns-8
+    returns-9)
