@@ -1,27 +1,24 @@
 -- A MOVE BY WHAT PATHS SHOW: a delete and the coming of the entry. The new path shows what the old one showed, the old one nothing, and all others what they
 -- showed.
-use Prim.Native.Nat.{ℕ, _+_, _-_, _≤_}
+use Prim.Native.Nat.{ℕ, _-_}
 use mathlib.Core.Path.{_≡_, refl, sym, ap, _∙_}
-use mathlib.Core.Bool.{Bool, true, false}
-use mathlib.Core.List.{List, [], _∷_}
-use mathlib.Core.Logic.{_⊎_, inl, inr, ⊎-elim, _≢_}
-use native.Mathlib.Omega.{arith}
+use mathlib.Core.Bool.{true}
+use mathlib.Core.List.{List}
+use mathlib.Core.Logic.{inr, _≢_}
 use lib.ListN.{length}
-use Rattle.layout.specs.Claims.{Untouched, Reached}
+use Rattle.layout.specs.Claims.{Untouched}
 use Rattle.layout.specs.Limits.{maxLevels}
-use Rattle.layout.specs.Bytes.{be32}
-use Rattle.layout.specs.Directory.{typeOf, isFile, isDirectory, nameOf}
+use Rattle.layout.specs.Directory.{isFile}
 use Rattle.layout.specs.Check.{check}
-use Rattle.layout.specs.Paths.{parts, pathOk, leading, lastPart, shallow, home, pathSlot, entryOf}
-use Rattle.volume.specs.Delete.{deleteAt}
+use Rattle.layout.specs.Paths.{parts, pathOk, leading, lastPart, home, pathSlot}
 use Rattle.volume.specs.Move.{moveSlot, moveRefusal, moveImage}
 use Rattle.volume.specs.Change.{delete, refusal, after}
-use Rattle.volume.specs.Views.{nothing, just, fileOf, fileAt, folderAt, subject, ofFile, made}
-use Rattle.volume.proofs.Laws.Moved.{MoveGiven, move-given, move-sound, move-length, paths-apart, without, slotOn, entryOn, Arrival, arrival}
+use Rattle.volume.specs.Views.{nothing, just, fileAt, folderAt, subject, ofFile, made}
+use Rattle.volume.proofs.Laws.Moved.{MoveGiven, move-given, move-sound, paths-apart, without, slotOn, entryOn, Arrival, arrival}
 use Rattle.volume.proofs.Laws.Content.{beside, no-file, by-depth, delete-untouched, untouched-then}
 use Rattle.volume.proofs.Laws.Views.{file-shown, other-shown, OneEntry, folder-shown, own-slot, own-shown}
 use Rattle.volume.proofs.Laws.Effects.{Effect, effect}
-use Rattle.layout.proofs.Laws.Sound.{Sound, sound, check-zero}
+use Rattle.layout.proofs.Laws.Sound.{Sound, check-zero}
 use Rattle.layout.proofs.Laws.Others.{untouched}
 use Rattle.layout.proofs.Laws.Ways.{other-path}
 

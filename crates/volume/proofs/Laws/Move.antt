@@ -1,6 +1,6 @@
 -- Move, by the slots: the entry of a file is taken out and put, under another name, into a slot that is then free. It is read as a delete and the coming of
 -- an entry: what a delete leaves is sound, and has the slot free; from there one slot changes, and the chains that the delete freed are again as they were.
-use Prim.Native.Nat.{ℕ, _+_, _-_, _*_, _/_, _%_, _≤_, _<_}
+use Prim.Native.Nat.{ℕ, _+_, _-_, _*_, _/_, _≤_, _<_}
 use mathlib.Core.Path.{_≡_, refl, sym, ap, _∙_, subst}
 use mathlib.Core.Bool.{true, false, cond}
 use mathlib.Core.List.{List, [], _∷_, _++_, append-nil}
@@ -10,8 +10,6 @@ use native.Mathlib.Omega.{arith}
 use borrow.Author.Tests.{eq-eqb, ne-eqb}
 use lib.ListN.{length, getD, take, length-append, List·getD-append}
 use lib.Dec.{eqb}
-use Rattle.layout.specs.Limits.{minBlocks}
-use Rattle.layout.specs.Lists.{joined}
 use Rattle.layout.specs.Bytes.{be32, part, splice, zeros, block}
 use Rattle.layout.specs.Geometry.{blockCount, tableBlocks, rootBlock}
 use Rattle.layout.specs.Table.{next, occupied}

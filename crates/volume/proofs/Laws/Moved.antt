@@ -1,12 +1,12 @@
 -- Move, by the paths: what an accepted one has. The slot that it goes to is the lowest free one of the image without the file, which a delete leaves.
-use Prim.Native.Nat.{ℕ, _+_, _-_, _*_, _/_, _≤_, _<_}
+use Prim.Native.Nat.{ℕ, _+_, _-_, _*_, _≤_, _<_}
 use mathlib.Core.Path.{_≡_, refl, sym, ap, _∙_, subst}
 use mathlib.Core.Bool.{Bool, true, false, not, _&&_, _||_, or-true}
-use mathlib.Core.List.{List, [], _∷_}
+use mathlib.Core.List.{List}
 use mathlib.Core.Logic.{_⊎_, inl, inr, ⊎-elim, _≢_}
 use native.Mathlib.Decide.{ℕ-discrete}
 use native.Mathlib.Omega.{arith}
-use borrow.Author.Tests.{eq-eqb, ne-eqb, eqb-true, eqb-false, not-true}
+use borrow.Author.Tests.{ne-eqb, eqb-true, eqb-false, not-true}
 use lib.ListN.{length, getD}
 use lib.Dec.{eqb}
 use Rattle.layout.specs.Limits.{maxLevels}
@@ -17,7 +17,7 @@ use Rattle.layout.specs.Table.{next}
 use Rattle.layout.specs.Directory.{slotAt, slots, typeOf, isFree, isUsed, isFile, isDirectory, nameOf, goodName, directory, dirs, freeSlot, slotOf}
 use Rattle.layout.specs.Check.{check}
 use Rattle.layout.specs.Paths.{parts, pathOk, leading, lastPart, shallow, home, pathSlot, entryOf, fileRefusal}
-use Rattle.volume.specs.Create.{placeRefusal, createSlot}
+use Rattle.volume.specs.Create.{placeRefusal}
 use Rattle.volume.specs.Delete.{deleteAt}
 use Rattle.volume.specs.Move.{openSlot, moveSlot, movePlace, moveRefusal, renamed, moveImage, moveNamed}
 use Rattle.volume.specs.Views.{fileOf}
@@ -29,7 +29,6 @@ use Rattle.layout.proofs.Laws.Tests.{and-split, require-zero, is-false, eqb-sel
 use Rattle.layout.proofs.Laws.Lists.{In}
 use Rattle.layout.proofs.Laws.Joins.{select-agree}
 use Rattle.layout.proofs.Laws.Names.{same-eq}
-use Rattle.layout.proofs.Laws.Frames.{Agree}
 use Rattle.layout.proofs.Laws.Trees.{sizeAt}
 use Rattle.layout.proofs.Laws.Sound.{Sound, Entry, Owner, sound, check-zero}
 use Rattle.layout.proofs.Laws.Slots.{in-slots, slot-entry}
@@ -213,9 +212,6 @@ module _ (s path to : List ℕ) (ok : check s ≡ 0) (G : MoveGiven s path to) w
   abbrev j : ℕ
   j = freeSlot s₁ (directory s₁ (home s₁ to))
 
-  abbrev e′ : ℕ
-  e′ = slotAt (directory s₁ (home s₁ to)) j
-
   pub place-at : movePlace s path to ≡ slotAt (directory s₁ (home s₁ to)) (freeSlot s₁ (directory s₁ (home s₁ to)))
   unfolding movePlace
   place-at = rw (free-is, home-is, blocks-are)
@@ -231,9 +227,6 @@ module _ (s path to : List ℕ) (ok : check s ≡ 0) (G : MoveGiven s path to) w
 
   name-good : goodName last ≡ true
   name-good = path-name to (G .good)
-
-  abbrev done : List ℕ
-  done = splice (splice s e (zeros 128)) e′ (renamed s e last)
 
   pub move-is : moveImage s path to ≡ splice (splice s (slotAt (directory s (home s path)) (pathSlot isFile s path)) (zeros 128)) (slotAt (directory s₁ (home s₁ to)) (freeSlot s₁ (directory s₁ (home s₁ to)))) (renamed s (slotAt (directory s (home s path)) (pathSlot isFile s path)) (lastPart (parts to)))
   unfolding moveImage entryOf
