@@ -732,6 +732,25 @@ bulgefs_changed bulgefs_clear_flags(uint8_t *image, size_t image_len,
                                     const uint8_t *path, size_t path_len);
 
 /*
+ * Moves a file: the file of path is then the file of to, with all its bytes,
+ * times, attributes and other fields, and nothing is at path.  Its entry, with
+ * the last part of to for its name, goes to the lowest slot of to's directory
+ * that is free or is the file's own; slot is that slot.  No time and no block
+ * of the file changes.  Folders are not moved.  A record has 520 bytes where
+ * both slots are in one directory block, else 1,036.
+ * Refusals: 1 to 7, BULGEFS_BAD_JOURNAL, BULGEFS_BAD_ARGUMENT (either path),
+ * BULGEFS_TOO_DEEP (either path), BULGEFS_NOT_FOUND (no file is at path, or to
+ * leads through a file or a missing part), BULGEFS_NAME_TAKEN (something is at
+ * to, also if to is path), BULGEFS_DIRECTORY_FULL (never within one folder),
+ * BULGEFS_JOURNAL_FULL.
+ */
+BULGEFS_CHECKED
+bulgefs_created bulgefs_move(uint8_t *image, size_t image_len,
+                             uint8_t *journal, size_t journal_len,
+                             const uint8_t *path, size_t path_len,
+                             const uint8_t *to, size_t to_len);
+
+/*
  * Settings with a past
  *   Beside named files there may be settings by serial number, 1 to 16 ASCII
  *   letters and digits, handed over without a terminating zero.  The settings of

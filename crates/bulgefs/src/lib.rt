@@ -5,7 +5,7 @@ ghost use mathlib.Core.Path.{_≡_};
 ghost use Rattle.layout.specs.Check.{check};
 ghost use Rattle.layout.specs.Looks.{LookupAnswer, ReadAnswer, Extent, lookup, read, extentOf, readAttributes, volumeInfo, nextEntry};
 ghost use Rattle.layout.specs.Answers.{volumeAnswer, entryAnswer};
-ghost use Rattle.store.specs.Change.{Change as ChangeAsked, create, write, delete, createDirectory, deleteDirectory, setAttributes, clearAttributes, clearFlags, shorten, replace, putIn, put, slotGiven};
+ghost use Rattle.store.specs.Change.{Change as ChangeAsked, create, write, delete, createDirectory, deleteDirectory, setAttributes, clearAttributes, clearFlags, shorten, replace, move, putIn, put, slotGiven};
 ghost use Rattle.store.specs.Get.{theLatest, theNumber, gotAnswer, getIn, get};
 ghost use Rattle.volume.specs.Format.{formatRefusal, formatted};
 ghost use Rattle.chain_table.specs.Transfer.{loadTable, storeTable};
@@ -415,6 +415,19 @@ pub extern "C" fn bulgefs_replace(
     ensures state { λ _. ⌜ state (now (image .exit)) (now (journal .exit)) ≡ afterChange (state (now (image .entry)) (now (journal .entry))) (replace (now (path .entry)) (now (bytes .entry)) time) ⌝ }
 {
     slotless(journal::calls::replace(image, journal, path, bytes, time))
+}
+
+#[no_mangle]
+pub extern "C" fn bulgefs_move(
+    image: &mut [u8],
+    journal: &mut [u8],
+    path: &[u8],
+    to: &[u8],
+) -> Created
+    ensures answer { λ r. ⌜ changed (r .number) (r .slot) (r .size) ≡ changeAnswer (state (now (image .entry)) (now (journal .entry))) (move (now (path .entry)) (now (to .entry))) ⌝ }
+    ensures state { λ _. ⌜ state (now (image .exit)) (now (journal .exit)) ≡ afterChange (state (now (image .entry)) (now (journal .entry))) (move (now (path .entry)) (now (to .entry))) ⌝ }
+{
+    with_slot(journal::calls::move_file(image, journal, path, to))
 }
 
 // The slot of a put's answer is the revision's number.

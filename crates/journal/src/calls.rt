@@ -1,6 +1,6 @@
 // The calls that are lent a journal. Each checks the image and scans the journal once.
 ghost use mathlib.Core.Path.{_≡_};
-ghost use Rattle.store.specs.Change.{create, write, delete, createDirectory, deleteDirectory, setAttributes, clearAttributes, clearFlags, shorten, replace, putIn, put};
+ghost use Rattle.store.specs.Change.{create, write, delete, createDirectory, deleteDirectory, setAttributes, clearAttributes, clearFlags, shorten, replace, move, putIn, put};
 ghost use Rattle.store.specs.Asked.{askedIn, asked};
 ghost use Rattle.journal.specs.Run.{afterUndo, undoAnswer, afterChange, changeAnswer, state};
 ghost use Rattle.journal.specs.Walks.Changes.{Inspects, Ready, readyRefusal};
@@ -15,7 +15,7 @@ pub enum Undone {
     Refused(u32),
 }
 
-// What a change gives: the slot of a create, of a directory too, or the revision of a put (0 for the others), and the length of the record added, or the number of the refusal.
+// What a change gives: the slot of a create, of a directory too, or of a move, or the revision of a put (0 for the others), and the length of the record added, or the number of the refusal.
 pub enum Changed {
     Done { slot: u32, size: u32 },
     Refused(u32),
@@ -341,6 +341,15 @@ pub fn replace(
 {
     let what = VolumeChange::Replace { time: time };
     change(image, journal, Change::Volume(what), path, bytes)
+}
+
+// Move: the file of a path is then the file of another path.
+pub fn move_file(image: &mut [u8], journal: &mut [u8], path: &[u8], to: &[u8]) -> Changed
+    ensures answer { λ r. ⌜ changedAnswer r ≡ changeAnswer (state (now (image .entry)) (now (journal .entry))) (move (now (path .entry)) (now (to .entry))) ⌝ }
+    ensures state { λ _. ⌜ state (now (image .exit)) (now (journal .exit)) ≡ afterChange (state (now (image .entry)) (now (journal .entry))) (move (now (path .entry)) (now (to .entry))) ⌝ }
+    ensures numbered { λ r. ⌜ ChangeNumbered r ⌝ }
+{
+    change(image, journal, Change::Volume(VolumeChange::Move), path, to)
 }
 
 // Put settings in a directory: adds a revision to the settings of a serial number; the slot of its answer is the revision's number.

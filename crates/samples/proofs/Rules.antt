@@ -14,6 +14,7 @@ use Rattle.volume.specs.Attributes.{emptied, newAttributes, setAttributeFields,
 use Rattle.volume.specs.Flags.{clearFlagsAt, clearFlagsNamed}
 use Rattle.volume.specs.Shorten.{cutOff, tailLength, shortenAt, shortenNamed, shortenRefusal}
 use Rattle.volume.specs.Replace.{replaceAt, replaceNamed, replaceRefusal}
+use Rattle.volume.specs.Move.{openSlot, moveSlot, movePlace, moveRefusal, renamed, moveImage, moveNamed}
 use Rattle.volume.specs.Directories.{createDirectoryRefusal, newDirectoryBlocks, createDirectoryImage, createDirectoryNamed, deleteDirectoryRefusal}
 use Rattle.volume.specs.Change as volume
 use Rattle.store.specs.Change.{refusal, after, named, slotGiven}
@@ -28,6 +29,6 @@ unfolding be32 be64 bytes4 bytes8 zeros splice inVolume next setNext chain endsA
     cut parts pathOk shallow childOf resolve home pathSlot entryOf fileRefusal directoryRefusal lookupRefusal lookup readRefusal read extentOf lookInPlace readAttributes volumeInfo isRootPath listedRefusal listedBlock usedSlot noEntry entryFields nextEntry decimal printed entryLine fileLine countLine refusedLine listing
     entryBytes directoryMade setOccupied linked taken grown freed released entriesNamed blocksNamed formatRefusal firstEntries headerBytes formatImage formatted
     createRefusal createSlot place placeRefusal newRefusal createImage createNamed newSize needed newBlocks put written setFile writeAt changedEntries writeNamed writeAtRefusal writeRefusal
-    allBlocks deleteAt deleteNamed emptied newAttributes setAttributeFields setAttributesAt clearAttributesAt setAttributesNamed clearAttributesNamed setAttributesRefusal clearFlagsAt clearFlagsNamed cutOff tailLength shortenAt shortenNamed shortenRefusal replaceAt replaceNamed replaceRefusal createDirectoryRefusal newDirectoryBlocks createDirectoryImage createDirectoryNamed deleteDirectoryRefusal volume.refusal volume.after volume.named volume.slotGiven refusal after named slotGiven used started startRefusal copies recordOk recordsFrom records wellFormed ascending recordBytes added
+    allBlocks deleteAt deleteNamed emptied newAttributes setAttributeFields setAttributesAt clearAttributesAt setAttributesNamed clearAttributesNamed setAttributesRefusal clearFlagsAt clearFlagsNamed cutOff tailLength shortenAt shortenNamed shortenRefusal replaceAt replaceNamed replaceRefusal openSlot moveSlot movePlace moveRefusal renamed moveImage moveNamed createDirectoryRefusal newDirectoryBlocks createDirectoryImage createDirectoryNamed deleteDirectoryRefusal volume.refusal volume.after volume.named volume.slotGiven refusal after named slotGiven used started startRefusal copies recordOk recordsFrom records wellFormed ascending recordBytes added
     lastRecord restored undoneImage undoneJournal recordOf changeRefusal afterChange changeAnswer undoRefusal afterUndo undoAnswer lookAnswer step answer run answers
 rules = tt

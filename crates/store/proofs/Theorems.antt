@@ -5,7 +5,7 @@
 use Prim.Native.Nat.{ℕ, suc, _+_, _/_, _≤_, _<_}
 use mathlib.Core.Path.{_≡_, refl, sym, ap, _∙_}
 use mathlib.Core.Bool.{Bool, true, false, _&&_, cond}
-use mathlib.Core.List.{List, _∷_}
+use mathlib.Core.List.{List, [], _∷_}
 use mathlib.Core.Logic.{_≢_}
 use lib.ListN.{length, getD}
 use lib.Dec.{eqb, leb}
@@ -20,11 +20,11 @@ use Rattle.volume.specs.Write.{needed}
 use Rattle.layout.specs.Check.{check}
 use Rattle.layout.specs.Looks.{lookup, read, lookInPlace, readAttributes, isRootPath}
 use Rattle.volume.specs.Claims.{Blanked}
-use Rattle.volume.specs.Views.{File, just, fileAt, folderAt, SameFiles, NoNewFlags}
+use Rattle.volume.specs.Views.{File, just, fileAt, folderAt, SameFiles, NoNewFlags, originOf}
 use Rattle.store.specs.Settings.{maxSetting, Revision, encoded, held, revisions}
 use Rattle.store.specs.Put.{serialOk, root, front, pathOf, addressRefusal, isThere, stored, opened, entryAt, rewritten, formRefusal, putImage, putRevision, putRefusal}
 use Rattle.store.specs.Get.{Which, theLatest, theNumber, soughtRefusal, getRefusal, getIn}
-use Rattle.store.specs.Change.{Change, clearFlags, refusal, after, named, subject}
+use Rattle.store.specs.Change.{Change, clearFlags, refusal, after, named, subject, further, subjects}
 use Rattle.store.specs.Views.{made, madeFolder, takes, gives, givesFolder}
 use Rattle.store.specs.Claims.{Fits, Small, Bytes}
 use Rattle.volume.proofs.Laws.Alike.{read-alike, look-alike, attributes-alike}
@@ -33,6 +33,8 @@ use Rattle.store.proofs.Laws.Whole as whole
 use Rattle.store.proofs.Laws.Sound.{kept}
 use Rattle.store.proofs.Laws.Framed.{frame}
 use Rattle.store.proofs.Laws.Blank.{blank}
+use Rattle.volume.proofs.Laws.Orders.{Aside, aside-one}
+use Rattle.layout.proofs.Laws.Lists.{In}
 use Rattle.store.proofs.Laws.Orders as orders
 use Rattle.store.proofs.Laws.Shown as shows
 use Rattle.store.proofs.Laws.Serials.{answer-same}
@@ -73,14 +75,14 @@ module _ (s : List ℕ) (ok : check s ≡ 0) where
     blocks-in-use = shows.used s c ok r
 
     -- L11. It makes no system flags but zero (NoNewFlags), and those of a file that is there before and after change by a clear alone.
-    pub no-new-flags : NoNewFlags s (after s c)
+    pub no-new-flags : NoNewFlags s (after s c) (originOf (subject c) (further c))
     no-new-flags = shows.no-new-flags s c ok r
 
     pub flags-stay : (path : List ℕ) (f g : File) → fileAt s path ≡ just g → fileAt (after s c) path ≡ just f → c ≢ clearFlags path → f .flags ≡ g .flags
     flags-stay = shows.flags-stay s c ok r
 
     -- Every other path shows what it showed, and lookup, read, look in place and read attributes answer what they answered.
-    module _ (other : List ℕ) (ne : other ≢ subject c) where
+    module _ (other : List ℕ) (ne : In other (subjects c) → ⊥) where
       pub other-files : fileAt (after s c) other ≡ fileAt s other
       other-files = shows.others s c ok r other ne
 
@@ -99,10 +101,15 @@ module _ (s : List ℕ) (ok : check s ≡ 0) where
       pub others-attributes : (buffer : List ℕ) → readAttributes (after s c) other buffer ≡ readAttributes s other buffer
       others-attributes = attributes-alike (after s c) s other change-sound ok other-files
 
-  -- L13. Two changes on different paths, accepted one right after the other in both orders, leave the same files and free count either way.
-  pub either-order : (c d : Change) → refusal s c ≡ 0 → refusal (after s c) d ≡ 0 → refusal s d ≡ 0 → refusal (after s d) c ≡ 0 → subject c ≢ subject d
+  -- L13. Two changes on different paths, accepted one right after the other in both orders, leave the same files and free count either way. A move has two
+  -- paths, and no path of one change is a path of the other (Aside); of changes that have one path, as all but a move, they differ.
+  pub any-order : (c d : Change) → refusal s c ≡ 0 → refusal (after s c) d ≡ 0 → refusal s d ≡ 0 → refusal (after s d) c ≡ 0 → Aside (subjects c) (subjects d)
       → SameFiles (after (after s c) d) (after (after s d) c)
-  either-order = orders.either-order s ok
+  any-order = orders.either-order s ok
+
+  pub either-order : (c d : Change) → further c ≡ [] → further d ≡ [] → refusal s c ≡ 0 → refusal (after s c) d ≡ 0 → refusal s d ≡ 0 → refusal (after s d) c ≡ 0 → subject c ≢ subject d
+      → SameFiles (after (after s c) d) (after (after s d) c)
+  either-order c d c-one d-one rc rcd rd rdc ne = any-order c d rc rcd rd rdc (aside-one (further c) (further d) (subject c) (subject d) c-one d-one ne)
 
 -- THE FORM of a file: revisions that fit it (Fits, Small), written into a file of any size, are read back; and a file of the form, of bytes (Bytes), is what
 -- its revisions are written as.
@@ -152,7 +159,7 @@ module _ (s directory serial : List ℕ) (time : ℕ) (bytes : List ℕ) (ok : c
   get-others = gets.others s directory serial time bytes ok r
 
 -- Every answer stays after a change that is about another path.
-pub get-stays : (s : List ℕ) (c : Change) (directory serial : List ℕ) → check s ≡ 0 → refusal s c ≡ 0 → pathOf directory serial ≢ subject c
+pub get-stays : (s : List ℕ) (c : Change) (directory serial : List ℕ) → check s ≡ 0 → refusal s c ≡ 0 → (In (pathOf directory serial) (subjects c) → ⊥)
     → (which : Which) (buffer : List ℕ) → getIn (after s c) directory serial which buffer ≡ getIn s directory serial which buffer
 get-stays s c directory serial ok r ne = answer-same s (after s c) directory serial (kept s c ok r ∙ sym ok) (shows.others s c ok r (pathOf directory serial) ne)
 

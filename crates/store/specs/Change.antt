@@ -1,7 +1,7 @@
 -- All changes: those of the volume, and a put; the rules of each in one place, on a sound image. The names are those of the volume's changes: what the journal
 -- and its runs need of a change are these four.
 use Prim.Native.Nat.{ℕ}
-use mathlib.Core.List.{List}
+use mathlib.Core.List.{List, [], _∷_}
 use Rattle.volume.specs.Change as volume
 use Rattle.volume.specs.Views as views
 use Rattle.store.specs.Put.{root, pathOf, putRefusal, putImage, putNamed, putRevision}
@@ -41,6 +41,9 @@ shorten path size time = plain (volume.shorten path size time)
 abbrev pub replace : (path bytes : List ℕ) (time : ℕ) → Change
 replace path bytes time = plain (volume.replace path bytes time)
 
+abbrev pub move : (path to : List ℕ) → Change
+move path to = plain (volume.move path to)
+
 -- L10: a put in the root
 abbrev pub put : (serial : List ℕ) (time : ℕ) (bytes : List ℕ) → Change
 put serial time bytes = putIn root serial time bytes
@@ -50,8 +53,8 @@ unfoldable pub refusal : List ℕ → Change → ℕ
 refusal s (plain c) = volume.refusal s c
 refusal s (putIn directory serial time bytes) = putRefusal s directory serial time bytes
 
--- of an accepted change: the image after it, its named blocks (in any order), and the number that it answers: the slot of create (of a directory too), the
--- revision of put
+-- of an accepted change: the image after it, its named blocks (in any order), and the number that it answers: the slot of create (of a directory too) and of
+-- move, the revision of put
 unfoldable pub after : List ℕ → Change → List ℕ
 after s (plain c) = volume.after s c
 after s (putIn directory serial time bytes) = putImage s directory serial time bytes
@@ -68,3 +71,11 @@ slotGiven s (putIn directory serial time bytes) = putRevision s directory serial
 unfoldable pub subject : Change → List ℕ
 subject (plain c) = views.subject c
 subject (putIn directory serial time bytes) = pathOf directory serial
+
+-- of a move also the path where its file is then; and all the paths that a change is about
+unfoldable pub further : Change → List (List ℕ)
+further (plain c) = views.further c
+further (putIn directory serial time bytes) = []
+
+abbrev pub subjects : Change → List (List ℕ)
+subjects c = subject c ∷ further c

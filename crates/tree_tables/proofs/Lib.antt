@@ -1,3 +1,4 @@
 pub mod Tree
 pub mod Attributes
 pub mod Settings
+pub mod Moves

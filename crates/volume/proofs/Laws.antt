@@ -15,6 +15,8 @@ pub mod Attributes
 pub mod SetClear
 pub mod Flags
 pub mod Delete
+pub mod Move
+pub mod Moved
 pub mod DeleteDirectory
 pub mod Create
 pub mod Created
@@ -35,9 +37,10 @@ pub mod Content
 pub mod Views
 pub mod Folders
 pub mod Effects
+pub mod Arrived
 pub mod Acts
 pub mod Shown
-pub mod ShownFlags
 pub mod Alike
 pub mod Orders
+pub mod ShownFlags
 pub mod Inside

@@ -5,7 +5,7 @@ use Prim.Native.Nat.{ℕ, _+_, _-_, _*_, _/_, _≤_, _<_, min}
 use mathlib.Core.Path.{_≡_, refl, sym, ap, _∙_}
 use mathlib.Core.Bool.{true, false, _||_}
 use mathlib.Core.List.{List, [], _++_}
-use mathlib.Core.Logic.{_≢_, _⊎_}
+use mathlib.Core.Logic.{_≢_, _⊎_, inl}
 use native.Mathlib.Omega.{arith}
 use lib.ListN.{length, getD, take}
 use lib.Dec.{eqb}
@@ -27,9 +27,9 @@ use Rattle.volume.specs.Delete.{allBlocks}
 use Rattle.volume.specs.Attributes.{emptied}
 use Rattle.volume.specs.Shorten.{tailLength}
 use Rattle.volume.specs.Replace.{replaceAt, replaceNamed, replaceRefusal}
-use Rattle.volume.specs.Change.{Change, create, write, createDirectory, deleteDirectory, setAttributes, clearAttributes, clearFlags, shorten, replace, refusal, after, named, slotGiven}
+use Rattle.volume.specs.Change.{Change, create, write, createDirectory, deleteDirectory, setAttributes, clearAttributes, clearFlags, shorten, replace, refusal, after, named, slotGiven, move}
 use Rattle.volume.specs.Claims.{NoRoom, NoRoomForSet, Blanked, Apart}
-use Rattle.volume.specs.Views.{File, nothing, just, fileOf, fileAt, folderAt, SameFiles, NoNewFlags, subject, made, madeFolder, takes, gives, givesFolder}
+use Rattle.volume.specs.Views.{File, nothing, just, fileOf, fileAt, folderAt, SameFiles, NoNewFlags, subject, further, subjects, originOf, made, madeFolder, takes, gives, givesFolder}
 use Rattle.volume.proofs.Laws.Framed.{frame}
 use Rattle.volume.proofs.Laws.Blank.{blank}
 use Rattle.volume.proofs.Laws.Format.{sound-format}
@@ -41,12 +41,14 @@ use Rattle.volume.proofs.Laws.Views.{file-shown}
 use Rattle.volume.proofs.Laws.Effects.{create-slot-found, written-blocks, shortened-path, set-kept, clear-kept, flags-kept, flags-number, flags-bytes}
 use Rattle.volume.proofs.Laws.Shorten.{shorten-given, shorten-accepted}
 use Rattle.volume.proofs.Laws.Replace.{replace-there, replace-shorten, replace-accepted, replace-names, short-entry}
+use Rattle.volume.proofs.Laws.Arrived.{move-come, move-found as file-found}
 use Rattle.volume.proofs.Laws.Acts.{acts, others-untouched, create-directory-found, create-directory-empty, create-directory-tree, delete-directory-tree}
 use Rattle.volume.proofs.Laws.Shown.{read-shown, attributes-read, look-shown, not-shown, splice-long, lookup-kept, own-lookup, own-read, own-look, file-owner, chains-apart, directory-apart, directory-owner, write-path}
 use Rattle.volume.proofs.Laws.Alike.{lookup-alike, read-alike, look-alike, attributes-alike}
 use Rattle.volume.proofs.Laws.ShownFlags as shown-flags
 use Rattle.volume.proofs.Laws.Notes as noted
 use Rattle.volume.proofs.Laws.Orders as orders
+use Rattle.volume.proofs.Laws.Orders.{Aside, aside-one}
 use Rattle.volume.proofs.Laws.Inside as inside
 use Rattle.layout.proofs.Laws.Looks.{look-empty as empty-refused, look-empty-only as refused-empty}
 use Rattle.layout.proofs.Laws.Sound.{sound}
@@ -164,20 +166,21 @@ module _ (s : List ℕ) (ok : check s ≡ 0) where
     pub blocks-in-use : be32 (after s c) 20 + (gives c (fileAt s (subject c)) + givesFolder c (folderAt s (subject c))) ≡ be32 s 20 + takes c (fileAt s (subject c))
     blocks-in-use = acts s c ok r .used
 
-    -- It makes no system flags but zero (NoNewFlags), and those of a file that is there before and after change by a clear alone (L11).
-    pub no-new-flags : NoNewFlags s (after s c)
+    -- It makes no system flags but zero (NoNewFlags), and those of a file that is there before and after change by a clear alone (L11). With a file that
+    -- is moved its flags go.
+    pub no-new-flags : NoNewFlags s (after s c) (originOf (subject c) (further c))
     no-new-flags = shown-flags.no-new-flags s c ok r
 
     pub flags-stay : (path : List ℕ) (f g : File) → fileAt s path ≡ just g → fileAt (after s c) path ≡ just f → c ≢ clearFlags path → f .flags ≡ g .flags
     flags-stay = shown-flags.flags-stay s c ok r
 
     -- Every other path shows what it showed, and lookup, read, look in place and read attributes answer what they answered.
-    module _ (other : List ℕ) (ne : other ≢ subject c) where
+    module _ (other : List ℕ) (ne : In other (subjects c) → ⊥) where
       pub other-files : fileAt (after s c) other ≡ fileAt s other
       other-files = acts s c ok r .others other ne
 
       pub other-folders : folderAt (after s c) other ≡ folderAt s other
-      other-folders = acts s c ok r .folders other ne
+      other-folders = acts s c ok r .folders other (λ q. ne (inl q))
 
       pub others-lookup : lookup (after s c) other ≡ lookup s other
       others-lookup = lookup-kept s (after s c) other ok change-sound (others-untouched s c other ok r ne)
@@ -193,14 +196,22 @@ module _ (s : List ℕ) (ok : check s ≡ 0) where
 
   -- Two changes c and d of any kinds, on different paths, in either order (L13). If both, one right after the other, are accepted in both orders, then
   -- after either order every path shows the same file or directory, or nothing, and as many blocks are free (SameFiles); slots and block numbers may
-  -- differ.
-  module _ (c d : Change) (c-first : refusal s c ≡ 0) (d-second : refusal (after s c) d ≡ 0) (d-first : refusal s d ≡ 0) (c-second : refusal (after s d) c ≡ 0) (different : subject c ≢ subject d) where
-    pub either-order : SameFiles (after (after s c) d) (after (after s d) c)
-    either-order = orders.either-order s ok c d c-first d-second d-first c-second different
+  -- differ. A move has two paths, and no path of one change is a path of the other (Aside).
+  module _ (c d : Change) (c-first : refusal s c ≡ 0) (d-second : refusal (after s c) d ≡ 0) (d-first : refusal s d ≡ 0) (c-second : refusal (after s d) c ≡ 0) where
+    pub any-order : Aside (subjects c) (subjects d) → SameFiles (after (after s c) d) (after (after s d) c)
+    any-order = orders.either-order s ok c d c-first d-second d-first c-second
 
     -- L13 asks also that neither path is inside the other (Apart). That need not be asked: it follows.
-    pub accepted-apart : Apart (subject c) (subject d)
-    accepted-apart = inside.accepted-apart s ok c d c-first d-second d-first c-second different
+    pub any-apart : Aside (subjects c) (subjects d) → (p q : List ℕ) → In p (subjects c) → In q (subjects d) → Apart p q
+    any-apart = inside.accepted-apart s ok c d c-first d-second d-first c-second
+
+    -- The same of changes that have one path, as all but a move.
+    module _ (c-one : further c ≡ []) (d-one : further d ≡ []) (different : subject c ≢ subject d) where
+      pub either-order : SameFiles (after (after s c) d) (after (after s d) c)
+      either-order = any-order (aside-one (further c) (further d) (subject c) (subject d) c-one d-one different)
+
+      pub accepted-apart : Apart (subject c) (subject d)
+      accepted-apart = any-apart (aside-one (further c) (further d) (subject c) (subject d) c-one d-one different) (subject c) (subject d) (inl refl) (inl refl)
 
   -- An accepted write.
   module _ (path : List ℕ) (offset : ℕ) (bytes : List ℕ) (time : ℕ) (r : refusal s (write path offset bytes time) ≡ 0) where
@@ -340,6 +351,17 @@ module _ (s : List ℕ) (ok : check s ≡ 0) where
       → pathSlot isFile (after s (create path type user group permissions flags time)) path ≡ slotGiven s (create path type user group permissions flags time)
   unfolding refusal after slotGiven
   create-found path type user group permissions flags time r = create-slot-found s path ok type user group permissions flags time r
+
+  -- An accepted move: the new path shows what the old one showed, and the file is found there in the slot that is answered. (The old path shows nothing:
+  -- own-file.)
+  module _ (path to : List ℕ) (r : refusal s (move path to) ≡ 0) where
+    pub move-shown : fileAt (after s (move path to)) to ≡ fileAt s path
+    unfolding refusal after
+    move-shown = move-come s path to ok r
+
+    pub move-found : pathSlot isFile (after s (move path to)) to ≡ slotGiven s (move path to)
+    unfolding refusal after slotGiven
+    move-found = file-found s path to ok r
 
   -- An accepted create of a directory: it is found in the slot that is answered, it is empty, and the tree has just it more.
   module _ (path : List ℕ) (type user group permissions flags time d : ℕ) (r : refusal s (createDirectory path type user group permissions flags time d) ≡ 0) where

@@ -22,3 +22,4 @@ pub mod DeleteDirectory
 pub mod Taken
 pub mod CreateDirectory
 pub mod Targets
+pub mod Move

@@ -1,4 +1,4 @@
--- The change that a value of the code's enum asks for, with the path and the data beside it.
+-- The change that a value of the code's enum asks for, with the path and the data beside it; the data of a move is its second path.
 use Prim.Native.Nat.{ℕ}
 use mathlib.Core.List.{List}
 use Rattle.volume.specs.declared.change.Change.{Change}
@@ -16,3 +16,4 @@ asked kinds.ClearAttributes path bytes = rules.clearAttributes path
 asked kinds.ClearFlags path bytes = rules.clearFlags path
 asked (kinds.Shorten size time) path bytes = rules.shorten path size time
 asked (kinds.Replace time) path bytes = rules.replace path bytes time
+asked kinds.Move path bytes = rules.move path bytes

@@ -9,6 +9,7 @@ use Rattle.volume.specs.Attributes.{setAttributesRefusal, setAttributesA
 use Rattle.volume.specs.Flags.{clearFlagsAt, clearFlagsNamed}
 use Rattle.volume.specs.Shorten.{shortenRefusal, shortenAt, shortenNamed}
 use Rattle.volume.specs.Replace.{replaceRefusal, replaceAt, replaceNamed}
+use Rattle.volume.specs.Move.{moveRefusal, moveSlot, moveImage, moveNamed}
 use Rattle.volume.specs.Directories.{createDirectoryRefusal, createDirectoryImage, createDirectoryNamed, deleteDirectoryRefusal}
 use Rattle.layout.specs.Directory.{isFile, isDirectory}
 use Rattle.layout.specs.Paths.{fileRefusal, entryOf}
@@ -24,6 +25,7 @@ pub data Change : Type 0 where
   clearFlags : (path : List ℕ) → Change
   shorten : (path : List ℕ) (size time : ℕ) → Change
   replace : (path bytes : List ℕ) (time : ℕ) → Change
+  move : (path to : List ℕ) → Change
 
 -- the refusal by the numbers 9 to 26, or 0
 unfoldable pub refusal : List ℕ → Change → ℕ
@@ -37,8 +39,9 @@ refusal s (clearAttributes path) = fileRefusal s path
 refusal s (clearFlags path) = fileRefusal s path
 refusal s (shorten path size time) = shortenRefusal s path size
 refusal s (replace path bytes time) = replaceRefusal s path (length bytes)
+refusal s (move path to) = moveRefusal s path to
 
--- of an accepted change: the image after it, its named blocks (in any order), and the slot that it answers (create, of a directory too)
+-- of an accepted change: the image after it, its named blocks (in any order), and the slot that it answers (create, of a directory too; move)
 unfoldable pub after : List ℕ → Change → List ℕ
 after s (create path type user group permissions flags time) = createImage s path type user group permissions flags time
 after s (write path offset bytes time) = writeAt s (entryOf isFile s path) offset bytes time
@@ -50,6 +53,7 @@ after s (clearAttributes path) = clearAttributesAt s (entryOf isFile s path)
 after s (clearFlags path) = clearFlagsAt s (entryOf isFile s path)
 after s (shorten path size time) = shortenAt s (entryOf isFile s path) size time
 after s (replace path bytes time) = replaceAt s (entryOf isFile s path) bytes time
+after s (move path to) = moveImage s path to
 
 unfoldable pub named : List ℕ → Change → List ℕ
 named s (create path type user group permissions flags time) = createNamed s path
@@ -62,6 +66,7 @@ named s (clearAttributes path) = clearAttributesNamed s (entryOf isFile s path)
 named s (clearFlags path) = clearFlagsNamed (entryOf isFile s path)
 named s (shorten path size time) = shortenNamed s (entryOf isFile s path) size
 named s (replace path bytes time) = replaceNamed s (entryOf isFile s path) (length bytes)
+named s (move path to) = moveNamed s path to
 
 unfoldable pub slotGiven : List ℕ → Change → ℕ
 slotGiven s (create path type user group permissions flags time) = createSlot s path
@@ -74,3 +79,4 @@ slotGiven s (clearAttributes path) = 0
 slotGiven s (clearFlags path) = 0
 slotGiven s (shorten path size time) = 0
 slotGiven s (replace path bytes time) = 0
+slotGiven s (move path to) = moveSlot s path to

@@ -2,15 +2,16 @@
 use Prim.Native.Nat.{ℕ, _+_, _-_, _/_, max}
 use mathlib.Core.Path.{_≡_}
 use mathlib.Core.List.{List, [], _∷_}
-use mathlib.Core.Bool.{Bool, true, false}
+use mathlib.Core.Bool.{Bool, true, false, cond}
 use mathlib.Core.Logic.{_⊎_}
 use lib.ListN.{length, take}
+use Rattle.layout.specs.Lists.{has, same}
 use Rattle.layout.specs.Refusals.{accept}
 use Rattle.layout.specs.Bytes.{be32, bytes4, bytes8, part, splice, zeros}
 use Rattle.layout.specs.Geometry.{blocksFor}
 use Rattle.layout.specs.Directory.{blocksOf, isFile, isDirectory, content, attributes}
 use Rattle.layout.specs.Paths.{entryOf, fileRefusal, directoryRefusal}
-use Rattle.volume.specs.Change.{Change, create, write, delete, createDirectory, deleteDirectory, setAttributes, clearAttributes, clearFlags, shorten, replace}
+use Rattle.volume.specs.Change.{Change, create, write, delete, createDirectory, deleteDirectory, setAttributes, clearAttributes, clearFlags, shorten, replace, move}
 
 -- a file: its bytes; type, user, group and permissions; both times; system flags; the bytes of its attributes
 pub record File : Type 0 where
@@ -55,7 +56,7 @@ pub record SameFiles (s s′ : List ℕ) : Type 0 where
   pub free : be32 s 24 ≡ be32 s′ 24
 
 -- L11, "Create, of a directory too, now wants zero there": the system flags that a path shows, zero where it shows nothing; and of a change from s to s′,
--- that they are zero after it, or what they were
+-- that they are zero after it, or what they were at the path whose file it is: where a move has brought a file, those that the file had
 abbrev pub flagsIn : Maybe File → List ℕ
 flagsIn nothing = zeros 4
 flagsIn (just x) = x .flags
@@ -64,8 +65,8 @@ abbrev pub folderFlagsIn : Maybe Folder → List ℕ
 folderFlagsIn nothing = zeros 4
 folderFlagsIn (just x) = x .flags
 
-pub record NoNewFlags (s s′ : List ℕ) : Type 0 where
-  pub files : (path : List ℕ) → (flagsIn (fileAt s′ path) ≡ zeros 4) ⊎ (flagsIn (fileAt s′ path) ≡ flagsIn (fileAt s path))
+pub record NoNewFlags (s s′ : List ℕ) (origin : List ℕ → List ℕ) : Type 0 where
+  pub files : (path : List ℕ) → (flagsIn (fileAt s′ path) ≡ zeros 4) ⊎ (flagsIn (fileAt s′ path) ≡ flagsIn (fileAt s (origin path)))
   pub folders : (path : List ℕ) → (folderFlagsIn (folderAt s′ path) ≡ zeros 4) ⊎ (folderFlagsIn (folderAt s′ path) ≡ folderFlagsIn (folderAt s path))
 
 -- the path that a change is about
@@ -80,8 +81,30 @@ subject (clearAttributes path) = path
 subject (clearFlags path) = path
 subject (shorten path size time) = path
 subject (replace path bytes time) = path
+subject (move path to) = path
 
--- the changes of files
+-- of a move also the path where its file is then; and all the paths that a change is about
+unfoldable pub further : Change → List (List ℕ)
+further (create path type user group permissions flags time) = []
+further (write path offset bytes time) = []
+further (delete path) = []
+further (createDirectory path type user group permissions flags time d) = []
+further (deleteDirectory path) = []
+further (setAttributes path bytes) = []
+further (clearAttributes path) = []
+further (clearFlags path) = []
+further (shorten path size time) = []
+further (replace path bytes time) = []
+further (move path to) = to ∷ []
+
+abbrev pub subjects : Change → List (List ℕ)
+subjects c = subject c ∷ further c
+
+-- the path that showed before a change on `from`, with the further paths `tos`, what a path shows after it
+abbrev pub originOf : List ℕ → List (List ℕ) → List ℕ → List ℕ
+originOf from tos path = cond (has same path tos) from path
+
+-- the changes of a file where it is
 unfoldable pub ofFile : Change → Bool
 ofFile (create path type user group permissions flags time) = true
 ofFile (write path offset bytes time) = true
@@ -93,6 +116,7 @@ ofFile (clearAttributes path) = true
 ofFile (clearFlags path) = true
 ofFile (shorten path size time) = true
 ofFile (replace path bytes time) = true
+ofFile (move path to) = false
 
 -- what an accepted change makes of the file that its path shows
 abbrev pub over : Maybe File → (File → File) → Maybe File
@@ -112,6 +136,7 @@ made (clearAttributes path) m = over m (λ f. record { bytes = f .bytes; kind = 
 made (clearFlags path) m = over m (λ f. record { bytes = f .bytes; kind = f .kind; created = f .created; modified = f .modified; flags = zeros 4; attributes = f .attributes })
 made (shorten path size time) m = over m (λ f. record { bytes = take size (f .bytes); kind = f .kind; created = f .created; modified = bytes8 time; flags = f .flags; attributes = f .attributes })
 made (replace path bytes time) m = over m (λ f. record { bytes = bytes; kind = f .kind; created = f .created; modified = bytes8 time; flags = f .flags; attributes = f .attributes })
+made (move path to) m = nothing
 
 -- the blocks that it takes and those that it gives back
 abbrev pub count : Maybe File → (File → ℕ) → ℕ
@@ -129,6 +154,7 @@ takes (clearAttributes path) m = 0
 takes (clearFlags path) m = 0
 takes (shorten path size time) m = 0
 takes (replace path bytes time) m = count m (λ f. blocksFor (length bytes) - blocksFor (length (f .bytes)))
+takes (move path to) m = 0
 
 unfoldable pub gives : Change → Maybe File → ℕ
 gives (create path type user group permissions flags time) m = 0
@@ -141,6 +167,7 @@ gives (clearAttributes path) m = count m (λ f. length (f .attributes) / 512)
 gives (clearFlags path) m = 0
 gives (shorten path size time) m = count m (λ f. blocksFor (length (f .bytes)) - blocksFor size)
 gives (replace path bytes time) m = count m (λ f. blocksFor (length (f .bytes)) - blocksFor (length bytes))
+gives (move path to) m = 0
 
 -- of the directory that its path shows: what it makes of it, and the blocks that it gives back
 unfoldable pub madeFolder : Change → Maybe Folder → Maybe Folder
@@ -155,6 +182,7 @@ madeFolder (clearAttributes path) m = m
 madeFolder (clearFlags path) m = m
 madeFolder (shorten path size time) m = m
 madeFolder (replace path bytes time) m = m
+madeFolder (move path to) m = m
 
 abbrev pub sizeIn : Maybe Folder → ℕ
 sizeIn nothing = 0
@@ -171,3 +199,4 @@ givesFolder (clearAttributes path) m = 0
 givesFolder (clearFlags path) m = 0
 givesFolder (shorten path size time) m = 0
 givesFolder (replace path bytes time) m = 0
+givesFolder (move path to) m = 0

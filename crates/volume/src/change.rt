@@ -1,5 +1,5 @@
 // A change as one value, for the journal above: its refusal, its named blocks as marks and the change itself, on an image that the caller has
-// checked. The path and the data stand beside it. Its path is looked up once: what the refusal found is handed on.
+// checked. The path and the data stand beside it; the data of a move is its second path. Its path is looked up once: what the refusal found is handed on.
 ghost use mathlib.Core.Path.{_≡_};
 ghost use Prim.Native.Nat.{_≤_, _<_};
 ghost use lib.ListN.{length};
@@ -33,6 +33,7 @@ pub enum Change {
     ClearFlags,
     Shorten { size: usize, time: u64 },
     Replace { time: u64 },
+    Move,
 }
 
 // What the change is about, or the refusal, 9 to 26.
@@ -73,6 +74,7 @@ pub fn refusal(image: &[u8], what: Change, path: &[u8], bytes: &[u8]) -> File
         Change::ClearFlags => layout::file::open_file(image, path),
         Change::Shorten { size, .. } => super::shorten::shorten_refusal(image, path, size),
         Change::Replace { .. } => super::write::write_refusal(image, path, 0, bytes.len()),
+        Change::Move => super::moving::move_refusal(image, path, bytes),
     }
 }
 
@@ -112,6 +114,7 @@ pub fn mark_named(
         Change::ClearFlags => super::marks::mark(marks, found.block),
         Change::Shorten { size, .. } => super::shorten::shorten_named(image, found, size, marks),
         Change::Replace { .. } => super::replace::replace_named(image, found, bytes.len(), marks),
+        Change::Move => super::moving::move_named(found, marks),
     }
 }
 
@@ -137,10 +140,11 @@ fn apply(image: &mut [u8], what: Change, path: &[u8], bytes: &[u8], found: File)
             shorten_at(image, found, size, time);
         }
         Change::Replace { time } => replace_at(image, found, bytes, time),
+        Change::Move => super::moving::move_entry(image, found, bytes),
     }
 }
 
-// The slot that a change answers: of a create, of a directory too, that of its entry; 0 for the others.
+// The slot that a change answers: of a create, of a directory too, and of a move that of its entry; 0 for the others.
 fn slot_of(what: Change, slot: usize) -> u32
     requires { ⌜ slot < 256 ⌝ }
     ensures { λ r. ⌜ r ≡ answered what slot ⌝ }
@@ -156,6 +160,7 @@ fn slot_of(what: Change, slot: usize) -> u32
         Change::ClearFlags => 0,
         Change::Shorten { .. } => 0,
         Change::Replace { .. } => 0,
+        Change::Move => slot as u32,
     }
 }
 

@@ -12,6 +12,7 @@ mod delete_directory;
 pub mod file;
 pub mod format;
 pub mod marks;
+mod moving;
 mod notes;
 pub mod number;
 pub mod place;

@@ -2,15 +2,15 @@
 use Prim.Native.Nat.{ℕ, _+_}
 use mathlib.Core.Path.{_≡_, refl, sym, ap, _∙_}
 use mathlib.Core.List.{List}
-use mathlib.Core.Logic.{_⊎_, inl, inr, _≢_}
+use mathlib.Core.Logic.{_⊎_, inl, inr, ⊎-elim, _≢_}
 use Rattle.layout.specs.Bytes.{be32, bytes4, zeros}
 use Rattle.layout.specs.Check.{check}
 use Rattle.layout.specs.Looks.{lookup}
 use Rattle.volume.specs.Change as changes
 use Rattle.volume.specs.Views as views
-use Rattle.volume.specs.Views.{File, Maybe, nothing, just, fileAt, folderAt, flagsIn, folderFlagsIn, NoNewFlags}
+use Rattle.volume.specs.Views.{File, Maybe, nothing, just, fileAt, folderAt, flagsIn, folderFlagsIn, NoNewFlags, originOf}
 use Rattle.store.specs.Put.{pathOf, opened, entryAt, rewritten, putImage, putRefusal}
-use Rattle.store.specs.Change.{Change, plain, putIn, clearFlags, refusal, after, subject}
+use Rattle.store.specs.Change.{Change, plain, putIn, clearFlags, refusal, after, subject, further, subjects}
 use Rattle.store.specs.Views.{made, madeFolder, takes, gives, givesFolder}
 use Rattle.volume.proofs.Laws.Content.{write-untouched}
 use Rattle.volume.proofs.Laws.Shown.{lookup-kept}
@@ -18,6 +18,7 @@ use Rattle.volume.proofs.Laws.Orders.{Shown, shown}
 use Rattle.volume.proofs.Theorems as volume
 use Rattle.store.proofs.Laws.Put.{by-opened, opened-sound, put-given, put-sound, put-others, put-folders}
 use Rattle.store.proofs.Laws.Orders.{put-own, done}
+use Rattle.layout.proofs.Laws.Lists.{In}
 use Rattle.layout.proofs.Laws.Names.{same-or-not}
 
 module _ (s : List ℕ) (c : Change) (ok : check s ≡ 0) (r : refusal s c ≡ 0) where
@@ -29,11 +30,11 @@ module _ (s : List ℕ) (c : Change) (ok : check s ≡ 0) (r : refusal s c ≡ 0
   unfolding shown
   folder = ap (λ (m : Shown). m .1) (done s c ok r .own)
 
-  pub others : (other : List ℕ) → other ≢ subject c → fileAt (after s c) other ≡ fileAt s other
+  pub others : (other : List ℕ) → (In other (subjects c) → ⊥) → fileAt (after s c) other ≡ fileAt s other
   unfolding shown
   others other ne = ap (λ (m : Shown). m .0) (done s c ok r .others other ne)
 
-  pub folders : (other : List ℕ) → other ≢ subject c → folderAt (after s c) other ≡ folderAt s other
+  pub folders : (other : List ℕ) → (In other (subjects c) → ⊥) → folderAt (after s c) other ≡ folderAt s other
   unfolding shown
   folders other ne = ap (λ (m : Shown). m .1) (done s c ok r .others other ne)
 
@@ -64,8 +65,8 @@ module _ (s directory serial : List ℕ) (time : ℕ) (bytes : List ℕ) (ok : c
 
   -- look up, the slot too: as of the create and of the write
   opened-lookup : (other : List ℕ) → other ≢ path → lookup t other ≡ lookup s other
-  unfolding changes.refusal changes.after views.subject
-  opened-lookup other ne = by-opened s directory serial time bytes ok r (λ x. lookup x other ≡ lookup s other) (λ q. refl) (λ q c. volume.others-lookup s ok (changes.create path 0x60 0 0 0 0 time) c other ne)
+  unfolding changes.refusal changes.after views.subject views.further
+  opened-lookup other ne = by-opened s directory serial time bytes ok r (λ x. lookup x other ≡ lookup s other) (λ q. refl) (λ q c. volume.others-lookup s ok (changes.create path 0x60 0 0 0 0 time) c other (λ i. ⊎-elim ne (λ x. x) i))
 
   put-lookup : (other : List ℕ) → other ≢ path → lookup s′ other ≡ lookup s other
   unfolding putImage entryAt
@@ -78,7 +79,7 @@ module _ (s directory serial : List ℕ) (time : ℕ) (bytes : List ℕ) (ok : c
   put-flags-at other (inl e) = rw (e, put-own s directory serial time bytes ok r) (put-flags directory serial time bytes (fileAt s path))
   put-flags-at other (inr ne) = inr (ap flagsIn (put-others s directory serial time bytes ok r other ne))
 
-  put-no-new : NoNewFlags s s′
+  put-no-new : NoNewFlags s s′ (λ other. other)
   put-no-new = record { files = λ other. put-flags-at other (same-or-not other path); folders = λ other. inr (ap folderFlagsIn (put-folders s directory serial time bytes ok r other)) }
 
   put-flags-stay : (other : List ℕ) (f g : File) → fileAt s other ≡ just g → fileAt s′ other ≡ just f → f .flags ≡ g .flags
@@ -91,13 +92,13 @@ module _ (s directory serial : List ℕ) (time : ℕ) (bytes : List ℕ) (ok : c
           ap flagsIn (sym p ∙ put-own s directory serial time bytes ok r ∙ ap (made (putIn directory serial time bytes)) q) ∙ put-stay directory serial time bytes g
       go (inr ne) = ap flagsIn (sym now ∙ put-others s directory serial time bytes ok r other ne ∙ was)
 
-pub others-lookup : (s : List ℕ) (c : Change) → check s ≡ 0 → refusal s c ≡ 0 → (other : List ℕ) → other ≢ subject c → lookup (after s c) other ≡ lookup s other
-unfolding refusal after subject
-others-lookup s (plain c) ok r = volume.others-lookup s ok c r
-others-lookup s (putIn directory serial time bytes) ok r = put-lookup s directory serial time bytes ok r
+pub others-lookup : (s : List ℕ) (c : Change) → check s ≡ 0 → refusal s c ≡ 0 → (other : List ℕ) → (In other (subjects c) → ⊥) → lookup (after s c) other ≡ lookup s other
+unfolding refusal after subject further
+others-lookup s (plain c) ok r other ne = volume.others-lookup s ok c r other ne
+others-lookup s (putIn directory serial time bytes) ok r other ne = put-lookup s directory serial time bytes ok r other (λ q. ne (inl q))
 
-pub no-new-flags : (s : List ℕ) (c : Change) → check s ≡ 0 → refusal s c ≡ 0 → NoNewFlags s (after s c)
-unfolding refusal after
+pub no-new-flags : (s : List ℕ) (c : Change) → check s ≡ 0 → refusal s c ≡ 0 → NoNewFlags s (after s c) (originOf (subject c) (further c))
+unfolding refusal after subject further
 no-new-flags s (plain c) ok r = volume.no-new-flags s ok c r
 no-new-flags s (putIn directory serial time bytes) ok r = put-no-new s directory serial time bytes ok r
 

@@ -3,7 +3,7 @@ use Prim.Native.Nat.{ℕ, suc, _+_, _-_, _*_, _/_, _<_}
 use mathlib.Core.Path.{_≡_, refl, sym, ap, _∙_}
 use mathlib.Core.Bool.{true, not}
 use mathlib.Core.List.{List, [], _∷_}
-use mathlib.Core.Logic.{⊎-elim, _≢_}
+use mathlib.Core.Logic.{inl, inr, ⊎-elim, _≢_}
 use native.Mathlib.Omega.{arith}
 use borrow.Author.Tests.{leb-true, eq-eqb, eqb-false, not-true}
 use lib.ListN.{length}
@@ -12,20 +12,23 @@ use Rattle.layout.specs.Claims.{Inserted, Untouched}
 use Rattle.layout.specs.Limits.{maxLevels}
 use Rattle.layout.specs.Lists.{every}
 use Rattle.layout.specs.Bytes.{be32, bytes4, bytes8}
-use Rattle.layout.specs.Directory.{slotAt, slots, typeOf, firstBlock, isFree, isDirectory, isEmpty, goodName, directory, dirs, freeSlot}
+use Rattle.layout.specs.Directory.{slotAt, slots, typeOf, firstBlock, isFree, isFile, isDirectory, isEmpty, goodName, directory, dirs, freeSlot}
 use Rattle.layout.specs.Check.{check}
 use Rattle.layout.specs.Paths.{parts, pathOk, leading, lastPart, shallow, home, pathSlot, entryOf, directoryRefusal}
 use Rattle.volume.specs.Entries.{directoryMade, blocksNamed}
 use Rattle.volume.specs.Create.{createSlot}
 use Rattle.volume.specs.Directories.{createDirectoryRefusal, newDirectoryBlocks, createDirectoryImage, deleteDirectoryRefusal}
 use Rattle.volume.specs.Delete.{allBlocks, deleteAt, deleteNamed}
-use Rattle.volume.specs.Change.{Change, create, write, delete, createDirectory, deleteDirectory, setAttributes, clearAttributes, clearFlags, shorten, replace, refusal, after, named}
-use Rattle.volume.specs.Views.{Folder, Maybe, just, folderOf, fileAt, folderAt, subject, ofFile, made, takes, gives, madeFolder, sizeIn, givesFolder}
+use Rattle.volume.specs.Change.{Change, create, write, delete, createDirectory, deleteDirectory, setAttributes, clearAttributes, clearFlags, shorten, replace, refusal, after, named, move}
+use Rattle.volume.specs.Views.{Folder, Maybe, just, folderOf, fileAt, folderAt, subject, ofFile, made, takes, gives, madeFolder, sizeIn, givesFolder, nothing, further, subjects}
 use Rattle.volume.proofs.Laws.Places.{CreateDirectoryGiven, create-directory-given, write-given, leading-shorter, path-levels, path-name, place-is, place-home, place-free, place-new, place-there}
 use Rattle.volume.proofs.Laws.CreateDirectory.{made-inserted, made-slot, made-dir, made-bare, made-name, made-folder, made-used}
 use Rattle.volume.proofs.Laws.Shorten.{shorten-given}
 use Rattle.volume.proofs.Laws.Content.{create-untouched, write-untouched, delete-untouched, set-untouched, clear-untouched, flags-untouched, shorten-untouched, replace-untouched, create-directory-untouched}
-use Rattle.volume.proofs.Laws.Views.{other-shown}
+use Rattle.volume.proofs.Laws.Views.{other-shown, none-shown}
+use Rattle.volume.specs.Move.{moveRefusal}
+use Rattle.volume.proofs.Laws.Moved.{move-given, move-vacant, move-used, move-length}
+use Rattle.volume.proofs.Laws.Arrived.{move-untouched, move-others, move-left, move-come, move-folders}
 use Rattle.volume.proofs.Laws.Folders.{Comes, came-before, came-slot, came-entry, came-after, came-others}
 use Rattle.volume.proofs.Laws.Effects.{Effect, effect}
 use Rattle.layout.proofs.Laws.Tests.{and-split, require-zero, firstOf-zero}
@@ -34,6 +37,7 @@ use Rattle.layout.proofs.Laws.Trees.{sizeAt}
 use Rattle.layout.proofs.Laws.Paths.{Named, path-named, path-home, home-found}
 use Rattle.layout.proofs.Laws.Newcomers.{after-home}
 use Rattle.layout.proofs.Laws.Lists.{In, in-every}
+use Rattle.layout.proofs.Laws.Owners.{file-used-type}
 use Rattle.layout.proofs.Laws.Slots.{in-slots}
 use Rattle.layout.proofs.Laws.Empties.{Empty}
 use Rattle.layout.proofs.Laws.Others.{untouched-back}
@@ -56,18 +60,24 @@ parts-levels path ok =
 
 pub record Acts (s : List ℕ) (c : Change) : Type 0 where
   pub own : fileAt (after s c) (subject c) ≡ made c (fileAt s (subject c))
-  pub others : (other : List ℕ) → other ≢ subject c → fileAt (after s c) other ≡ fileAt s other
+  pub others : (other : List ℕ) → (In other (subjects c) → ⊥) → fileAt (after s c) other ≡ fileAt s other
+  pub arrived : (to : List ℕ) → In to (further c) → fileAt (after s c) to ≡ fileAt s (subject c)
+  pub vacant : (to : List ℕ) → In to (further c) → fileAt s to ≡ nothing
+  pub kept : (to : List ℕ) → In to (further c) → folderAt (after s c) to ≡ folderAt s to
   pub folder : folderAt (after s c) (subject c) ≡ madeFolder c (folderAt s (subject c))
   pub folders : (other : List ℕ) → other ≢ subject c → folderAt (after s c) other ≡ folderAt s other
   pub used : be32 (after s c) 20 + (gives c (fileAt s (subject c)) + givesFolder c (folderAt s (subject c))) ≡ be32 s 20 + takes c (fileAt s (subject c))
   pub size : length (after s c) ≡ length s
 
 -- a change of a file
-file-acts : (s : List ℕ) (c : Change) → ((m : Maybe Folder) → madeFolder c m ≡ m) → ((m : Maybe Folder) → givesFolder c m ≡ 0) → Effect s c → Acts s c
-file-acts s c f g E =
+file-acts : (s : List ℕ) (c : Change) → further c ≡ [] → ((m : Maybe Folder) → madeFolder c m ≡ m) → ((m : Maybe Folder) → givesFolder c m ≡ 0) → Effect s c → Acts s c
+file-acts s c one f g E =
     record {
       own = E .own;
-      others = E .others;
+      others = λ other aside. E .others other (λ q. aside (inl q));
+      arrived = λ to i. absurd (rw one at i);
+      vacant = λ to i. absurd (rw one at i);
+      kept = λ to i. absurd (rw one at i);
       folder = E .folders (subject c) ∙ sym (f (folderAt s (subject c)));
       folders = λ other ne. E .folders other;
       used = let z = g (folderAt s (subject c)) in let u = E .used in omega arith;
@@ -167,11 +177,14 @@ module _ (s path : List ℕ) (ok : check s ≡ 0) (type user group permissions f
       type user group permissions flags time (G .dir) d (G .least) (G .most) (G .room)))
 
   pub create-directory-acts : Acts s (createDirectory path type user group permissions flags time d)
-  unfolding after subject made madeFolder takes gives givesFolder
+  unfolding after subject further made madeFolder takes gives givesFolder
   create-directory-acts =
       record {
         own = same-files path;
         others = λ other ne. same-files other;
+        arrived = λ to i. absurd i;
+        vacant = λ to i. absurd i;
+        kept = λ to i. absurd i;
         folder = came-after s s′ path (sound s ok) comes ∙ ap just folder-k;
         folders = λ other ne. came-others s s′ path (sound s ok) comes other ne;
         used = let u = used-new in omega arith;
@@ -290,41 +303,62 @@ module _ (s path : List ℕ) (ok : check s ≡ 0) (r : deleteDirectoryRefusal s 
   delete-directory-untouched other = untouched-back s small other (back-untouched s T b i home-there x (N .low) (N .high) (N .typed) bare agreed other)
 
   pub delete-directory-acts : Acts s (deleteDirectory path)
-  unfolding after subject made madeFolder takes gives givesFolder entryOf
+  unfolding after subject further made madeFolder takes gives givesFolder entryOf
   delete-directory-acts =
       record {
         own = same-files-left path;
         others = λ other ne. same-files-left other;
+        arrived = λ to i. absurd i;
+        vacant = λ to i. absurd i;
+        kept = λ to i. absurd i;
         folder = came-before small s path S′ goes;
         folders = λ other ne. sym (came-others small s path S′ goes other ne);
         used = rw shown-before used-less;
         size = sym (goes .only .len);
       }
 
+-- A FILE MOVED
+move-acts : (s path to : List ℕ) → check s ≡ 0 → moveRefusal s path to ≡ 0 → Acts s (move path to)
+unfolding after subject further made madeFolder takes gives givesFolder
+move-acts s path to ok r =
+    record {
+      own = move-left s path to ok r;
+      others = λ other aside. move-others s path to ok r other (λ q. aside (inl q)) (λ q. aside (inr (inl q)));
+      arrived = λ p i. ⊎-elim (λ q. rw q (move-come s path to ok r)) (λ x. absurd x) i;
+      vacant = λ p i. ⊎-elim (λ q. rw q (none-shown s to (move-vacant s path to (move-given s path to r) isFile file-used-type))) (λ x. absurd x) i;
+      kept = λ p i. move-folders s path to ok r p;
+      folder = move-folders s path to ok r path;
+      folders = λ other ne. move-folders s path to ok r other;
+      used = let u = move-used s path to ok (move-given s path to r) in omega arith;
+      size = move-length s path to ok (move-given s path to r);
+    }
+
 -- ALL OF THEM
 pub acts : (s : List ℕ) (c : Change) → check s ≡ 0 → refusal s c ≡ 0 → Acts s c
-unfolding refusal ofFile madeFolder givesFolder
-acts s (create path type user group permissions flags time) ok r = file-acts s (create path type user group permissions flags time) (λ m. refl) (λ m. refl) (effect s (create path type user group permissions flags time) refl ok r)
-acts s (write path offset bytes time) ok r = file-acts s (write path offset bytes time) (λ m. refl) (λ m. refl) (effect s (write path offset bytes time) refl ok r)
-acts s (delete path) ok r = file-acts s (delete path) (λ m. refl) (λ m. refl) (effect s (delete path) refl ok r)
+unfolding refusal ofFile further madeFolder givesFolder
+acts s (create path type user group permissions flags time) ok r = file-acts s (create path type user group permissions flags time) refl (λ m. refl) (λ m. refl) (effect s (create path type user group permissions flags time) refl ok r)
+acts s (write path offset bytes time) ok r = file-acts s (write path offset bytes time) refl (λ m. refl) (λ m. refl) (effect s (write path offset bytes time) refl ok r)
+acts s (delete path) ok r = file-acts s (delete path) refl (λ m. refl) (λ m. refl) (effect s (delete path) refl ok r)
 acts s (createDirectory path type user group permissions flags time d) ok r = create-directory-acts s path ok type user group permissions flags time d r
 acts s (deleteDirectory path) ok r = delete-directory-acts s path ok r
-acts s (setAttributes path bytes) ok r = file-acts s (setAttributes path bytes) (λ m. refl) (λ m. refl) (effect s (setAttributes path bytes) refl ok r)
-acts s (clearAttributes path) ok r = file-acts s (clearAttributes path) (λ m. refl) (λ m. refl) (effect s (clearAttributes path) refl ok r)
-acts s (clearFlags path) ok r = file-acts s (clearFlags path) (λ m. refl) (λ m. refl) (effect s (clearFlags path) refl ok r)
-acts s (shorten path size time) ok r = file-acts s (shorten path size time) (λ m. refl) (λ m. refl) (effect s (shorten path size time) refl ok r)
-acts s (replace path bytes time) ok r = file-acts s (replace path bytes time) (λ m. refl) (λ m. refl) (effect s (replace path bytes time) refl ok r)
+acts s (setAttributes path bytes) ok r = file-acts s (setAttributes path bytes) refl (λ m. refl) (λ m. refl) (effect s (setAttributes path bytes) refl ok r)
+acts s (clearAttributes path) ok r = file-acts s (clearAttributes path) refl (λ m. refl) (λ m. refl) (effect s (clearAttributes path) refl ok r)
+acts s (clearFlags path) ok r = file-acts s (clearFlags path) refl (λ m. refl) (λ m. refl) (effect s (clearFlags path) refl ok r)
+acts s (shorten path size time) ok r = file-acts s (shorten path size time) refl (λ m. refl) (λ m. refl) (effect s (shorten path size time) refl ok r)
+acts s (replace path bytes time) ok r = file-acts s (replace path bytes time) refl (λ m. refl) (λ m. refl) (effect s (replace path bytes time) refl ok r)
+acts s (move path to) ok r = move-acts s path to ok r
 
 -- the files of all other paths stay where they are, with their entries and blocks
-pub others-untouched : (s : List ℕ) (c : Change) (other : List ℕ) → check s ≡ 0 → refusal s c ≡ 0 → other ≢ subject c → pathOk other ≡ true → Untouched s (after s c) other
+pub others-untouched : (s : List ℕ) (c : Change) (other : List ℕ) → check s ≡ 0 → refusal s c ≡ 0 → (In other (subjects c) → ⊥) → pathOk other ≡ true → Untouched s (after s c) other
 unfolding refusal after subject
-others-untouched s (create path type user group permissions flags time) other ok r ne good = create-untouched s path other ok good ne type user group permissions flags time r
-others-untouched s (write path offset bytes time) other ok r ne good = write-untouched s path other ok good ne offset bytes time (write-given s path offset (length bytes) r)
-others-untouched s (delete path) other ok r ne good = delete-untouched s path other ok good ne r
+others-untouched s (create path type user group permissions flags time) other ok r ne good = create-untouched s path other ok good (λ q. ne (inl q)) type user group permissions flags time r
+others-untouched s (write path offset bytes time) other ok r ne good = write-untouched s path other ok good (λ q. ne (inl q)) offset bytes time (write-given s path offset (length bytes) r)
+others-untouched s (delete path) other ok r ne good = delete-untouched s path other ok good (λ q. ne (inl q)) r
 others-untouched s (createDirectory path type user group permissions flags time d) other ok r ne good = create-directory-untouched s path other ok type user group permissions flags time d r
 others-untouched s (deleteDirectory path) other ok r ne good = delete-directory-untouched s path ok r other
-others-untouched s (setAttributes path bytes) other ok r ne good = set-untouched s path other ok good ne bytes r
-others-untouched s (clearAttributes path) other ok r ne good = clear-untouched s path other ok good ne r
-others-untouched s (clearFlags path) other ok r ne good = flags-untouched s path other ok good ne r
-others-untouched s (shorten path size time) other ok r ne good = shorten-untouched s path other ok good ne size time (shorten-given s path size r)
-others-untouched s (replace path bytes time) other ok r ne good = replace-untouched s path other ok good ne bytes time r
+others-untouched s (setAttributes path bytes) other ok r ne good = set-untouched s path other ok good (λ q. ne (inl q)) bytes r
+others-untouched s (clearAttributes path) other ok r ne good = clear-untouched s path other ok good (λ q. ne (inl q)) r
+others-untouched s (clearFlags path) other ok r ne good = flags-untouched s path other ok good (λ q. ne (inl q)) r
+others-untouched s (shorten path size time) other ok r ne good = shorten-untouched s path other ok good (λ q. ne (inl q)) size time (shorten-given s path size r)
+others-untouched s (replace path bytes time) other ok r ne good = replace-untouched s path other ok good (λ q. ne (inl q)) bytes time r
+others-untouched s (move path to) other ok r ne good = move-untouched s path to ok r other good (λ q. ne (inl q)) (λ q. ne (inr (unfold further in inl q)))

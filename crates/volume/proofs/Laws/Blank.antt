@@ -25,7 +25,8 @@ use Rattle.volume.specs.Flags.{clearFlagsAt, clearFlagsNamed}
 use Rattle.volume.specs.Shorten.{keptBlocks, cutBlocks, tailLength, shortenAt, shortenNamed}
 use Rattle.volume.specs.Replace.{replaceRefusal, replaceAt}
 use Rattle.volume.specs.Directories.{createDirectoryRefusal, newDirectoryBlocks, createDirectoryImage, createDirectoryNamed, deleteDirectoryRefusal}
-use Rattle.volume.specs.Change.{Change, create, write, delete, createDirectory, deleteDirectory, setAttributes, clearAttributes, clearFlags, shorten, replace, refusal, after, named}
+use Rattle.volume.specs.Change.{Change, create, write, delete, createDirectory, deleteDirectory, setAttributes, clearAttributes, clearFlags, shorten, replace, refusal, after, named, move}
+use Rattle.volume.specs.Move.{movePlace, moveRefusal, moveImage, moveNamed}
 use Rattle.volume.specs.Claims.{Blanked}
 use Rattle.layout.proofs.Laws.Tests.{true-or-false, true-not-false, lt-or-ge, firstOf-zero}
 use Rattle.layout.proofs.Laws.Bytes.{length-zeros, getD-zeros, getD-part, getD-splice-before, getD-splice-inside, getD-splice-after, part-same, length-splice}
@@ -50,6 +51,7 @@ use Rattle.volume.proofs.Laws.Space.{new-fresh, last-below}
 use Rattle.volume.proofs.Laws.Shorten.{ShortenGiven, shorten-given, shortened-next, shortened-zero, shortened-in-use, shortened-entries}
 use Rattle.volume.proofs.Laws.Replace.{replace-shorten, replace-write, short-sound, short-count, short-entry}
 use Rattle.volume.proofs.Laws.Write.{written-table}
+use Rattle.volume.proofs.Laws.Moved.{move-given, old-entry, new-entry, move-next, move-bounded}
 
 -- a block that is free after blocks were taken was free before, and is none of them
 module _ (n : ℕ) (n₁ : 3 ≤ n) (most : n ≤ maxBlocks) where
@@ -371,6 +373,14 @@ replace-blanked s ok path bytes time r =
     freed-then s t (writeAt t e 0 bytes time) (short-count s path ok (length bytes) time r) (still-free s ok path m time G) (shorten-blanked s ok path m time G)
     (subst (λ (x : ℕ). Blanked t (writeAt t x 0 bytes time)) (short-entry s path ok (length bytes) time r)
     (write-blanked t (short-sound s path ok (length bytes) time r) path 0 bytes time (replace-write s path ok (length bytes) time r)))
+  -- no link changes, and both slots stand in blocks in use
+  move-blanked : (path to : List ℕ) → moveRefusal s path to ≡ 0 → Blanked s (moveImage s path to)
+  unfolding moveNamed
+  move-blanked path to r =
+      let G = move-given s path to r in
+      blanked s T (entryOf isFile s path) (old-entry s path to ok G) (moveImage s path to) (movePlace s path to / 512 ∷ []) (move-bounded s path to ok G .agree)
+      λ b bn z. let v : next s b ≡ 0 = sym (move-next s path to ok G b (omega (arith, T .least))) ∙ z in
+      inr (v, λ i. ⊎-elim (λ q. tree-used s T (movePlace s path to / 512) (new-entry s path to ok G .within-tree) (ap (next s) (sym q) ∙ v)) (λ x. x) i)
 
 pub blank : (s : List ℕ) (c : Change) → check s ≡ 0 → refusal s c ≡ 0 → Blanked s (after s c)
 unfolding refusal after
@@ -384,3 +394,4 @@ blank s (clearAttributes path) ok r = clear-blanked s ok path r
 blank s (clearFlags path) ok r = flags-blanked s ok path r
 blank s (shorten path size time) ok r = shorten-blanked s ok path size time (shorten-given s path size r)
 blank s (replace path bytes time) ok r = replace-blanked s ok path bytes time r
+blank s (move path to) ok r = move-blanked s ok path to r

@@ -56,19 +56,19 @@ deep-untouched s s′ other f =
     }
 
 -- the entry of a path is no file of another path's name
-beside : (s t : List ℕ) (e : ℕ) (path other : List ℕ) → nameOf t e ≡ lastPart (parts path) → (home s other ≢ home s path) ⊎ (lastPart (parts other) ≢ lastPart (parts path))
+pub beside : (s t : List ℕ) (e : ℕ) (path other : List ℕ) → nameOf t e ≡ lastPart (parts path) → (home s other ≢ home s path) ⊎ (lastPart (parts other) ≢ lastPart (parts path))
     → (home s other ≢ home s path) ⊎ ((isFile (typeOf t e) && same (nameOf t e) (lastPart (parts other))) ≡ false)
 beside s t e path other q (inl ne) = inl ne
 beside s t e path other q (inr ne) = inr (is-false _ (λ y. ne (sym (same-eq (nameOf t e) (lastPart (parts other)) (and-split (isFile (typeOf t e)) _ y .1)) ∙ q)))
 
-no-file : (t : List ℕ) (e : ℕ) (name : List ℕ) → typeOf t e ≡ 0 → (isFile (typeOf t e) && same (nameOf t e) name) ≡ false
+pub no-file : (t : List ℕ) (e : ℕ) (name : List ℕ) → typeOf t e ≡ 0 → (isFile (typeOf t e) && same (nameOf t e) name) ≡ false
 no-file t e name z = rw z
 
 module _ (s path other : List ℕ) (ok : check s ≡ 0) (good : pathOk other ≡ true) (ne : other ≢ path) where
   S : Sound s
   S = sound s ok
 
-  by-depth : (s′ : List ℕ) → (shallow (leading (parts other)) ≡ true → Untouched s s′ other) → Untouched s s′ other
+  pub by-depth : (s′ : List ℕ) → (shallow (leading (parts other)) ≡ true → Untouched s s′ other) → Untouched s s′ other
   by-depth s′ f = go (shallow (leading (parts other))) refl
     where
       go : (w : Bool) → shallow (leading (parts other)) ≡ w → Untouched s s′ other

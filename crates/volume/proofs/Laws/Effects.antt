@@ -21,7 +21,7 @@ use Rattle.volume.specs.Attributes.{setAttributesAt, clearAttributesAt, 
 use Rattle.volume.specs.Flags.{clearFlagsAt}
 use Rattle.volume.specs.Shorten.{shortenAt}
 use Rattle.volume.specs.Replace.{replaceRefusal, replaceAt}
-use Rattle.volume.specs.Change.{Change, create, write, delete, createDirectory, deleteDirectory, setAttributes, clearAttributes, clearFlags, shorten, replace, refusal, after}
+use Rattle.volume.specs.Change.{Change, create, write, delete, createDirectory, deleteDirectory, setAttributes, clearAttributes, clearFlags, shorten, replace, refusal, after, move}
 use Rattle.volume.specs.Views.{File, just, fileOf, fileAt, folderAt, subject, ofFile, made, takes, gives}
 use Rattle.volume.proofs.Laws.Places.{CreateGiven, create-given, At, file-at-path, at-accepted, WriteGiven, write-given, SetGiven, set-path, set-given, path-name, place-is, place-home, place-free, place-new, place-there}
 use Rattle.volume.proofs.Laws.Entries.{entry-length, entry-type, entry-size, entry-attribute-size}
@@ -602,3 +602,4 @@ effect s (clearAttributes path) f ok r = clear-effect s path ok r
 effect s (clearFlags path) f ok r = flags-effect s path ok r
 effect s (shorten path size time) f ok r = shorten-effect s path ok size time (shorten-given s path size r)
 effect s (replace path bytes time) f ok r = replace-effect s path ok bytes time r
+effect s (move path to) f ok r = absurd (true-not-false f refl)

@@ -24,7 +24,8 @@ use Rattle.volume.specs.Flags.{clearFlagsNamed}
 use Rattle.volume.specs.Shorten.{keptBlocks, cutBlocks, tailLength, shortenAt, shortenNamed}
 use Rattle.volume.specs.Replace.{replaceRefusal, replaceAt, replaceNamed}
 use Rattle.volume.specs.Directories.{createDirectoryRefusal, newDirectoryBlocks, createDirectoryImage, createDirectoryNamed, deleteDirectoryRefusal}
-use Rattle.volume.specs.Change.{Change, create, write, delete, createDirectory, deleteDirectory, setAttributes, clearAttributes, clearFlags, shorten, replace, refusal, after, named}
+use Rattle.volume.specs.Change.{Change, create, write, delete, createDirectory, deleteDirectory, setAttributes, clearAttributes, clearFlags, shorten, replace, refusal, after, named, move}
+use Rattle.volume.specs.Move.{movePlace, moveRefusal, moveNamed}
 use Rattle.volume.proofs.Laws.Entries.{entry-length}
 use Rattle.volume.proofs.Laws.Frame.{entries-low, blocks-in, blocks-below, changed-first, changed-below, written-in, taken-written, released-agree, grown-agree, put-agree}
 use Rattle.volume.proofs.Laws.Places.{create-given, CreateDirectoryGiven, create-directory-given, At, file-at-path, directory-at-path, WriteGiven, write-given, SetGiven, set-path, set-given, path-levels, path-name, place-is, place-home, place-free}
@@ -34,6 +35,7 @@ use Rattle.volume.proofs.Laws.SetClear.{cleared-bounded, set-bounded}
 use Rattle.volume.proofs.Laws.Flags.{flags-bounded}
 use Rattle.volume.proofs.Laws.Shorten.{shorten-given, shortened-bounded}
 use Rattle.volume.proofs.Laws.Replace.{replace-there, replace-shorten, replace-given, replace-write, replace-names, short-sound, short-entry}
+use Rattle.volume.proofs.Laws.Moved.{move-given, old-entry, move-bounded}
 use Rattle.volume.proofs.Laws.Space.{new-fresh, new-length, all-below, last-below}
 use Rattle.layout.proofs.Laws.Bytes.{length-zeros}
 use Rattle.layout.proofs.Laws.Tests.{firstOf-zero}
@@ -311,6 +313,11 @@ replace-framed s path bytes time ok r =
     framed-by s (sound s ok) e (at-entry s (sound s ok) isFile path A) (replace path bytes time) (ns ++ ws) refl
     (agree-then (one .agree) second (λ x i. in-left x (e / 512 ∷ ns) ws i) (λ x i. in-right x (e / 512 ∷ ns) ws i))
     (λ x i. ⊎-elim (λ j. one .inside x (in-has-eqb x (e / 512 ∷ ns) (inr j))) (λ j. two .inside x (in-has-eqb x ws j)) (in-append x ns ws i))
+move-framed : (s path to : List ℕ) → check s ≡ 0 → moveRefusal s path to ≡ 0 → Framed s (move path to)
+unfolding after named moveNamed
+move-framed s path to ok r =
+    let G = move-given s path to r in
+    bounded-framed s (sound s ok) (entryOf isFile s path) (old-entry s path to ok G) (move path to) (movePlace s path to / 512 ∷ []) refl (move-bounded s path to ok G)
 
 pub frame : (s : List ℕ) (c : Change) → check s ≡ 0 → refusal s c ≡ 0 → Framed s c
 unfolding refusal
@@ -324,3 +331,4 @@ frame s (clearAttributes path) ok r = clear-framed s (sound s ok) path (file-at-
 frame s (clearFlags path) ok r = flags-framed s (sound s ok) path (file-at-path s path r)
 frame s (shorten path size time) ok r = let G = shorten-given s path size r in shorten-framed s (sound s ok) path (file-at-path s path (G .there)) size time (G .less)
 frame s (replace path bytes time) ok r = replace-framed s path bytes time ok r
+frame s (move path to) ok r = move-framed s path to ok r

@@ -2,24 +2,35 @@
 use Prim.Native.Nat.{ℕ}
 use mathlib.Core.Path.{_≡_, refl, sym, ap, _∙_}
 use mathlib.Core.List.{List}
-use mathlib.Core.Logic.{_⊎_, inl, inr, _≢_}
+use mathlib.Core.Logic.{_⊎_, inl, inr, ⊎-elim, _≢_}
 use native.Mathlib.Omega.{arith}
+use Rattle.layout.specs.Lists.{has, same}
 use Rattle.layout.specs.Bytes.{bytes4, zeros}
 use Rattle.layout.specs.Directory.{slotAt, typeOf, isFile, directory}
 use Rattle.layout.specs.Check.{check}
 use Rattle.layout.specs.Paths.{home, pathSlot, fileRefusal}
 use Rattle.volume.specs.Create.{placeRefusal}
-use Rattle.volume.specs.Change.{Change, create, write, delete, createDirectory, deleteDirectory, setAttributes, clearAttributes, clearFlags, shorten, replace, refusal, after}
-use Rattle.volume.specs.Views.{File, Folder, Maybe, nothing, just, fileAt, folderAt, flagsIn, folderFlagsIn, NoNewFlags, subject, made, madeFolder}
+use Rattle.volume.specs.Change.{Change, create, write, delete, createDirectory, deleteDirectory, setAttributes, clearAttributes, clearFlags, shorten, replace, refusal, after, move}
+use Rattle.volume.specs.Views.{File, Folder, Maybe, nothing, just, fileAt, folderAt, flagsIn, folderFlagsIn, NoNewFlags, subject, made, madeFolder, further, originOf}
 use Rattle.volume.proofs.Laws.Places.{create-given, create-directory-given, file-at-path, place-new}
 use Rattle.volume.proofs.Laws.Views.{shown-accepted}
 use Rattle.volume.proofs.Laws.Acts.{acts}
-use Rattle.layout.proofs.Laws.Names.{same-or-not}
+use Rattle.volume.proofs.Laws.Orders.{in-or-not}
+use Rattle.layout.proofs.Laws.Tests.{is-false}
+use Rattle.layout.proofs.Laws.Lists.{In, has-in, in-has}
+use Rattle.layout.proofs.Laws.Names.{same-eq, same-refl, same-or-not}
 use Rattle.layout.proofs.Laws.Owners.{file-used-type}
 
 none : (flags : ℕ) → flags ≡ 0 → bytes4 flags ≡ zeros 4
 unfolding bytes4 zeros
 none flags e = rw e
+
+abbrev is-file : Maybe File → ℕ
+is-file nothing = 0
+is-file (just x) = 1
+
+no-file : (f : File) → _≡_ {A = Maybe File} nothing (just f) → ⊥
+no-file f e = let z : _≡_ {A = ℕ} 0 1 = ap is-file e in omega arith
 
 module _ (s : List ℕ) where
   -- of what its own path shows
@@ -41,6 +52,7 @@ module _ (s : List ℕ) where
   made-flags (shorten path size time) (just f) r = inr refl
   made-flags (replace path bytes time) nothing r = inl refl
   made-flags (replace path bytes time) (just f) r = inr refl
+  made-flags (move path to) m r = inl refl
 
   folder-flags : (c : Change) (m : Maybe Folder) → refusal s c ≡ 0 → (folderFlagsIn (madeFolder c m) ≡ zeros 4) ⊎ (folderFlagsIn (madeFolder c m) ≡ folderFlagsIn m)
   unfolding refusal madeFolder
@@ -54,6 +66,7 @@ module _ (s : List ℕ) where
   folder-flags (clearFlags path) m r = inr refl
   folder-flags (shorten path size time) m r = inr refl
   folder-flags (replace path bytes time) m r = inr refl
+  folder-flags (move path to) m r = inr refl
 
   -- where there is a file, no create is accepted
   file-no-place : (path : List ℕ) → fileRefusal s path ≡ 0 → placeRefusal s path ≡ 0 → ⊥
@@ -66,14 +79,7 @@ module _ (s : List ℕ) where
   unfolding refusal made subject
   made-stay (create path type user group permissions flags time) f g r q m ne = absurd (file-no-place path (shown-accepted s path g q) (create-given s path type flags r .placed))
   made-stay (write path offset bytes time) f g r q m ne = ap flagsIn (sym m)
-  made-stay (delete path) f g r q m ne = absurd (no-file m)
-    where
-      is-file : Maybe File → ℕ
-      is-file nothing = 0
-      is-file (just x) = 1
-
-      no-file : _≡_ {A = Maybe File} nothing (just f) → ⊥
-      no-file e = let z : _≡_ {A = ℕ} 0 1 = ap is-file e in omega arith
+  made-stay (delete path) f g r q m ne = absurd (no-file f m)
   made-stay (createDirectory path type user group permissions flags time d) f g r q m ne = ap flagsIn (sym m)
   made-stay (deleteDirectory path) f g r q m ne = ap flagsIn (sym m)
   made-stay (setAttributes path bytes) f g r q m ne = ap flagsIn (sym m)
@@ -81,24 +87,31 @@ module _ (s : List ℕ) where
   made-stay (clearFlags path) f g r q m ne = absurd (ne refl)
   made-stay (shorten path size time) f g r q m ne = ap flagsIn (sym m)
   made-stay (replace path bytes time) f g r q m ne = ap flagsIn (sym m)
+  made-stay (move path to) f g r q m ne = absurd (no-file f m)
 
   module _ (c : Change) (ok : check s ≡ 0) (r : refusal s c ≡ 0) where
-    file-flags-at : (path : List ℕ) → (path ≡ subject c) ⊎ (path ≢ subject c) → (flagsIn (fileAt (after s c) path) ≡ zeros 4) ⊎ (flagsIn (fileAt (after s c) path) ≡ flagsIn (fileAt s path))
-    file-flags-at path (inl e) = rw (e, acts s c ok r .own) (made-flags c (fileAt s (subject c)) r)
-    file-flags-at path (inr ne) = inr (ap flagsIn (acts s c ok r .others path ne))
+    -- where a move has brought a file, those that it had
+    file-flags-at : (path : List ℕ) → (path ≡ subject c) ⊎ (path ≢ subject c) → In path (further c) ⊎ (In path (further c) → ⊥)
+        → (flagsIn (fileAt (after s c) path) ≡ zeros 4) ⊎ (flagsIn (fileAt (after s c) path) ≡ flagsIn (fileAt s (originOf (subject c) (further c) path)))
+    file-flags-at path w (inl i) = inr (rw (in-has same same-eq same-refl path (further c) i) (ap flagsIn (acts s c ok r .arrived path i)))
+    file-flags-at path (inl e) (inr out) =
+        rw (is-false (has same path (further c)) (λ z. out (has-in same same-eq same-refl path (further c) z))) (rw (e, acts s c ok r .own) (made-flags c (fileAt s (subject c)) r))
+    file-flags-at path (inr ne) (inr out) =
+        rw (is-false (has same path (further c)) (λ z. out (has-in same same-eq same-refl path (further c) z))) (inr (ap flagsIn (acts s c ok r .others path (λ i. ⊎-elim ne out i))))
 
     folder-flags-at : (path : List ℕ) → (path ≡ subject c) ⊎ (path ≢ subject c) → (folderFlagsIn (folderAt (after s c) path) ≡ zeros 4) ⊎ (folderFlagsIn (folderAt (after s c) path) ≡ folderFlagsIn (folderAt s path))
     folder-flags-at path (inl e) = rw (e, acts s c ok r .folder) (folder-flags c (folderAt s (subject c)) r)
     folder-flags-at path (inr ne) = inr (ap folderFlagsIn (acts s c ok r .folders path ne))
 
-    pub no-new-flags : NoNewFlags s (after s c)
-    no-new-flags = record { files = λ path. file-flags-at path (same-or-not path (subject c)); folders = λ path. folder-flags-at path (same-or-not path (subject c)) }
+    pub no-new-flags : NoNewFlags s (after s c) (originOf (subject c) (further c))
+    no-new-flags = record { files = λ path. file-flags-at path (same-or-not path (subject c)) (in-or-not path (further c)); folders = λ path. folder-flags-at path (same-or-not path (subject c)) }
 
     pub flags-stay : (path : List ℕ) (f g : File) → fileAt s path ≡ just g → fileAt (after s c) path ≡ just f → c ≢ clearFlags path → f .flags ≡ g .flags
-    flags-stay path f g was now ne = go (same-or-not path (subject c))
+    flags-stay path f g was now ne = go (same-or-not path (subject c)) (in-or-not path (further c))
       where
-        go : (path ≡ subject c) ⊎ (path ≢ subject c) → f .flags ≡ g .flags
-        go (inl e) =
+        go : (path ≡ subject c) ⊎ (path ≢ subject c) → In path (further c) ⊎ (In path (further c) → ⊥) → f .flags ≡ g .flags
+        go w (inl i) = absurd (no-file g (sym (acts s c ok r .vacant path i) ∙ was))
+        go (inl e) (inr out) =
             let q : fileAt s (subject c) ≡ just g = rw e at was in
             made-stay c f g r q (ap (made c) (sym q) ∙ sym (acts s c ok r .own) ∙ (rw e at now)) (λ z. ne (z ∙ ap clearFlags (sym e)))
-        go (inr n) = ap flagsIn (sym now ∙ acts s c ok r .others path n ∙ was)
+        go (inr n) (inr out) = ap flagsIn (sym now ∙ acts s c ok r .others path (λ i. ⊎-elim n out i) ∙ was)

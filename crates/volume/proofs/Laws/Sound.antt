@@ -4,7 +4,7 @@ use mathlib.Core.Path.{_≡_}
 use mathlib.Core.List.{List}
 use lib.ListN.{length}
 use Rattle.layout.specs.Check.{check}
-use Rattle.volume.specs.Change.{Change, create, write, delete, createDirectory, deleteDirectory, setAttributes, clearAttributes, clearFlags, shorten, replace, refusal, after}
+use Rattle.volume.specs.Change.{Change, create, write, delete, createDirectory, deleteDirectory, setAttributes, clearAttributes, clearFlags, shorten, replace, refusal, after, move}
 use Rattle.volume.proofs.Laws.Places.{write-given}
 use Rattle.volume.proofs.Laws.Create.{kept-create}
 use Rattle.volume.proofs.Laws.Write.{kept-write}
@@ -13,6 +13,7 @@ use Rattle.volume.proofs.Laws.SetClear.{kept-set, kept-clear}
 use Rattle.volume.proofs.Laws.Flags.{kept-flags}
 use Rattle.volume.proofs.Laws.Shorten.{kept-shorten}
 use Rattle.volume.proofs.Laws.Replace.{kept-replace}
+use Rattle.volume.proofs.Laws.Moved.{kept-move}
 use Rattle.volume.proofs.Laws.DeleteDirectory.{kept-delete-directory}
 use Rattle.volume.proofs.Laws.CreateDirectory.{kept-create-directory}
 
@@ -31,3 +32,4 @@ kept s (clearAttributes path) ok r = kept-clear s path ok r
 kept s (clearFlags path) ok r = kept-flags s path ok r
 kept s (shorten path size time) ok r = kept-shorten s path size time ok r
 kept s (replace path bytes time) ok r = kept-replace s path bytes time ok r
+kept s (move path to) ok r = kept-move s path to ok r

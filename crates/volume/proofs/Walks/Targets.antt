@@ -21,6 +21,7 @@ module _ (s path bytes : List ℕ) (slot block first size blocks : ℕ) where
   target-low kinds.ClearFlags t = t .low
   target-low (kinds.Shorten length time) t = t .low
   target-low (kinds.Replace time) t = t .low
+  target-low kinds.Move t = t .low
 
   pub target-slot : (what : code.Change) → Target s (asked what path bytes) slot block first size blocks → answered what slot ≡ slotGiven s (asked what path bytes)
   unfolding Target answered slotGiven
@@ -34,3 +35,4 @@ module _ (s path bytes : List ℕ) (slot block first size blocks : ℕ) where
   target-slot kinds.ClearFlags t = refl
   target-slot (kinds.Shorten length time) t = refl
   target-slot (kinds.Replace time) t = refl
+  target-slot kinds.Move t = t .lowest

@@ -1,10 +1,14 @@
 -- Code-facing: what was found for a change, as the code hands it on.
-use Prim.Native.Nat.{ℕ}
+use Prim.Native.Nat.{ℕ, _<_}
 use mathlib.Core.Path.{_≡_}
 use mathlib.Core.List.{List}
+use Rattle.layout.specs.Geometry.{blockCount}
 use Rattle.layout.specs.Directory.{isFile, isDirectory}
+use Rattle.layout.specs.Paths.{entryOf}
+use Rattle.layout.specs.Walks.Slots.{entryAt}
 use Rattle.layout.specs.Walks.Looks.{Located}
-use Rattle.volume.specs.Change.{Change, create, write, delete, createDirectory, deleteDirectory, setAttributes, clearAttributes, clearFlags, shorten, replace, refusal}
+use Rattle.volume.specs.Change.{Change, create, write, delete, createDirectory, deleteDirectory, setAttributes, clearAttributes, clearFlags, shorten, replace, refusal, move}
+use Rattle.volume.specs.Move.{moveSlot, movePlace}
 use Rattle.volume.specs.declared.change.Change as code
 use Rattle.volume.specs.declared.change.Change.the-variants as kinds
 use Rattle.volume.specs.Walks.Places.{Vacant}
@@ -15,7 +19,17 @@ pub record Standing (s : List ℕ) (refusal : List ℕ → ℕ) (slot block firs
   pub accepted : refusal path ≡ 0
   pub located : Located isFile s path slot block first size blocks
 
--- what an accepted change is about: the entry of its path, or the place of a new one, where `first` is the first block of the directory
+-- where the entry of a move goes, and the slot and block where it stands
+pub record Moving (s path to : List ℕ) (slot block oldSlot oldBlock : ℕ) : Type 0 where
+  pub lowest : slot ≡ moveSlot s path to
+  pub low : slot < 256
+  pub inside : block < blockCount s
+  pub here : entryAt block slot ≡ movePlace s path to
+  pub old-inside : oldBlock < blockCount s
+  pub old : entryAt oldBlock oldSlot ≡ entryOf isFile s path
+
+-- what an accepted change is about: the entry of its path, or the place of a new one, where `first` is the first block of the directory; of a
+-- move the place that its entry goes to, and its own slot and block as `first` and `size`
 unfoldable pub Target : List ℕ → Change → (slot block first size blocks : ℕ) → Type 0
 Target s (create path type user group permissions flags time) slot block first size blocks = Vacant s path first slot block
 Target s (write path offset bytes time) slot block first size blocks = Located isFile s path slot block first size blocks
@@ -27,6 +41,7 @@ Target s (clearAttributes path) slot block first size blocks = Located isFile s 
 Target s (clearFlags path) slot block first size blocks = Located isFile s path slot block first size blocks
 Target s (shorten path length time) slot block first size blocks = Located isFile s path slot block first size blocks
 Target s (replace path bytes time) slot block first size blocks = Located isFile s path slot block first size blocks
+Target s (move path to) slot block first size blocks = Moving s path to slot block first size
 
 -- what preparing a change gives: the number of its refusal, and if that is 0, what it is about
 pub record Prepared (s : List ℕ) (c : Change) (number slot block first size blocks : ℕ) : Type 0 where
@@ -45,3 +60,4 @@ answered kinds.ClearAttributes slot = 0
 answered kinds.ClearFlags slot = 0
 answered (kinds.Shorten size time) slot = 0
 answered (kinds.Replace time) slot = 0
+answered kinds.Move slot = slot

@@ -8,6 +8,8 @@ use Rattle.volume.specs.Walks.Targets.{Target}
 use Rattle.volume.proofs.Laws.Places.{create-given, write-at}
 use Rattle.volume.proofs.Walks.Delete.{file-droppable, dropped-image}
 use Rattle.volume.proofs.Walks.DeleteDirectory.{delete-directory-given, child-droppable}
+use Rattle.volume.proofs.Laws.Moved.{move-given}
+use Rattle.volume.proofs.Walks.Move.{old-within, new-within, move-written}
 use Rattle.volume.proofs.change.apply.Statement.{statement}
 use Rattle.volume.proofs.change.apply.Tie as tie
 
@@ -112,6 +114,17 @@ replace-at-requires c κs =
     let t = rw (c .before .before .what5 .given .1) at (c .before .before .before .before .before .before .before .pre .2) in
     (c .before .before .before .before .before .before .before .pre .0, record { path = c .before .before .before .before .before .before .before .args .path .now; accepted = r; located = t })
 
+enum-told-6 : tie.Need-enum-told-6
+enum-told-6 c = search needs
+
+move-entry-requires : tie.Need-move-entry-requires
+unfolding refusal Target
+move-entry-requires c κs =
+    let p = c .before .before .before .before .before .before .pre in
+    let r = rw (c .before .enum-told6 .given .1) at (p .1) in
+    let t = rw (c .before .enum-told6 .given .1) at (p .2) in
+    (old-within t (p .0), new-within t (p .0), move-given _ _ _ r .good)
+
 same-length : tie.Need-same-length
 same-length c = search needs
 
@@ -198,6 +211,15 @@ returns-10 c =
     let t = rw (c .before .before .before .before .before .what5 .given .1) at (c .before .before .before .before .before .before .before .before .before .before .pre .2) in
     rw (c .before .before .before .before .before .what5 .given .1) (c .before .before .replace-at .ensures ∙ rw (t .place))
 
+same-length-11 : tie.Need-same-length-11
+same-length-11 c = search needs
+
+returns-11 : tie.Need-returns-11
+unfolding after Target
+returns-11 c =
+    let t = rw (c .before .before .before .before .enum-told6 .given .1) at (c .before .before .before .before .before .before .before .before .before .pre .2) in
+    rw (c .before .before .before .before .enum-told6 .given .1) (c .before .before .move-entry .ensures ∙ move-written t)
+
 pub apply-spec : {M : Type 1} → statement M
 apply-spec =
     tie.close
@@ -222,6 +244,8 @@ apply-spec =
     shorten-at-requires
     enum-known-what-5
     replace-at-requires
+    enum-told-6
+    move-entry-requires
     same-length
     returns
     same-length-2
@@ -241,4 +265,6 @@ apply-spec =
     same-length-9
     returns-9
     same-length-10
-    returns-10)
+    returns-10
+    same-length-11
+    returns-11)

@@ -10,6 +10,7 @@ use Rattle.volume.proofs.Walks.Create.{create-marked}
 use Rattle.volume.proofs.Walks.CreateDirectory.{create-directory-named}
 use Rattle.volume.proofs.Walks.Delete.{file-droppable, dropped-named}
 use Rattle.volume.proofs.Walks.DeleteDirectory.{delete-directory-given, child-droppable}
+use Rattle.volume.proofs.Walks.Move.{move-marked}
 use Rattle.volume.proofs.change.mark_named.Statement.{statement}
 use Rattle.volume.proofs.change.mark_named.Tie as tie
 
@@ -112,6 +113,16 @@ replace-named-requires c κs =
     let t = rw (c .before .enum-told7 .given .1) at (c .before .before .before .before .before .before .before .pre .2) in
     (c .before .before .before .before .before .before .before .pre .0, record { path = c .before .before .before .before .before .before .before .args .path .now; accepted = r; located = t }, c .before .before .before .before .before .before .before .pre .3)
 
+enum-told-8 : tie.Need-enum-told-8
+enum-told-8 c = search needs
+
+move-named-requires : tie.Need-move-named-requires
+unfolding Target
+move-named-requires c κs =
+    let p = c .before .before .before .before .before .before .before .pre in
+    let t = rw (c .before .enum-told8 .given .1) at (p .2) in
+    (omega (arith, t .old-inside, p .3), omega (arith, t .inside, p .3))
+
 same-length : tie.Need-same-length
 same-length c = search needs
 
@@ -202,6 +213,15 @@ returns-10 c =
     let t = rw (c .before .before .before .before .enum-told7 .given .1) at (c .before .before .before .before .before .before .before .before .before .before .pre .2) in
     rw (c .before .before .before .before .enum-told7 .given .1) (c .before .before .replace-named .ensures ∙ rw (t .place))
 
+same-length-11 : tie.Need-same-length-11
+same-length-11 c = search needs
+
+returns-11 : tie.Need-returns-11
+unfolding named Target
+returns-11 c =
+    let t = rw (c .before .before .before .before .enum-told8 .given .1) at (c .before .before .before .before .before .before .before .before .before .before .pre .2) in
+    rw (c .before .before .before .before .enum-told8 .given .1) (c .before .before .move-named .ensures ∙ move-marked t _)
+
 pub mark-named-spec : {M : Type 1} → statement M
 mark-named-spec =
     tie.close
@@ -226,6 +246,8 @@ mark-named-spec =
     shorten-named-requires
     enum-told-7
     replace-named-requires
+    enum-told-8
+    move-named-requires
     same-length
     returns
     same-length-2
@@ -245,4 +267,6 @@ mark-named-spec =
     same-length-9
     returns-9
     same-length-10
-    returns-10)
+    returns-10
+    same-length-11
+    returns-11)

@@ -65,6 +65,12 @@ enum-told-6 c = search needs
 write-refusal-requires-2 : tie.Need-write-refusal-requires-2
 write-refusal-requires-2 c κs = search needs
 
+enum-told-7 : tie.Need-enum-told-7
+enum-told-7 c = search needs
+
+move-refusal-requires : tie.Need-move-refusal-requires
+move-refusal-requires c κs = search needs
+
 returns : tie.Need-returns
 unfolding refusal Target
 returns c = rw (c .before .before .what .given .1) (record { number-is = c .create-refusal .ensures .number-is; target = c .create-refusal .ensures .vacant })
@@ -105,6 +111,10 @@ returns-10 : tie.Need-returns-10
 unfolding refusal Target replaceRefusal
 returns-10 c = rw (c .before .enum-told6 .given .1) (record { number-is = c .write-refusal2 .ensures .number-is; target = c .write-refusal2 .ensures .file })
 
+returns-11 : tie.Need-returns-11
+unfolding refusal Target
+returns-11 c = rw (c .before .enum-told7 .given .1) (record { number-is = c .move-refusal .ensures .number-is; target = c .move-refusal .ensures .moving })
+
 pub refusal-spec : {M : Type 1} → statement M
 refusal-spec =
     tie.close
@@ -129,6 +139,8 @@ refusal-spec =
     shorten-refusal-requires
     enum-told-6
     write-refusal-requires-2
+    enum-told-7
+    move-refusal-requires
     returns
     returns-2
     returns-3
@@ -138,4 +150,5 @@ refusal-spec =
     returns-7
     returns-8
     returns-9
-    returns-10)
+    returns-10
+    returns-11)

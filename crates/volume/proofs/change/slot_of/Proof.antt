@@ -39,6 +39,12 @@ enum-told-9 c = search needs
 enum-told-10 : tie.Need-enum-told-10
 enum-told-10 c = search needs
 
+enum-told-11 : tie.Need-enum-told-11
+enum-told-11 c = search needs
+
+cast-result-3 : tie.Need-cast-result-3
+cast-result-3 c = search needs
+
 returns : tie.Need-returns
 unfolding answered
 returns c = rw (c .enum-told .given .1)
@@ -79,6 +85,10 @@ returns-10 : tie.Need-returns-10
 unfolding answered
 returns-10 c = rw (c .enum-told10 .given .1)
 
+returns-11 : tie.Need-returns-11
+unfolding answered
+returns-11 c = rw (c .enum-told11 .given .1)
+
 pub slot-of-spec : {M : Type 1} → statement M
 slot-of-spec =
     tie.close
@@ -95,6 +105,8 @@ slot-of-spec =
     enum-told-8
     enum-told-9
     enum-told-10
+    enum-told-11
+    cast-result-3
     returns
     returns-2
     returns-3
@@ -104,4 +116,5 @@ slot-of-spec =
     returns-7
     returns-8
     returns-9
-    returns-10)
+    returns-10
+    returns-11)
