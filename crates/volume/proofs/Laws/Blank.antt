@@ -289,6 +289,15 @@ module _ (s : List ℕ) (ok : check s ≡ 0) where
   unfolding refusal after named clearFlagsNamed
   flags-blanked path r = entry-blanked s T (entryOf isFile s path) (at-entry s T isFile path (file-at-path s path r)) _ (frame s (clearFlags path) ok r .agree)
 
+  -- no link changes, and both slots stand in blocks in use
+  move-blanked : (path to : List ℕ) → moveRefusal s path to ≡ 0 → Blanked s (moveImage s path to)
+  unfolding moveNamed
+  move-blanked path to r =
+      let G = move-given s path to r in
+      blanked s T (entryOf isFile s path) (old-entry s path to ok G) (moveImage s path to) (movePlace s path to / 512 ∷ []) (move-bounded s path to ok G .agree)
+      λ b bn z. let v : next s b ≡ 0 = sym (move-next s path to ok G b (omega (arith, T .least))) ∙ z in
+      inr (v, λ i. ⊎-elim (λ q. tree-used s T (movePlace s path to / 512) (new-entry s path to ok G .within-tree) (ap (next s) (sym q) ∙ v)) (λ x. x) i)
+
 -- a file shortened: the blocks that it keeps stay in use
 module _ (s : List ℕ) (ok : check s ≡ 0) (path : List ℕ) (size time : ℕ) (G : ShortenGiven s path size) where
   abbrev entry : ℕ
@@ -373,14 +382,6 @@ replace-blanked s ok path bytes time r =
     freed-then s t (writeAt t e 0 bytes time) (short-count s path ok (length bytes) time r) (still-free s ok path m time G) (shorten-blanked s ok path m time G)
     (subst (λ (x : ℕ). Blanked t (writeAt t x 0 bytes time)) (short-entry s path ok (length bytes) time r)
     (write-blanked t (short-sound s path ok (length bytes) time r) path 0 bytes time (replace-write s path ok (length bytes) time r)))
-  -- no link changes, and both slots stand in blocks in use
-  move-blanked : (path to : List ℕ) → moveRefusal s path to ≡ 0 → Blanked s (moveImage s path to)
-  unfolding moveNamed
-  move-blanked path to r =
-      let G = move-given s path to r in
-      blanked s T (entryOf isFile s path) (old-entry s path to ok G) (moveImage s path to) (movePlace s path to / 512 ∷ []) (move-bounded s path to ok G .agree)
-      λ b bn z. let v : next s b ≡ 0 = sym (move-next s path to ok G b (omega (arith, T .least))) ∙ z in
-      inr (v, λ i. ⊎-elim (λ q. tree-used s T (movePlace s path to / 512) (new-entry s path to ok G .within-tree) (ap (next s) (sym q) ∙ v)) (λ x. x) i)
 
 pub blank : (s : List ℕ) (c : Change) → check s ≡ 0 → refusal s c ≡ 0 → Blanked s (after s c)
 unfolding refusal after

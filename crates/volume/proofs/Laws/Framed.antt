@@ -313,6 +313,7 @@ replace-framed s path bytes time ok r =
     framed-by s (sound s ok) e (at-entry s (sound s ok) isFile path A) (replace path bytes time) (ns ++ ws) refl
     (agree-then (one .agree) second (λ x i. in-left x (e / 512 ∷ ns) ws i) (λ x i. in-right x (e / 512 ∷ ns) ws i))
     (λ x i. ⊎-elim (λ j. one .inside x (in-has-eqb x (e / 512 ∷ ns) (inr j))) (λ j. two .inside x (in-has-eqb x ws j)) (in-append x ns ws i))
+
 move-framed : (s path to : List ℕ) → check s ≡ 0 → moveRefusal s path to ≡ 0 → Framed s (move path to)
 unfolding after named moveNamed
 move-framed s path to ok r =
