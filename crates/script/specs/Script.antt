@@ -11,7 +11,7 @@ use Rattle.layout.specs.Lists.{within, every, joined}
 use Rattle.layout.specs.Bytes.{be32, be64, bytes4, zeros, part, splice}
 use Rattle.layout.specs.Check.{check}
 use Rattle.layout.specs.Looks.{VolumeAnswer, EntryAnswer}
-use Rattle.store.specs.Change.{Change, create, write, delete, createDirectory, deleteDirectory, setAttributes, clearAttributes, clearFlags, putIn, put}
+use Rattle.store.specs.Change.{Change, create, write, delete, createDirectory, deleteDirectory, setAttributes, clearAttributes, clearFlags, shorten, replace, move, putIn, put}
 use Rattle.store.specs.Get.{Which, theLatest, theNumber}
 use Rattle.journal.specs.Journal.{recordsFrom, started, startRefusal}
 use Rattle.journal.specs.Run.{Look, checkImage, findFile, readFile, lookAt, readAttributesOf, getSettingsIn, getSettings, showVolume, showEntry, Call, change, undo, look, Answer, changed, undone, checked, found, filled, shown, got, described, entered, State, state}
@@ -58,14 +58,23 @@ Fits s at = at + itemSize s at ≤ length s
 -- 12 clear attributes, 13 read attributes (the data is its buffer, as for read), 14 clear flags, 15 write list (the data is the list), 16 the volume's
 -- numbers, 17 an entry of the directory of the name (the offset is the slot to begin with), 18 put settings (the name is the serial number, the data the
 -- settings), 19 get settings (the revision is in the last four bytes of the offset), 20 get latest settings; 21, 22 and 23 are 18, 19 and 20 in a directory
--- (the name is the directory and the serial number); 24 journal info; 25 undo to a mark (the mark is in the last four bytes of the offset). In 16, 17, 19,
--- 20, 22 and 23 the data is the buffer.
+-- (the name is the directory and the serial number); 24 shorten (the offset is the size), 25 replace, 26 move (the data is the new path); 27 journal info;
+-- 28 undo to a mark (the mark is in the last four bytes of the offset). In 16, 17, 19, 20, 22 and 23 the data is the buffer.
 abbrev pub lastOp : ℕ
-lastOp = 25
+lastOp = 28
 
 -- a put in a directory
 unfoldable pub putAt : List ℕ → ℕ → Change
 putAt s at = putIn (directoryAt s at) (serialAt s at) (be64 s (at + 17)) (dataAt s at)
+
+-- shorten, replace and move; else delete
+unfoldable pub renewAt : List ℕ → ℕ → Change
+renewAt s at =
+    let name = nameAt s at in
+    let time = be64 s (at + 17) in
+    cond (eqb (opAt s at) 24) (shorten name (be64 s (at + 9)) time)
+    (cond (eqb (opAt s at) 25) (replace name (dataAt s at) time)
+    (cond (eqb (opAt s at) 26) (move name (dataAt s at)) (delete name)))
 
 unfoldable pub changeAt : List ℕ → ℕ → Change
 changeAt s at =
@@ -84,7 +93,7 @@ changeAt s at =
     (cond (eqb (opAt s at) 12) (clearAttributes name)
     (cond (eqb (opAt s at) 14) (clearFlags name)
     (cond (eqb (opAt s at) 18) (put name time (dataAt s at))
-    (cond (eqb (opAt s at) 21) (putAt s at) (delete name)))))))))
+    (cond (eqb (opAt s at) 21) (putAt s at) (renewAt s at)))))))))
 
 unfoldable pub callAt : List ℕ → ℕ → Call
 callAt s at =
@@ -128,14 +137,14 @@ itemKindOf undoTo = backs
 abbrev pub itemKinds : Kind
 itemKinds = oneOf itemKindOf
 
--- the calls from op 24 on
+-- the calls from op 27 on
 unfoldable pub markCall : List ℕ → ℕ → KindCall itemKinds
-markCall s at = cond (eqb (opAt s at) 24) (further (journalInfo, tt)) (further (undoTo, be32 s (at + 13)))
+markCall s at = cond (eqb (opAt s at) 27) (further (journalInfo, tt)) (further (undoTo, be32 s (at + 13)))
 
 unfoldable pub itemCall : List ℕ → ℕ → KindCall itemKinds
 itemCall s at =
     cond (eqb (opAt s at) 15) (further (list, dataAt s at))
-    (cond (leb 24 (opAt s at)) (markCall s at)
+    (cond (leb 27 (opAt s at)) (markCall s at)
     (cond (shows (opAt s at)) (call (look (showAt s at))) (call (callAt s at))))
 
 -- an item that is not cut off, with a known op

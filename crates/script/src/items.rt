@@ -54,7 +54,7 @@ fn item_ok(script: &[u8], at: usize) -> bool
     if script[at] < 1 {
         return false;
     }
-    script[at] <= 25
+    script[at] <= 28
 }
 
 // Whether an op fills a buffer: read, and read attributes.

@@ -21,12 +21,12 @@ fn tell(image: &[u8], journal: &[u8]) -> Numbers
     }
 }
 
-// Make the call of the item at `at`, whose op is 24 or above.
+// Make the call of the item at `at`, whose op is 27 or above.
 pub fn make(script: &[u8], at: usize, image: &mut [u8], journal: &mut [u8], part: &mut [u8])
-    requires { ⌜ (Fits (now script) at) × (24 ≤ opAt (now script) at) × (length (now part) ≡ 16) ⌝ }
+    requires { ⌜ (Fits (now script) at) × (27 ≤ opAt (now script) at) × (length (now part) ≡ 16) ⌝ }
     ensures { λ _. ⌜ ItemDone (state (now (image .entry)) (now (journal .entry))) (itemCall (now (script .entry)) at) (now (image .exit)) (now (journal .exit)) (now (part .exit)) ⌝ }
 {
-    if script[at] == 24 {
+    if script[at] == 27 {
         super::answers::put_numbers(part, tell(image, journal));
         return;
     }

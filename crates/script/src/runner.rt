@@ -13,7 +13,7 @@ ghost use Rattle.journal.specs.Answers.{changedAnswer, undoneAnswer};
 ghost use Rattle.script.specs.Answers.{ranStatus};
 ghost use Rattle.store.specs.Asked.{asked};
 ghost use Rattle.store.specs.Change.{create, createDirectory};
-ghost use Rattle.script.specs.Script.{numbers, Fits, nameAt, dataAt, opAt, shows, putAt, changeAt, callAt, itemCall, encoded, encodedItem, itemOk, itemsFrom, callsOf, answersSize, leaves, outcome, replayOutcome, JustStarted};
+ghost use Rattle.script.specs.Script.{numbers, Fits, nameAt, dataAt, opAt, shows, putAt, renewAt, changeAt, callAt, itemCall, encoded, encodedItem, itemOk, itemsFrom, callsOf, answersSize, leaves, outcome, replayOutcome, JustStarted};
 ghost use Rattle.script.specs.Walks.Scripts.{looks, Item, Whole, CallDone, ItemDone};
 use super::answers::Numbers;
 use super::items::data_of;
@@ -100,6 +100,28 @@ fn directory_of(script: &[u8], at: usize, time: u64) -> Change
     })
 }
 
+// The shorten, replace or move that the item at `at` asks for; else the delete.
+fn renew_of(script: &[u8], at: usize) -> Change
+    requires { ⌜ Fits (now script) at ⌝ }
+    ensures { λ r. ⌜ asked r (nameAt (now (script .entry)) at) (dataAt (now (script .entry)) at) ≡ renewAt (now (script .entry)) at ⌝ }
+{
+    let op = script[at];
+    let time = get64(script, at + 17);
+    if op == 24 {
+        return Change::Volume(VolumeChange::Shorten {
+            size: get64(script, at + 9) as usize,
+            time: time,
+        });
+    }
+    if op == 25 {
+        return Change::Volume(VolumeChange::Replace { time: time });
+    }
+    if op == 26 {
+        return Change::Volume(VolumeChange::Move);
+    }
+    Change::Volume(VolumeChange::Delete)
+}
+
 // The change that the item at `at` asks for, which is no put in a directory.
 fn change_of(script: &[u8], at: usize) -> Change
     requires { ⌜ (Fits (now script) at) × (opAt (now script) at ≢ 21) ⌝ }
@@ -134,7 +156,7 @@ fn change_of(script: &[u8], at: usize) -> Change
     if op == 18 {
         return Change::Put { time: time };
     }
-    Change::Volume(VolumeChange::Delete)
+    renew_of(script, at)
 }
 
 // Undo, with its answer.
@@ -248,7 +270,7 @@ fn make_plain(script: &[u8], at: usize, image: &mut [u8], journal: &mut [u8], pa
         make_list(script, at, image, journal, part);
         return;
     }
-    if 24 <= script[at] {
+    if 27 <= script[at] {
         super::marks::make(script, at, image, journal, part);
         return;
     }

@@ -73,7 +73,7 @@ pub look-made : (image journal part s : List ℕ) (at : ℕ) → 1 ≤ opAt s at
 look-made image journal part s at l h answered = record { after = sym (look-keeps (state image journal) s at l h); answered = answered journal }
 
 -- an item that is a call, and one that is a list
-pub call-item : (p : State) (s : List ℕ) (at : ℕ) (image journal part : List ℕ) → (opAt s at ≡ 15 → ⊥) → opAt s at < 24 → shows (opAt s at) ≡ false
+pub call-item : (p : State) (s : List ℕ) (at : ℕ) (image journal part : List ℕ) → (opAt s at ≡ 15 → ⊥) → opAt s at < 27 → shows (opAt s at) ≡ false
     → CallDone p (callAt s at) image journal part → ItemDone p (itemCall s at) image journal part
 unfolding stepOf answerOf encodedItem
 call-item p s at image journal part n m h d = rw (is-call s at n m h) (record { after = d .after; answered = d .answered })
@@ -96,7 +96,7 @@ list-item p s at image journal part part′ bytes number done e l b w written =
     subst (λ (c : KindCall itemKinds). ItemDone p c image journal part′) (sym same) made
 
 -- journal info, and undo to a mark
-pub info-item : (s : List ℕ) (at : ℕ) (image journal part part′ : List ℕ) (number used records last : ℕ) → opAt s at ≡ 24 → length part ≡ 16
+pub info-item : (s : List ℕ) (at : ℕ) (image journal part part′ : List ℕ) (number used records last : ℕ) → opAt s at ≡ 27 → length part ≡ 16
     → info number used records last ≡ answerOfInfo (state image journal) → part′ ≡ splice part 0 (numbers number used records last)
     → ItemDone (state image journal) (itemCall s at) image journal part′
 unfolding stepOf answerOf encodedItem encodedReply
@@ -107,7 +107,7 @@ info-item s at image journal part part′ number used records last e l w written
     } in
     subst (λ (c : KindCall itemKinds). ItemDone (state image journal) c image journal part′) (sym (is-info s at e)) made
 
-pub undo-to-item : (p : State) (s : List ℕ) (at : ℕ) (image journal part part′ : List ℕ) (mark number done : ℕ) → 24 ≤ opAt s at → (opAt s at ≡ 24 → ⊥)
+pub undo-to-item : (p : State) (s : List ℕ) (at : ℕ) (image journal part part′ : List ℕ) (mark number done : ℕ) → 27 ≤ opAt s at → (opAt s at ≡ 27 → ⊥)
     → length part ≡ 16 → mark ≡ be32 s (at + 13) → backed (state image journal) number done ≡ backTo p mark → part′ ≡ splice part 0 (numbers number done 0 0)
     → ItemDone p (itemCall s at) image journal part′
 unfolding stepOf answerOf encodedItem encodedReply

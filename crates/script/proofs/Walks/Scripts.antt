@@ -204,29 +204,29 @@ module _ (s : List ℕ) (at : ℕ) where
   unfolding itemCall
   is-list e = rw e
 
-  pub is-call : (opAt s at ≡ 15 → ⊥) → opAt s at < 24 → shows (opAt s at) ≡ false → itemCall s at ≡ call (callAt s at)
+  pub is-call : (opAt s at ≡ 15 → ⊥) → opAt s at < 27 → shows (opAt s at) ≡ false → itemCall s at ≡ call (callAt s at)
   unfolding itemCall
-  is-call n m h = rw (ne-eqb (opAt s at) 15 n, lt-leb 24 (opAt s at) m, h)
+  is-call n m h = rw (ne-eqb (opAt s at) 15 n, lt-leb 27 (opAt s at) m, h)
 
   -- journal info, and undo to a mark
-  is-mark : 24 ≤ opAt s at → itemCall s at ≡ markCall s at
+  is-mark : 27 ≤ opAt s at → itemCall s at ≡ markCall s at
   unfolding itemCall
-  is-mark h = rw (ne-eqb (opAt s at) 15 (λ e. omega arith), le-leb 24 (opAt s at) h)
+  is-mark h = rw (ne-eqb (opAt s at) 15 (λ e. omega arith), le-leb 27 (opAt s at) h)
 
-  pub is-info : opAt s at ≡ 24 → itemCall s at ≡ further (journalInfo, tt)
+  pub is-info : opAt s at ≡ 27 → itemCall s at ≡ further (journalInfo, tt)
   unfolding markCall
   is-info e = is-mark (omega arith) ∙ rw e
 
-  pub is-undo-to : 24 ≤ opAt s at → (opAt s at ≡ 24 → ⊥) → itemCall s at ≡ further (undoTo, be32 s (at + 13))
+  pub is-undo-to : 27 ≤ opAt s at → (opAt s at ≡ 27 → ⊥) → itemCall s at ≡ further (undoTo, be32 s (at + 13))
   unfolding markCall
-  is-undo-to h n = is-mark h ∙ rw (ne-eqb (opAt s at) 24 n)
+  is-undo-to h n = is-mark h ∙ rw (ne-eqb (opAt s at) 27 n)
 
   -- a look at the volume, at an entry or at settings
   pub is-show : shows (opAt s at) ≡ true → itemCall s at ≡ call (look (showAt s at))
   unfolding itemCall
   is-show h =
       let m = shows-split (opAt s at) h in
-      rw (ne-eqb (opAt s at) 15 (λ e. omega (arith, m .0)), lt-leb 24 (opAt s at) (m .1), h)
+      rw (ne-eqb (opAt s at) 15 (λ e. omega (arith, m .0)), lt-leb 27 (opAt s at) (omega (arith, m .1)), h)
 
   pub shows-volume : opAt s at ≡ 16 → showAt s at ≡ showVolume (dataAt s at)
   unfolding showAt
@@ -293,15 +293,15 @@ module _ (s : List ℕ) (at : ℕ) where
   unfolding itemRoom
   room-list e = rw (is-list e)
 
-  pub room-mark : 24 ≤ opAt s at → itemRoom (itemCall s at) ≡ 16
+  pub room-mark : 27 ≤ opAt s at → itemRoom (itemCall s at) ≡ 16
   unfolding itemRoom markCall
-  room-mark h = rw (is-mark h) (go (eqb (opAt s at) 24))
+  room-mark h = rw (is-mark h) (go (eqb (opAt s at) 27))
     where
       go : (b : Bool) → itemRoom (cond b (further (journalInfo, tt)) (further (undoTo, be32 s (at + 13)))) ≡ 16
       go true = refl
       go false = refl
 
-  pub room-call : (opAt s at ≡ 15 → ⊥) → opAt s at < 24 → shows (opAt s at) ≡ false → itemRoom (itemCall s at) ≡ answerSize (callAt s at)
+  pub room-call : (opAt s at ≡ 15 → ⊥) → opAt s at < 27 → shows (opAt s at) ≡ false → itemRoom (itemCall s at) ≡ answerSize (callAt s at)
   unfolding itemRoom
   room-call n m h = rw (is-call n m h)
 
@@ -315,9 +315,9 @@ module _ (s : List ℕ) (at : ℕ) where
   room-look-in-place e = room-call (λ f. omega arith) (omega arith) (rw e) ∙ size-look-in-place e
 
   pub room-plain : shows (opAt s at) ≡ false → fills (opAt s at) ≡ false → eqb (opAt s at) 4 ≡ false → itemRoom (itemCall s at) ≡ 16
-  room-plain h f g = go (ℕ-discrete (opAt s at) 15) (lt-or-ge (opAt s at) 24)
+  room-plain h f g = go (ℕ-discrete (opAt s at) 15) (lt-or-ge (opAt s at) 27)
     where
-      go : Dec (opAt s at ≡ 15) → (opAt s at < 24) ⊎ (24 ≤ opAt s at) → itemRoom (itemCall s at) ≡ 16
+      go : Dec (opAt s at ≡ 15) → (opAt s at < 27) ⊎ (27 ≤ opAt s at) → itemRoom (itemCall s at) ≡ 16
       go (yes e) m = room-list e
       go (no n) (inl m) = room-call n m h ∙ size-plain f g
       go (no n) (inr m) = room-mark m

@@ -231,13 +231,13 @@ fn item_of(rng: &mut Rng, call: &Call) -> Vec<u8> {
         Call::Change(Change::Shorten(s)) => {
             header[9..17].copy_from_slice(&s.size.to_be_bytes());
             header[17..25].copy_from_slice(&s.time.to_be_bytes());
-            (26, &s.path, &[])
+            (24, &s.path, &[])
         }
         Call::Change(Change::Replace(r)) => {
             header[17..25].copy_from_slice(&r.time.to_be_bytes());
-            (27, &r.path, &r.data)
+            (25, &r.path, &r.data)
         }
-        Call::Change(Change::Move(m)) => (28, &m.path, &m.to),
+        Call::Change(Change::Move(m)) => (26, &m.path, &m.to),
         Call::Change(Change::Put(p)) => {
             header[17..25].copy_from_slice(&p.time.to_be_bytes());
             let op = if p.directory.is_some() { 21 } else { 18 };
@@ -254,10 +254,10 @@ fn item_of(rng: &mut Rng, call: &Call) -> Vec<u8> {
             let op = if directory.is_some() { op + 3 } else { op };
             (op, placed.as_deref().unwrap_or(serial), buffer)
         }
-        Call::JournalInfo => (24, &[], &[]),
+        Call::JournalInfo => (27, &[], &[]),
         Call::UndoTo(mark) => {
             put_number(&mut header, 13, *mark);
-            (25, &[], &[])
+            (28, &[], &[])
         }
         Call::Append(_) => unreachable!("a script has no op for a piece"),
     };

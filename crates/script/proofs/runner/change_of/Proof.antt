@@ -58,12 +58,16 @@ returns-8 : tie.Need-returns-8
 unfolding changeAt
 returns-8 c = rw (c .if8 .taken, c .before .before .before .before .before .before .before .before .get64 .ensures)
 
+renew-of-requires : tie.Need-renew-of-requires
+renew-of-requires c κs = search needs
+
 -- none of the ops above
 returns-9 : tie.Need-returns-9
 unfolding changeAt
 returns-9 c =
-    let b = c .before .before in
-    rw (ne-eqb _ 5 (b .before .before .before .before .before .if1 .left), ne-eqb _ 6 (b .before .before .before .before .if2 .left), ne-eqb _ 9 (b .before .before .before .if3 .left), ne-eqb _ 10 (b .before .before .if4 .left), ne-eqb _ 11 (b .before .if5 .left), ne-eqb _ 12 (b .if6 .left), ne-eqb _ 14 (c .before .if7 .left), ne-eqb _ 18 (c .if8 .left), ne-eqb _ 21 (c .before .before .before .before .before .before .before .before .before .before .before .pre .1))
+    let d = c .before in
+    let b = d .before .before in
+    c .renew-of .ensures ∙ rw (ne-eqb _ 5 (b .before .before .before .before .before .if1 .left), ne-eqb _ 6 (b .before .before .before .before .if2 .left), ne-eqb _ 9 (b .before .before .before .if3 .left), ne-eqb _ 10 (b .before .before .if4 .left), ne-eqb _ 11 (b .before .if5 .left), ne-eqb _ 12 (b .if6 .left), ne-eqb _ 14 (d .before .if7 .left), ne-eqb _ 18 (d .if8 .left), ne-eqb _ 21 (d .before .before .before .before .before .before .before .before .before .before .before .pre .1))
 
 pub change-of-spec : {M : Type 1} → statement M
 change-of-spec =
@@ -84,4 +88,5 @@ change-of-spec =
     returns-6
     returns-7
     returns-8
+    renew-of-requires
     returns-9)
