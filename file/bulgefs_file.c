@@ -265,11 +265,20 @@ static bulgefs_volume_result load_bytes(bulgefs_volume_file *v)
 }
 
 /*
- * Opens, locks and reads any file.  Before bytes are read that are to be changed,
- * what a program wrote before it was killed must have reached the disk, and what
+ * What programs did before is on the disk before anything is read that is to be
+ * changed.  What one wrote before it was killed must have reached the disk, and what
  * did not reach it after a failed flush must be forgotten: otherwise the commit
- * sector that is read may not be the one on the disk.
+ * sector that is read may not be the one on the disk.  And the name must be there:
+ * otherwise saves could go to a file whose rename, by a create or grow that did not
+ * come to its end, is undone by a power cut.
  */
+static bulgefs_volume_result settle_all(const bulgefs_system *s, intptr_t file, const char *path)
+{
+    bulgefs_volume_result r = settle_file(s, file);
+    return r.error ? r : flush_directory(s, path);
+}
+
+/* Opens, locks and reads any file. */
 static bulgefs_volume_result load(bulgefs_volume_file *v, const char *path, int how, const bulgefs_system *s)
 {
     bulgefs_volume_result r;
@@ -284,7 +293,7 @@ static bulgefs_volume_result load(bulgefs_volume_file *v, const char *path, int 
         return r;
     v->state = how == BULGEFS_VOLUME_LOOK ? LOOKING : CHANGING;
     if (v->state == CHANGING)
-        r = settle_file(s, v->file);
+        r = settle_all(s, v->file, path);
     if (!r.error)
         r = load_bytes(v);
     return r;

@@ -161,7 +161,8 @@ typedef struct {
  * Opens a volume file: locks it, reads it, and recovers it if power failed in a
  * save.  Memory: the whole file, and image, journal and own once more.
  *
- * BULGEFS_VOLUME_CHANGE locks the file for this open alone.
+ * BULGEFS_VOLUME_CHANGE locks the file for this open alone.  On POSIX the program
+ * must have the right to read the directory, because its names are flushed.
  * BULGEFS_VOLUME_LOOK shares the lock with others that look, and writes nothing,
  * so it serves for a file that is read-only; a log that waits is recovered in
  * memory only.  Nobody can open the file for saves meanwhile.
