@@ -25,13 +25,7 @@ enum { BLOCKS = 32, ROOT_BLOCKS = 2, FOLDER_BLOCKS = 2, JOURNAL = 65536 };
 static uint8_t image[BULGEFS_IMAGE_SIZE(BLOCKS)];
 static uint8_t journal[JOURNAL];
 
-/*
- * A write never shortens a file.  So the settings of a box are a line of fixed
- * length, in which each setting has its place and its width: a shorter value is
- * filled up with spaces, and nothing of the old one stays.
- */
-typedef struct { const char *key; uint32_t offset, width; } setting;
-static const setting baud = {"baud=", 5, 6}, parity = {"parity=", 19, 4};
+/* The settings of a box are one line. */
 enum { LINE = 23 };
 
 /* The boxes of a venue come one after the other.  The last venue comes with the changes. */
@@ -149,32 +143,30 @@ static void clear_port(const char *path)
     note_change("clear flags", path, c.record);
 }
 
-/* Puts a value, filled up with spaces, over the old one: always so many bytes at that place. */
-static void set(const char *path, const setting *s, const char *value, uint64_t time)
+/*
+ * A write never shortens a file: "300" written over "9600" leaves "3000".  A
+ * replace gives the file exactly these bytes.
+ */
+static void replace(const char *path, const char *text, uint64_t time)
 {
-    char field[LINE + 1];
-    int len = snprintf(field, sizeof field, "%-*s", (int)s->width, value);
-    assert(len == (int)s->width);
-    put(path, s->offset, field, s->width, time);
+    bulgefs_changed c = bulgefs_replace(image, sizeof image, journal, sizeof journal, bytes(path),
+                                        strlen(path), bytes(text), strlen(text), time);
+    require(c.number, "replace", path);
+    note_change("replace", path, c.record);
+}
+
+static void set(const char *path, const char *baud, const char *parity, uint64_t time)
+{
+    char line[LINE + 1];
+    int len = snprintf(line, sizeof line, "baud=%s parity=%s", baud, parity);
+    assert(len <= LINE);
+    replace(path, line, time);
 }
 
 static void add_box(int i, uint64_t time)
 {
-    char line[LINE + 1];
-    int len = snprintf(line, sizeof line, "%s%-*s %s%-*s", baud.key, (int)baud.width,
-                       boxes[i].baud, parity.key, (int)parity.width, boxes[i].parity);
-    assert(len == LINE);
     create(boxes[i].path, time);
-    put(boxes[i].path, 0, line, LINE, time);
-}
-
-/* A text that may become shorter: the file goes, and comes again with the new text. */
-static void replace(const char *path, const char *text, uint64_t time)
-{
-    if (bulgefs_lookup(image, sizeof image, bytes(path), strlen(path)).number == BULGEFS_OK)
-        drop(path);
-    create(path, time);
-    put(path, 0, text, strlen(text), time);
+    set(boxes[i].path, boxes[i].baud, boxes[i].parity, time);
 }
 
 /* ---- what is on the volume ---- */
@@ -194,10 +186,11 @@ static void keep(int stage)
     for (int i = 0; i < BOXES; i++) {
         bulgefs_filled r = bulgefs_read(image, sizeof image, bytes(boxes[i].path),
                                         strlen(boxes[i].path), 0, (uint8_t *)lines[stage][i], LINE);
+        if (r.number != BULGEFS_NOT_FOUND)
+            require(r.number, "read", boxes[i].path);
+        lines[stage][i][r.count] = 0;
         if (r.number == BULGEFS_NOT_FOUND)
             strcpy(lines[stage][i], "-");
-        else
-            require(r.number, "read", boxes[i].path);
     }
 }
 
@@ -314,6 +307,7 @@ static void install(void)
         for (int i = v * BOXES_OF_VENUE; i < (v + 1) * BOXES_OF_VENUE; i++)
             add_box(i, 1002);
     }
+    create(scenes, 1003);
     replace(scenes, scene_list(), 1003);
     set_purchase(boxes[0].path, "bought 2024-05-13, invoice 4471");
     set_purchase(boxes[2].path, "bought 2025-01-30, invoice 5120");
@@ -326,8 +320,8 @@ static void install(void)
 static void change(void)
 {
     printf("\nChange\n");
-    set(boxes[0].path, &baud, "300", 2001);
-    set(boxes[1].path, &parity, "odd", 2002);
+    set(boxes[0].path, "300", boxes[0].parity, 2001);
+    set(boxes[1].path, boxes[1].baud, "odd", 2002);
     clear_port(boxes[1].path);
     clear_purchase(boxes[0].path);
     set_purchase(boxes[1].path, "bought 2024-06-02, invoice 4502");
