@@ -173,9 +173,11 @@ module _ (again : EveryStartTheorem) (begun : List ℕ) (b : Begun begun) where
       let f = file-facts begun (b .quiet .ok) in
       let n = imageSectors (block begun 0) in
       let m = journalSectors (block begun 0) in
-      let x = ownSectors (block begun 0) in
-      (length-part begun 1024 (512 * n) (omega (arith, f .size)), length-part begun (1024 + 512 * n) (512 * m) (omega (arith, f .size)),
-      length-part begun (1024 + 512 * n + 512 * m) (512 * x) (omega (arith, f .size)))
+      let x = ownSectors (block begun 0) in (
+        length-part begun 1024 (512 * n) (omega (arith, f .size)),
+        length-part begun (1024 + 512 * n) (512 * m) (omega (arith, f .size)),
+        length-part begun (1024 + 512 * n + 512 * m) (512 * x) (omega (arith, f .size)),
+      )
 
   -- and a run keeps their lengths
   module _ (runs : EveryRunTheorem) where
