@@ -1,22 +1,30 @@
 -- A life of a volume file, event by event.
-use Prim.Native.Nat.{ℕ, _≤_}
+use Prim.Native.Nat.{ℕ, _+_, _*_, _≤_}
 use mathlib.Core.List.{List, [], _∷_, _++_}
 use mathlib.Core.Logic.{_⊎_, inl, inr, ⊎-elim}
 use mathlib.Core.Path.{_≡_, refl, sym, ap, subst, _∙_}
+use native.Mathlib.Omega.{arith}
 use lib.ListN.{length}
 use Rattle.layout.specs.Bytes.{block}
 use Rattle.layout.specs.Limits.{minJournal, maxJournal}
+use Rattle.layout.specs.Geometry.{blockCount}
+use Rattle.layout.proofs.Laws.Bytes.{length-part}
+use Rattle.layout.proofs.Laws.Sound.{sound}
 use Rattle.journal.specs.Journal.{started}
-use Rattle.journal.specs.Run.{State, state}
-use Rattle.journal.specs.Kinds.{Kind, KindCall, stepOf, runOf, FitsRun, AllFit, standingOf, oneOf}
+use Rattle.journal.specs.Run.{Call, State, state, run}
+use Rattle.journal.specs.Replay.{RunInvariant}
+use Rattle.journal.proofs.Theorems.{run-keeps}
+use Rattle.journal.specs.Kinds.{Kind, KindCall, stepOf, runOf, FitsRun, AllFit, asCalls, standingOf, oneOf}
 use Rattle.back.specs.UndoTo.{backed, undoTo as undoToMark}
-use Rattle.volume_file.specs.Format.{imageOf, journalOf, homeOf}
-use Rattle.volume_file.specs.Save.{homeWith, prepareRefusal, committed, recovered}
+use Rattle.volume_file.specs.Format.{imageSectors, journalSectors, ownSectors, homeSectors, imageOf, journalOf, ownOf, homeOf}
+use Rattle.volume_file.proofs.Laws.Facts.{file-facts}
+use Rattle.volume_file.proofs.Walks.Logging.{prepare-lengths, lengths-ok}
+use Rattle.volume_file.specs.Save.{homeWith, changes, prepareRefusal, committed, recovered}
 use Rattle.volume_file.specs.Cuts.{Quiet, Cut, RecoveryCuts}
 use Rattle.volume_file.proofs.Laws.Parts.{accepted-held, same-image, same-journal, journal-sized}
-use Rattle.volume_file.proofs.Theorems.{prepare-accepts, whole-save, cut-save}
-use Rattle.bulgefs.specs.Runs.{kindOf, EveryStartTheorem}
-use Rattle.bulgefs.specs.Saves.{pairOf, Begun, Life, begins, calls, saves, cut, off, OneOf, BackToBegin, Kept}
+use Rattle.volume_file.proofs.Theorems.{prepare-accepts, nothing-to-save, whole-save, cut-save}
+use Rattle.bulgefs.specs.Runs.{kindOf, EveryRunTheorem, EveryStartTheorem}
+use Rattle.bulgefs.specs.Saves.{pairOf, Begun, Life, begins, calls, saves, finds, cut, off, OneOf, BackToBegin, Kept}
 
 abbrev K : Kind
 K = oneOf kindOf
@@ -88,6 +96,17 @@ module _ {start : State} {head : List ℕ} {p : State} {file : List ℕ} {saved 
           all = λ q m. ⊎-elim (λ (i : q ≡ p). subst (Reach start) (sym i) (g .reached)) (λ (z : ⊥). absurd z) m;
         }
 
+    after-find : length (changes file new) ≡ 0 → Good start head p file (p ∷ [])
+    after-find z =
+        let a = prepare-accepts file (p .image) (p .journal) own ok in
+        record {
+          quiet = g .quiet;
+          header = g .header;
+          whole = inl (held file (a .0) refl (nothing-to-save file new (a .0) (a .1) z));
+          reached = g .reached;
+          all = λ q m. ⊎-elim (λ (i : q ≡ p). subst (Reach start) (sym i) (g .reached)) (λ (z : ⊥). absurd z) m;
+        }
+
     after-cut : (left found : List ℕ) → Cut file new left → RecoveryCuts left found → Good start head (pairOf (recovered found)) (recovered found) (p ∷ saved)
     after-cut left found x y =
         let a = prepare-accepts file (p .image) (p .journal) own ok in
@@ -112,6 +131,7 @@ good begun b _ _ _ begins = record {
 }
 good begun b _ file saved (calls {p = p} l c f) = after-call (good begun b p file saved l) c f
 good begun b _ _ _ (saves {p = p} {file = file} {saved = saved} l own ok) = after-save (good begun b p file saved l) own ok
+good begun b _ file _ (finds {p = p} {saved = saved} l own ok z) = after-find (good begun b p file saved l) own ok z
 good begun b _ _ _ (cut {p = p} {file = file} {saved = saved} l own ok {left = left} {found = found} x y) =
     after-cut (good begun b p file saved l) own ok left found x y
 good begun b _ file saved (off {p = p} l) = after-off (good begun b p file saved l)
@@ -144,3 +164,41 @@ module _ (again : EveryStartTheorem) (begun : List ℕ) (b : Begun begun) where
         saved-back = λ q m. reach-back q (g .all q m);
         memory-back = reach-back p (g .reached);
       }
+
+  -- the parts of the beginning fill their sectors
+  parts-long : (length (imageOf begun) ≡ 512 * imageSectors (block begun 0)) × (length (journalOf begun) ≡ 512 * journalSectors (block begun 0))
+      × (length (ownOf begun) ≡ 512 * ownSectors (block begun 0))
+  unfolding imageOf journalOf ownOf homeSectors
+  parts-long =
+      let f = file-facts begun (b .quiet .ok) in
+      let n = imageSectors (block begun 0) in
+      let m = journalSectors (block begun 0) in
+      let x = ownSectors (block begun 0) in (
+        length-part begun 1024 (512 * n) (omega (arith, f .size)),
+        length-part begun (1024 + 512 * n) (512 * m) (omega (arith, f .size)),
+        length-part begun (1024 + 512 * n + 512 * m) (512 * x) (omega (arith, f .size)),
+      )
+
+  -- and a run keeps their lengths
+  module _ (runs : EveryRunTheorem) where
+    reach-long : (q : State) → Reach (pairOf begun) q → (length (q .image) ≡ length (imageOf begun)) × (length (q .journal) ≡ length (journalOf begun))
+    reach-long q r =
+        let size : ℕ = length (journalOf begun) in
+        let f : AllFit fresh (r .made) = subst (λ (s : State). AllFit s (r .made)) is-fresh (r .fit) in
+        let made : List Call = asCalls fresh (r .made) in
+        let e : q ≡ run fresh made = r .is ∙ ap (λ (s : State). runOf s (r .made)) is-fresh ∙ runs (imageOf begun) size (r .made) (b .sound) (sized .0) (sized .1) f .as-calls in
+        let i : RunInvariant (blockCount (imageOf begun)) size q =
+        subst (RunInvariant (blockCount (imageOf begun)) size) (sym e) (run-keeps (imageOf begun) size made (b .sound) (sized .0) (sized .1)) in
+        let k : blockCount (q .image) ≡ blockCount (imageOf begun) = i .blocks in
+        (sound (q .image) (i .sound) .whole ∙ ap (λ (n : ℕ). 512 * n) k ∙ sym (sound (imageOf begun) (b .sound) .whole), i .long)
+
+    pub accepted : (p : State) (file : List ℕ) (saved : List State) → Life begun p file saved
+        → (own : List ℕ) → length own ≡ length (ownOf begun) → prepareRefusal file (p .image) (p .journal) own ≡ 0
+    accepted p file saved l own o =
+        let g = good begun (b .quiet) p file saved l in
+        let a = reach-long p (g .reached) in
+        let s = parts-long in
+        let i : length (p .image) ≡ 512 * imageSectors (block file 0) = rw (g .header) (a .0 ∙ s .0) in
+        let j : length (p .journal) ≡ 512 * journalSectors (block file 0) = rw (g .header) (a .1 ∙ s .1) in
+        let x : length own ≡ 512 * ownSectors (block file 0) = rw (g .header) (o ∙ s .2) in
+        sym (prepare-lengths file (p .image) (p .journal) own 0 (sym (g .quiet .ok)) refl (g .quiet .none) 0 (sym (lengths-ok (block file 0) (p .image) (p .journal) own i j x)))

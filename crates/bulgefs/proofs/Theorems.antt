@@ -11,8 +11,8 @@ use Rattle.append.proofs.Laws.Runs.{pieces-stand, pieces-told}
 use Rattle.chain_table.proofs.Laws.Runs.{transfers-stand, transfers-told}
 use Rattle.back.proofs.Laws.Runs.{infos-stand, backs-stand, infos-told, backs-told}
 use Rattle.back.proofs.Theorems as back
-use Rattle.bulgefs.specs.Saves.{EveryLifeTheorem}
-use Rattle.bulgefs.proofs.Saves.{life-kept}
+use Rattle.bulgefs.specs.Saves.{EveryLifeTheorem, SaveAcceptedTheorem}
+use Rattle.bulgefs.proofs.Saves.{life-kept, accepted}
 use Rattle.bulgefs.specs.Runs.{FurtherKind, list, append, readOn, table, journalInfo, undoTo, readings, kindOf, tellOf, EveryRunTheorem, EveryCountTheorem, EveryInfoTheorem, EveryStartTheorem, EveryMarkTheorem, EveryNeverBelowTheorem}
 
 readings-stand : StandsFor readings
@@ -72,3 +72,7 @@ never-below = back.never-below (oneOf kindOf) (one-of kindOf kinds-stand)
 -- which a save was made or cut, and one undo gives back the pair of the beginning, byte for byte.
 pub every-life : EveryLifeTheorem
 every-life begun b p file saved l = life-kept start-again begun b p file saved l
+
+-- And a save is never refused.
+pub save-accepted : SaveAcceptedTheorem
+save-accepted begun b p file saved l own o = accepted start-again begun b every-run p file saved l own o

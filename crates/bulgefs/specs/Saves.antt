@@ -11,8 +11,8 @@ use Rattle.journal.specs.Journal.{started}
 use Rattle.journal.specs.Run.{State, state}
 use Rattle.journal.specs.Kinds.{KindCall, stepOf, FitsRun, oneOf}
 use Rattle.back.specs.UndoTo.{backed, undoTo as undoToMark}
-use Rattle.volume_file.specs.Format.{imageOf, journalOf}
-use Rattle.volume_file.specs.Save.{homeWith, prepareRefusal, committed, recovered}
+use Rattle.volume_file.specs.Format.{imageOf, journalOf, ownOf}
+use Rattle.volume_file.specs.Save.{homeWith, changes, prepareRefusal, committed, recovered}
 use Rattle.volume_file.specs.Cuts.{Quiet, Cut, RecoveryCuts}
 use Rattle.bulgefs.specs.Runs.{kindOf}
 
@@ -37,6 +37,10 @@ pub data Life (begun : List ℕ) : (p : State) (file : List ℕ) (saved : List S
   saves : {p : State} {file : List ℕ} {saved : List State} → Life begun p file saved
       → (own : List ℕ) → prepareRefusal file (p .image) (p .journal) own ≡ 0
       → Life begun p (recovered (committed file (homeWith (p .image) (p .journal) own))) (p ∷ [])
+  -- a save that finds nothing to write, since no sector differs
+  finds : {p : State} {file : List ℕ} {saved : List State} → Life begun p file saved
+      → (own : List ℕ) → prepareRefusal file (p .image) (p .journal) own ≡ 0
+      → length (changes file (homeWith (p .image) (p .journal) own)) ≡ 0 → Life begun p file (p ∷ [])
   -- a save that is cut, and recovery, cut any number of times before it comes to its end
   cut : {p : State} {file : List ℕ} {saved : List State} → Life begun p file saved
       → (own : List ℕ) → prepareRefusal file (p .image) (p .journal) own ≡ 0
@@ -66,3 +70,9 @@ pub record Kept (begun : List ℕ) (p : State) (file : List ℕ) (saved : List S
 abbrev pub EveryLifeTheorem : Type 0
 EveryLifeTheorem =
     (begun : List ℕ) → Begun begun → (p : State) (file : List ℕ) (saved : List State) → Life begun p file saved → Kept begun p file saved
+
+-- And a save is never refused: `prepare` accepts the pair in memory at every moment, with as many bytes of the program's own as the file has room for.
+abbrev pub SaveAcceptedTheorem : Type 0
+SaveAcceptedTheorem =
+    (begun : List ℕ) → Begun begun → (p : State) (file : List ℕ) (saved : List State) → Life begun p file saved
+    → (own : List ℕ) → length own ≡ length (ownOf begun) → prepareRefusal file (p .image) (p .journal) own ≡ 0

@@ -3,7 +3,7 @@
 use Prim.Native.Nat.{ℕ, _*_}
 use mathlib.Core.List.{List, [], _∷_, _++_, map}
 use lib.ListN.{length, replicate, getD, take}
-use Rattle.layout.specs.Bytes.{zeros, part, splice}
+use Rattle.layout.specs.Bytes.{part, splice}
 use Rattle.layout.specs.Lists.{interval}
 use Rattle.layout.specs.Looks.{Extent}
 use Rattle.layout.specs.Walks.Entries.{allZero}

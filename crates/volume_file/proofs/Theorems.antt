@@ -19,7 +19,7 @@ use Rattle.volume_file.proofs.Laws.Sectors.{sector-mixed}
 use Rattle.volume_file.proofs.Laws.Facts.{file-facts, file-ok, flagged-length, flagged-other}
 use Rattle.volume_file.proofs.Laws.Recovery.{recovered-none, recovered-waits, recovered-out, recovered-file, replayed-length, replayed-out, one-cut, many-cuts}
 use Rattle.volume_file.proofs.Laws.Prepared.{prepared-length, prepared-low, prepared-numbers, prepared-rest, committed-file, committed-other, committed-length}
-use Rattle.volume_file.proofs.Laws.Saves.{beside-home, logging-old, recovers-new, cut-either}
+use Rattle.volume_file.proofs.Laws.Saves.{home-same, beside-home, logging-old, recovers-new, cut-either}
 use Rattle.volume_file.proofs.Laws.Histories.{quiet-fits, quiet-again, save-done, save-cut, history}
 use Rattle.volume_file.proofs.Laws.Begins.{begins, begun-quiet, begun-parts}
 use Rattle.volume_file.proofs.Walks.Logging.{prepares}
@@ -77,6 +77,10 @@ whole-save = save-done
 pub cut-save : (d new : List ℕ) → Quiet d → Fits d new → (d′ d″ : List ℕ) → Cut d new d′ → RecoveryCuts d′ d″
     → Quiet (recovered d″) × (block (recovered d″) 0 ≡ block d 0) × ((homeOf (recovered d″) ≡ homeOf d) ⊎ (homeOf (recovered d″) ≡ new))
 cut-save = save-cut
+
+-- Where `prepare` finds no sector that differs the home is the new one already, and nothing has to be written.
+pub nothing-to-save : (d new : List ℕ) → Quiet d → Fits d new → length (changes d new) ≡ 0 → homeOf d ≡ new
+nothing-to-save d new q f = home-same new (file-facts d (q .ok)) (quiet-fits d new q f)
 
 -- What `prepare` accepts is a file whose log does not wait, and a new home that fits it.
 pub prepare-accepts : (d image journal own : List ℕ) → prepareRefusal d image journal own ≡ 0 → Quiet d × Fits d (homeWith image journal own)

@@ -27,11 +27,11 @@ fn write_header(file: &mut [u8], n: u32, m: u32, x: u32)
 fn begin_refusal(file: &[u8], n: u32, m: u32, x: u32) -> u32
     ensures { λ r. ⌜ r ≡ beginRefusal (now (file .entry)) n m x ⌝ }
 {
-    if !super::check::sizes_ok(n, m, x) {
+    if !super::header::sizes_ok(n, m, x) {
         return refusals::BAD_HEADER;
     }
     let h = n as usize + m as usize + x as usize;
-    if !super::check::length_ok(file, h) {
+    if !super::header::length_ok(file, h) {
         return refusals::BAD_LENGTH;
     }
     0
@@ -47,6 +47,6 @@ pub fn begin(file: &mut [u8], n: u32, m: u32, x: u32) -> u32
         return number;
     }
     write_header(file, n, m, x);
-    super::recovery::set_flag(file, 0);
+    super::log::set_flag(file, 0);
     0
 }

@@ -2,6 +2,8 @@
 // read or written here: the calls work on the bytes of the whole file in memory, and say which of them the caller has to write out.
 pub mod begin;
 pub mod check;
+mod header;
+mod log;
 pub mod parts;
 pub mod recovery;
 mod refusals;

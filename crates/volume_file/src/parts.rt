@@ -31,7 +31,7 @@ pub struct Extent {
 pub fn file_size(n: u32, m: u32, x: u32) -> usize
     ensures { λ r. ⌜ r ≡ fileSize n m x ⌝ }
 {
-    if !super::check::sizes_ok(n, m, x) {
+    if !super::header::sizes_ok(n, m, x) {
         return 0;
     }
     let h = n as usize + m as usize + x as usize;
@@ -66,7 +66,7 @@ pub fn parts_of(file: &[u8]) -> Parts
             own_length: 0,
         };
     }
-    let waits = one(super::check::log_waits(file));
+    let waits = one(super::log::log_waits(file));
     let head = block(file, 0);
     let n = 512 * get32(head, 12);
     let m = 512 * get32(head, 16);
@@ -93,14 +93,14 @@ pub fn home_extent(file: &[u8], index: usize) -> Extent
             length: 0,
         };
     }
-    let h = super::check::home_sectors(file);
+    let h = super::header::home_sectors(file);
     if h <= index {
         return Extent {
             start: 0,
             length: 0,
         };
     }
-    let a = super::check::address(file, h, index);
+    let a = super::log::address(file, h, index);
     if h <= a {
         return Extent {
             start: 0,

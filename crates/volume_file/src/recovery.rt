@@ -5,7 +5,7 @@ ghost use mathlib.Core.Path.{_≡_};
 ghost use lib.ListN.{length};
 ghost use Rattle.layout.specs.Bytes.{block, part, splice};
 ghost use Rattle.volume_file.specs.Format.{homeAt, savedAt, fileSectors, address, rising};
-ghost use Rattle.volume_file.specs.Save.{flagged, restored, afterRecover};
+ghost use Rattle.volume_file.specs.Save.{restored, afterRecover};
 ghost use Rattle.volume_file.specs.Answers.{recoverAnswered, recoverAnswer};
 
 // The refusal, or 0; 1 if the log waited; and how many of its sectors were written home.
@@ -31,7 +31,7 @@ fn restore_one(file: &mut [u8], h: usize, j: usize)
     requires { ⌜ (h ≤ 196736) × (j + 1 ≤ h) × (length (now file) ≡ 512 * fileSectors h) × (address h (now file) j + 1 ≤ h) ⌝ }
     ensures { λ _. ⌜ now (file .exit) ≡ splice (now (file .entry)) (512 * homeAt (address h (now (file .entry)) j)) (block (now (file .entry)) (savedAt h j)) ⌝ }
 {
-    let x = super::check::address(file, h, j);
+    let x = super::log::address(file, h, j);
     let a = (h + 128) / 128;
     let from = 512 * (2 + h + a + j);
     let to = 512 * (2 + x);
@@ -48,17 +48,6 @@ fn restore(file: &mut [u8], h: usize, k: usize)
     }
 }
 
-// Writes the commit sector.
-pub fn set_flag(file: &mut [u8], b: u8)
-    requires { ⌜ 1024 ≤ length (now file) ⌝ }
-    ensures { λ _. ⌜ now (file .exit) ≡ flagged (now (file .entry)) b ⌝ }
-{
-    file[512] = b;
-    let a = 513;
-    let e = 1024;
-    layout::bytes::clear(&mut file[a..e]);
-}
-
 // Steps 3 and 4 of a save, or what is left of them after a cut: recovers a file, whatever its bytes are.
 pub fn recover(file: &mut [u8]) -> Recovered
     ensures answer { λ r. ⌜ recoverAnswered (r .number) (r .waited) (r .sectors) ≡ recoverAnswer (now (file .entry)) ⌝ }
@@ -72,17 +61,17 @@ pub fn recover(file: &mut [u8]) -> Recovered
             sectors: 0,
         };
     }
-    if !super::check::log_waits(file) {
+    if !super::log::log_waits(file) {
         return Recovered {
             number: 0,
             waited: 0,
             sectors: 0,
         };
     }
-    let h = super::check::home_sectors(file);
-    let k = super::check::waiting(file, h);
+    let h = super::header::home_sectors(file);
+    let k = super::log::waiting(file, h);
     restore(file, h, k);
-    set_flag(file, 0);
+    super::log::set_flag(file, 0);
     Recovered {
         number: 0,
         waited: 1,

@@ -8,8 +8,8 @@ ghost use Rattle.volume_file.specs.Format.{homeSectors, addressAt, saved
 ghost use Rattle.volume_file.specs.Save.{homeWith, differs, changes, filled, lengthsRefusal, prepareRefusal, afterPrepare, commitRefusal, afterCommit};
 ghost use Rattle.volume_file.specs.Walks.Sectors.{WholeSectors};
 ghost use Rattle.volume_file.specs.Answers.{prepareAnswered, logPlaces, prepareAnswer};
-use super::check::home_sectors;
-use super::check::log_waits;
+use super::header::home_sectors;
+use super::log::log_waits;
 use super::refusals;
 use layout::bytes::block;
 use layout::number::get32;
@@ -172,17 +172,17 @@ pub fn prepare<'a>(file: &mut [u8], image: &'a [u8], journal: &'a [u8], own: &'a
 fn commit_refusal(file: &[u8]) -> u32
     ensures { λ r. ⌜ r ≡ commitRefusal (now (file .entry)) ⌝ }
 {
-    let number = super::check::head_refusal(file);
+    let number = super::header::head_refusal(file);
     if number != 0 {
         return number;
     }
     let h = home_sectors(file);
-    let k = super::check::log_count(file, h);
-    let wrong = super::check::log_refusal(file, h, k);
+    let k = super::log::log_count(file, h);
+    let wrong = super::log::log_refusal(file, h, k);
     if wrong != 0 {
         return wrong;
     }
-    if super::check::log_waits(file) {
+    if super::log::log_waits(file) {
         return refusals::LOG_WAITS;
     }
     0
@@ -197,6 +197,6 @@ pub fn commit(file: &mut [u8]) -> u32
     if number != 0 {
         return number;
     }
-    super::recovery::set_flag(file, 1);
+    super::log::set_flag(file, 1);
     0
 }

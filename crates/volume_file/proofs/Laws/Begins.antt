@@ -15,7 +15,7 @@ use Rattle.layout.specs.Walks.Entries.{allZero}
 use Rattle.layout.proofs.Laws.Tests.{require-zero, accept-refused}
 use Rattle.layout.proofs.Laws.Bytes.{length-splice, length-zeros, be32-at, splice-append, lent-zeros, part-splice, part-same}
 use Rattle.layout.proofs.Laws.Frames.{same-above}
-use Rattle.volume_file.specs.Format.{fileSignature, imageSectors, journalSectors, ownSectors, sizesOk, headerOk, homeSectors, fileSectors, homeOf, imageOf, journalOf, ownOf, waits}
+use Rattle.volume_file.specs.Format.{fileSignature, imageSectors, journalSectors, ownSectors, sizesOk, headerOk, homeSectors, fileSectors, imageOf, journalOf, ownOf, waits}
 use Rattle.volume_file.specs.Save.{flagged}
 use Rattle.volume_file.specs.Begin.{headerSector, begun, beginRefusal, afterBegin}
 use Rattle.volume_file.specs.Cuts.{Quiet}
@@ -130,11 +130,11 @@ module _ (d : List ℕ) (n m x : ℕ) where
     headed-long : 1024 ≤ length headed
     headed-long = omega (arith, headed-length, long)
 
-    pub begun-length : length (begun d n m x) ≡ length d
+    begun-length : length (begun d n m x) ≡ length d
     unfolding begun
     begun-length = flagged-length headed 0 headed-long ∙ headed-length
 
-    pub begun-header : block (begun d n m x) 0 ≡ headerSector n m x
+    begun-header : block (begun d n m x) 0 ≡ headerSector n m x
     unfolding begun
     begun-header = flagged-other headed 0 headed-long 0 (λ e. omega arith) ∙ part-splice d 0 (headerSector n m x) 512 (header-long n m x) (omega arith)
 
@@ -142,7 +142,7 @@ module _ (d : List ℕ) (n m x : ℕ) where
     unfolding begun
     begun-waits = flagged-waits headed 0 headed-long
 
-    pub begun-sizes : (imageSectors (block (begun d n m x) 0) ≡ n) × (journalSectors (block (begun d n m x) 0) ≡ m) × (ownSectors (block (begun d n m x) 0) ≡ x)
+    begun-sizes : (imageSectors (block (begun d n m x) 0) ≡ n) × (journalSectors (block (begun d n m x) 0) ≡ m) × (ownSectors (block (begun d n m x) 0) ≡ x)
     begun-sizes = let s = header-says n m x (b .sizes) in (rw begun-header (s .0), rw begun-header (s .1), rw begun-header (s .2))
 
     begun-sectors : homeSectors (begun d n m x) ≡ n + m + x
@@ -161,17 +161,13 @@ module _ (d : List ℕ) (n m x : ℕ) where
     begun-quiet = record { ok = file-ok (n + m + x) (begun d n m x) begun-file; none = begun-waits }
 
     -- and its home is what stood there
-    pub begun-part : (at k : ℕ) → 1024 ≤ at → at + k ≤ length d → part (begun d n m x) at k ≡ part d at k
+    begun-part : (at k : ℕ) → 1024 ≤ at → at + k ≤ length d → part (begun d n m x) at k ≡ part d at k
     unfolding begun flagged
     begun-part at k low high =
         part-same d (begun d n m x) at at k
         (λ i l. same-above headed 512 (0 ∷ zeros 511) (omega (arith, length-zeros 511, headed-long)) at k (omega (arith, length-zeros 511)) i l
         ∙ same-above d 0 (headerSector n m x) fits at k (omega (arith, header-long n m x)) i l)
         high (omega (arith, begun-length))
-
-    pub begun-home : homeOf (begun d n m x) ≡ part d 1024 (512 * (n + m + x))
-    unfolding homeOf
-    begun-home = ap (λ (h : ℕ). part (begun d n m x) 1024 (512 * h)) begun-sectors ∙ begun-part 1024 (512 * (n + m + x)) (omega arith) (omega (arith, b .size))
 
     pub begun-parts : (imageOf (begun d n m x) ≡ part d 1024 (512 * n)) × (journalOf (begun d n m x) ≡ part d (1024 + 512 * n) (512 * m))
         × (ownOf (begun d n m x) ≡ part d (1024 + 512 * n + 512 * m) (512 * x))

@@ -2,13 +2,13 @@
 use Prim.Native.Nat.{ℕ, _*_}
 use mathlib.Core.List.{List}
 use mathlib.Core.Bool.{false}
-use mathlib.Core.Path.{_≡_, refl, sym, ap, _∙_}
+use mathlib.Core.Path.{_≡_, refl, sym, _∙_}
 use native.Mathlib.Omega.{arith}
 use lib.ListN.{length}
 use Rattle.layout.specs.Bytes.{block}
-use Rattle.volume_file.specs.Format.{homeSectors, waits, logCount, headRefusal, logRefusal}
+use Rattle.volume_file.specs.Format.{homeSectors, waits, logCount}
 use Rattle.volume_file.specs.Save.{homeWith, flagged, changes, prepared, prepareRefusal, afterPrepare, committed, commitRefusal, afterCommit}
-use Rattle.volume_file.proofs.Laws.Facts.{VolumeFile, Head, head-ok, log-ok, file-facts, same-sectors, same-waits}
+use Rattle.volume_file.proofs.Laws.Facts.{VolumeFile, head-ok, log-ok, file-facts, same-sectors, same-waits}
 use Rattle.volume_file.proofs.Laws.Prepared.{changes-few, prepared-length, prepared-low, prepared-number, prepared-rising}
 use Rattle.volume_file.proofs.Laws.Histories.{quiet-fits}
 use Rattle.volume_file.proofs.Laws.Parts.{together}

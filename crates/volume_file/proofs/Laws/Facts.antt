@@ -13,10 +13,10 @@ use Rattle.layout.specs.Lists.{same, within}
 use Rattle.layout.specs.Walks.Entries.{allZero}
 use Rattle.layout.proofs.Laws.Tests.{and-split, require-zero, firstOf-zero, within-split}
 use Rattle.layout.proofs.Laws.Bytes.{length-splice, length-zeros, getD-part, splice-first}
-use Rattle.volume_file.specs.Format.{fileSignature, imageSectors, journalSectors, ownSectors, sizesOk, headerOk, homeSectors, fileSectors, countAt, address, waits, logCount, count, rising, headRefusal, logRefusal, fileRefusal}
+use Rattle.volume_file.specs.Format.{fileSignature, imageSectors, journalSectors, ownSectors, sizesOk, headerOk, homeSectors, fileSectors, countAt, waits, logCount, count, rising, headRefusal, logRefusal, fileRefusal}
 use Rattle.volume_file.specs.Save.{flagged}
 use Rattle.volume_file.proofs.Laws.Sectors.{sector-other, sector-be32}
-use Rattle.volume_file.proofs.Laws.Restored.{Rising, rising-none, rising-split, rising-join, same-address}
+use Rattle.volume_file.proofs.Laws.Restored.{Rising, rising-none, rising-split, rising-join}
 
 pub record VolumeFile (h : ℕ) (d : List ℕ) : Type 0 where
   pub sectors : homeSectors d ≡ h
@@ -56,7 +56,7 @@ pub record Log (d : List ℕ) (k : ℕ) : Type 0 where
   pub few : k ≤ homeSectors d
   pub rise : Rising (homeSectors d) d (homeSectors d) k
 
-pub log-facts : (d : List ℕ) (k : ℕ) → logRefusal d k ≡ 0 → Log d k
+log-facts : (d : List ℕ) (k : ℕ) → logRefusal d k ≡ 0 → Log d k
 unfolding logRefusal
 log-facts d k e =
     let h = homeSectors d in
@@ -76,7 +76,7 @@ file-facts d e =
     let l = log-facts d (count d) (a .1) in
     record { sectors = refl; header = b .header; size = b .size; few = l .few; rise = l .rise }
 
-pub file-head : {h : ℕ} {d : List ℕ} → VolumeFile h d → Head d
+file-head : {h : ℕ} {d : List ℕ} → VolumeFile h d → Head d
 file-head v = record { header = v .header; size = rw (v .sectors) (v .size) }
 
 pub file-ok : (h : ℕ) (d : List ℕ) → VolumeFile h d → fileRefusal d ≡ 0
@@ -149,6 +149,3 @@ module _ (d : List ℕ) (b : ℕ) (l : 1024 ≤ length d) where
   pub flagged-waits : waits (flagged d b) ≡ eqb b 1
   unfolding waits flagged
   flagged-waits = ap (λ (x : ℕ). eqb x 1) (splice-first d 512 (flag b) (omega (arith, flag-long b)) (omega (arith, flag-long b)))
-
-  pub flagged-address : (h j : ℕ) → address h (flagged d b) j ≡ address h d j
-  flagged-address h = same-address h d (flagged d b) (λ s m. flagged-other s (λ e. omega arith))

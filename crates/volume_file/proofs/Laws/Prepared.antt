@@ -21,7 +21,7 @@ use Rattle.volume_file.proofs.Laws.Sectors.{sector-beside}
 use Rattle.volume_file.proofs.Laws.Restored.{Rising, same-address, same-rising}
 use Rattle.volume_file.proofs.Laws.Facts.{VolumeFile, small, same-sectors, same-number, count-some, flagged-length, flagged-other, flagged-waits}
 
-pub in-index : (x : ℕ) (xs : List ℕ) → In x xs → (j : ℕ) × (j < length xs) × (x ≡ getD xs j 0)
+in-index : (x : ℕ) (xs : List ℕ) → In x xs → (j : ℕ) × (j < length xs) × (x ≡ getD xs j 0)
 in-index x [] m = absurd m
 in-index x (y ∷ ys) (inl e) = (0, omega arith, e)
 in-index x (y ∷ ys) (inr m) = let (j, l, e) = in-index x ys m in (suc j, omega arith, e)
@@ -43,7 +43,7 @@ module _ {h : ℕ} {d : List ℕ} (new : List ℕ) (v : VolumeFile h d) (fits : 
   in-below : (x : ℕ) → In x xs → x < h
   in-below x m = let (a, b, e) = select-in (differs d new) 0 h x (rw xs-is at m) in omega arith
 
-  pub changes-below : (j : ℕ) → j < k → getD xs j 0 < h
+  changes-below : (j : ℕ) → j < k → getD xs j 0 < h
   changes-below j l = in-below (getD xs j 0) (getD-in xs j 0 l)
 
   changes-apart : (i j : ℕ) → i < j → j < k → getD xs i 0 < getD xs j 0

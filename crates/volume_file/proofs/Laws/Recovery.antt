@@ -15,10 +15,10 @@ use Rattle.volume_file.proofs.Laws.Restored.{Alike, alike-header, alike
 use Rattle.volume_file.proofs.Laws.Facts.{VolumeFile, same-sectors, same-waits, same-count, count-none, quiet-file, flagged-length, flagged-other, flagged-waits}
 
 -- e is d but for the commit sector
-pub beside-then : {d e f : List ℕ} → Crash CommitSector d e → Crash CommitSector e f → Crash CommitSector d f
+beside-then : {d e f : List ℕ} → Crash CommitSector d e → Crash CommitSector e f → Crash CommitSector d f
 beside-then a b = record { size = b .size ∙ a .size; kept = λ s n. b .kept s n ∙ a .kept s n }
 
-pub beside-same : {d e : List ℕ} → e ≡ d → Crash CommitSector d e
+beside-same : {d e : List ℕ} → e ≡ d → Crash CommitSector d e
 beside-same q = record { size = ap length q; kept = λ s n. ap (λ (x : List ℕ). block x s) q }
 
 pub recovered-waits : (d : List ℕ) → waits d ≡ true → recovered d ≡ flagged (replayed d) 0
@@ -62,7 +62,7 @@ module _ {h : ℕ} {d : List ℕ} (v : VolumeFile h d) where
           ∙ replayed-out s (λ j l e. ⊎-elim (λ m. omega arith) (λ m. omega (arith, v .rise .below j l)) far)
       go (inr w) = ap (λ (x : List ℕ). block x s) (recovered-none d w)
 
-  pub recovered-length : length (recovered d) ≡ length d
+  recovered-length : length (recovered d) ≡ length d
   recovered-length = go (true-or-false (waits d))
     where
       go : (waits d ≡ true) ⊎ (waits d ≡ false) → length (recovered d) ≡ length d
@@ -112,7 +112,7 @@ module _ {h : ℕ} {d e : List ℕ} (v : VolumeFile h d) (a : Alike h d e (count
         });
       }
 
-  pub alike-none : waits e ≡ false → Crash CommitSector (recovered d) e → Recovers h d e
+  alike-none : waits e ≡ false → Crash CommitSector (recovered d) e → Recovers h d e
   alike-none we x = record { volume = quiet-file h e sectors (rw same-head (v .header)) (a .long ∙ v .size) we; head = same-head; same = rw (recovered-none e we) x }
 
 -- ONE CUT leaves a volume that recovers to the same file

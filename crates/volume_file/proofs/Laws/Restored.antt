@@ -126,7 +126,7 @@ module _ (h : ℕ) (d e : List ℕ) (k : ℕ) (size : length d ≡ 512 * fileSec
   pub alike-high : (s : ℕ) → 2 + h ≤ s → block e s ≡ block d s
   alike-high s l = a .others s (λ q. omega arith) (λ j m q. omega (arith, r .below j m))
 
-  pub alike-address : (j : ℕ) → address h e j ≡ address h d j
+  alike-address : (j : ℕ) → address h e j ≡ address h d j
   alike-address = same-address h d e alike-high
 
   pub alike-rising : Rising h e h k

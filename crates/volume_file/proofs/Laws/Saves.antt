@@ -27,12 +27,12 @@ module _ {h : ℕ} {d : List ℕ} (v : VolumeFile h d) where
   pub home-length : length (homeOf d) ≡ 512 * h
   home-length = rw home-is (length-part d 1024 (512 * h) (omega (arith, v .size)))
 
-  pub home-block : (i : ℕ) → i < h → block (homeOf d) i ≡ block d (homeAt i)
+  home-block : (i : ℕ) → i < h → block (homeOf d) i ≡ block d (homeAt i)
   home-block i l =
       rw home-is (part-part d 1024 (512 * h) (512 * i) 512 (omega (arith, v .size)) (omega arith)
       ∙ ap (λ (a : ℕ). part d a 512) (let e : 1024 + 512 * i ≡ 512 * homeAt i = omega arith in e))
 
-pub home-ext : {h : ℕ} {d e : List ℕ} → VolumeFile h d → VolumeFile h e → ((i : ℕ) → i < h → block e (homeAt i) ≡ block d (homeAt i)) → homeOf e ≡ homeOf d
+home-ext : {h : ℕ} {d e : List ℕ} → VolumeFile h d → VolumeFile h e → ((i : ℕ) → i < h → block e (homeAt i) ≡ block d (homeAt i)) → homeOf e ≡ homeOf d
 home-ext {h} {d} {e} v w f =
     sectors-ext (homeOf e) (homeOf d) h (home-length w) (home-length v ∙ sym (home-length w)) λ i l. home-block w i l ∙ f i l ∙ sym (home-block v i l)
 
@@ -69,6 +69,12 @@ module _ {h : ℕ} {d : List ℕ} (new : List ℕ) (v : VolumeFile h d) (fits : 
           f j n (let a = committed-address new v fits j n in omega (arith, a, q)))
           ∙ committed-home new v fits i l ∙ unchanged new v fits i l f
 
+  -- where nothing differs the home is the new one already
+  pub home-same : length (changes d new) ≡ 0 → homeOf d ≡ new
+  home-same z =
+      sectors-ext (homeOf d) new h (home-length v) (fits ∙ sym (home-length v)) λ i l.
+      home-block v i l ∙ unchanged new v fits i l (λ j m. absurd (omega (arith, m, z)))
+
   -- before the commit sector is written the file is as it was, but for its log
   module _ (z : waits d ≡ false) where
     pub record Old (e : List ℕ) : Type 0 where
@@ -88,7 +94,7 @@ module _ {h : ℕ} {d : List ℕ} (new : List ℕ) (v : VolumeFile h d) (fits : 
         still e (x .size) (low 0 (omega arith)) (same-waits d e (low 1 (omega arith)) ∙ z) (λ i l. low (homeAt i) (omega arith))
 
     -- while it is written: old, or what is committed
-    pub committing-either : (e : List ℕ) → Crash CommitSector (prepared d new) e → Old e ⊎ Recovers h (committed d new) e
+    committing-either : (e : List ℕ) → Crash CommitSector (prepared d new) e → Old e ⊎ Recovers h (committed d new) e
     committing-either e x = go (true-or-false (waits e))
       where
         low : (s : ℕ) → s < 2 + h → s ≢ 1 → block e s ≡ block d s

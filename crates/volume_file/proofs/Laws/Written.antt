@@ -1,6 +1,6 @@
 -- Writing the places that the calls answer makes the file on the disk the one in memory.
 use Prim.Native.Nat.{ℕ, zero, suc, _+_, _-_, _*_, _≤_, _<_}
-use mathlib.Core.List.{List, [], _∷_, map}
+use mathlib.Core.List.{List, _∷_, map}
 use mathlib.Core.Bool.{true}
 use mathlib.Core.Logic.{_⊎_, inl, inr, ⊎-elim}
 use mathlib.Core.Path.{_≡_, refl, sym, ap, _∙_}
@@ -71,7 +71,7 @@ module _ {h : ℕ} {d : List ℕ} (new : List ℕ) (v : VolumeFile h d) (fits : 
   same-outside s (inl l) (inl m) = sym (prepared-low new v fits s m)
   same-outside s (inl l) (inr m) = sym (prepared-numbers new v fits s m l)
 
-  pub prepared-written : splice (splice d (countAt h) (part e (countAt h) (512 * numberSectors k))) (512 * savedAt h 0) (part e (512 * savedAt h 0) (512 * k)) ≡ e
+  prepared-written : splice (splice d (countAt h) (part e (countAt h) (512 * numberSectors k))) (512 * savedAt h 0) (part e (512 * savedAt h 0) (512 * k)) ≡ e
   prepared-written =
       let few : k ≤ h = changes-few new v fits in
       let long : length e ≡ length d = prepared-length new v fits in

@@ -30,7 +30,7 @@ pub pair-left : (x y : List ℕ) (i : ℕ) → 512 * i + 512 ≤ length x → bl
 pair-left x y i h =
     sym (ap (take 512) (drop-append-le (512 * i) x y (omega arith)) ∙ take-append-le 512 (drop (512 * i) x) y (omega (arith, length-drop (512 * i) x)))
 
-pub pair-right : (x y : List ℕ) (n i : ℕ) → length x ≡ 512 * n → n ≤ i → block y (i - n) ≡ block (x ++ y) i
+pair-right : (x y : List ℕ) (n i : ℕ) → length x ≡ 512 * n → n ≤ i → block y (i - n) ≡ block (x ++ y) i
 pair-right x y n i e h =
     let q : 512 * i ≡ length x + 512 * (i - n) = omega arith in
     sym (ap (λ (o : ℕ). part (x ++ y) o 512) q ∙ ap (take 512) (drop-append-add x y (512 * (i - n))))
@@ -70,7 +70,7 @@ pub record Logging (d new : List ℕ) (h : ℕ) (t : List ℕ) (k i : ℕ) : Typ
 pub log-start : (d new : List ℕ) (h : ℕ) → Logging d new h d 0 0
 log-start d new h = record { within = omega arith; long = refl; home = λ s l. refl; place = omega arith; whole = refl }
 
-pub left-few : (d new : List ℕ) (h : ℕ) → length (left d new h 0) ≤ h
+left-few : (d new : List ℕ) (h : ℕ) → length (left d new h 0) ≤ h
 left-few d new h = rw sub-zero (omega (arith, select-split (differs d new) h 0))
 
 module _ (d new : List ℕ) (h : ℕ) (t : List ℕ) (k i : ℕ) (g : Logging d new h t k i) (l : i < h) (size : length d ≡ 512 * fileSectors h)

@@ -10,15 +10,14 @@ use lib.Dec.{eqb}
 use lib.ListN.{length, getD, set, take, drop, replicate, length-drop, length-set}
 use lib.Seq.{take-suc, getD-drop, length-take-le}
 use borrow.Author.Tests.{not-true, not-false, lt-ltb, le-ltb, lt-leb, le-leb}
-use Rattle.layout.specs.Bytes.{be32, zeros, part, block, splice}
-use Rattle.layout.specs.Refusals.{accept}
+use Rattle.layout.specs.Bytes.{zeros, part, block, splice}
 use Rattle.layout.proofs.Laws.Tests.{accept-refused, firstOf-refused}
 use Rattle.layout.proofs.Laws.Bytes.{length-splice, length-zeros, getD-splice-after, splice-append, splice-nil, splice-cons, lent-zeros}
-use Rattle.volume_file.specs.Format.{headerOk, homeSectors, homeAt, savedAt, fileSectors, countAt, address, waits, logCount, count, rising, headRefusal, logRefusal, fileRefusal}
+use Rattle.volume_file.specs.Format.{headerOk, homeSectors, homeAt, savedAt, fileSectors, address, waits, logCount, count, rising, headRefusal, logRefusal, fileRefusal}
 use Rattle.volume_file.specs.Save.{flagged, restored, replayed, recovered, afterRecover}
-use Rattle.volume_file.specs.Answers.{RecoverAnswer, recoverAnswered, recoverAnswer}
+use Rattle.volume_file.specs.Answers.{recoverAnswered, recoverAnswer}
 use Rattle.volume_file.proofs.Laws.Restored.{Rising, rising-split, rising-join, rising-fewer, same-address, restored-length, restored-out}
-use Rattle.volume_file.proofs.Laws.Facts.{VolumeFile, Head, head-facts, header-small, file-facts, small, count-none, count-some}
+use Rattle.volume_file.proofs.Laws.Facts.{VolumeFile, Head, head-facts, header-small, file-facts, small, count-none}
 use Rattle.volume_file.proofs.Laws.Recovery.{recovered-none, recovered-waits}
 
 -- the addresses, from the last to the first
@@ -115,7 +114,7 @@ module _ (d : List ℕ) (number : ℕ) (is : number ≡ headRefusal d) where
   file-refused some = sym (rw (← is) (firstOf-refused number (logRefusal d (count d)) some))
 
   module _ (z : number ≡ 0) where
-    pub head-given : Head d
+    head-given : Head d
     head-given = head-facts d (sym is ∙ z)
 
     pub head-long : 1024 ≤ length d

@@ -9,8 +9,8 @@ use Rattle.volume_file.specs.Format.{headerOk, homeSectors, fileSectors}
 use Rattle.volume_file.proofs.Laws.Facts.{header-small}
 use Rattle.volume_file.proofs.Walks.Turns.{test-true, test-false, refused-short, refused-header, refused-length, accepted-head}
 use borrow.Author.Needs.{needs}
-use Rattle.volume_file.proofs.check.head_refusal.Statement.{statement}
-use Rattle.volume_file.proofs.check.head_refusal.Tie as tie
+use Rattle.volume_file.proofs.header.head_refusal.Statement.{statement}
+use Rattle.volume_file.proofs.header.head_refusal.Tie as tie
 
 returns : tie.Need-returns
 returns c = sym (refused-short _ (omega arith))

@@ -1,7 +1,7 @@
 use Rattle.volume_file.specs.Format.{headerOk}
 use borrow.Author.Needs.{needs}
-use Rattle.volume_file.proofs.check.header_ok.Statement.{statement}
-use Rattle.volume_file.proofs.check.header_ok.Tie as tie
+use Rattle.volume_file.proofs.header.header_ok.Statement.{statement}
+use Rattle.volume_file.proofs.header.header_ok.Tie as tie
 
 sub-equal : tie.Need-sub-equal
 sub-equal c = search needs

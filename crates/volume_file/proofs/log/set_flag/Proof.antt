@@ -5,8 +5,8 @@ use mathlib.Core.Path.{refl}
 use native.Mathlib.Omega.{arith}
 use Rattle.volume_file.proofs.Walks.Turns.{flagged-made}
 use borrow.Author.Needs.{needs}
-use Rattle.volume_file.proofs.recovery.set_flag.Statement.{statement}
-use Rattle.volume_file.proofs.recovery.set_flag.Tie as tie
+use Rattle.volume_file.proofs.log.set_flag.Statement.{statement}
+use Rattle.volume_file.proofs.log.set_flag.Tie as tie
 
 slice-write-file : tie.Need-slice-write-file
 slice-write-file c = search needs

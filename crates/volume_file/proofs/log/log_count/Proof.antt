@@ -3,8 +3,8 @@ use mathlib.Core.Path.{ap, _∙_}
 use Rattle.layout.specs.Bytes.{be32}
 use Rattle.volume_file.specs.Format.{countAt, logCount}
 use borrow.Author.Needs.{needs}
-use Rattle.volume_file.proofs.check.log_count.Statement.{statement}
-use Rattle.volume_file.proofs.check.log_count.Tie as tie
+use Rattle.volume_file.proofs.log.log_count.Statement.{statement}
+use Rattle.volume_file.proofs.log.log_count.Tie as tie
 
 add-at : tie.Need-add-at
 add-at c = search needs

@@ -1,7 +1,7 @@
 use Rattle.volume_file.specs.Format.{homeSectors}
 use borrow.Author.Needs.{needs}
-use Rattle.volume_file.proofs.check.home_sectors.Statement.{statement}
-use Rattle.volume_file.proofs.check.home_sectors.Tie as tie
+use Rattle.volume_file.proofs.header.home_sectors.Statement.{statement}
+use Rattle.volume_file.proofs.header.home_sectors.Tie as tie
 
 block-requires : tie.Need-block-requires
 block-requires c κs = search needs

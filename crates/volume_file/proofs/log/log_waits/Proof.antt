@@ -1,8 +1,8 @@
 use mathlib.Core.Path.{refl}
 use Rattle.volume_file.specs.Format.{waits}
 use borrow.Author.Needs.{needs}
-use Rattle.volume_file.proofs.check.log_waits.Statement.{statement}
-use Rattle.volume_file.proofs.check.log_waits.Tie as tie
+use Rattle.volume_file.proofs.log.log_waits.Statement.{statement}
+use Rattle.volume_file.proofs.log.log_waits.Tie as tie
 
 shared-slice-read-result : tie.Need-shared-slice-read-result
 shared-slice-read-result c = search needs

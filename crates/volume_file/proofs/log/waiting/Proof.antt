@@ -1,7 +1,7 @@
 use Rattle.volume_file.proofs.Walks.Turns.{test-true, test-false, waiting-none, waiting-some}
 use borrow.Author.Needs.{needs}
-use Rattle.volume_file.proofs.check.waiting.Statement.{statement}
-use Rattle.volume_file.proofs.check.waiting.Tie as tie
+use Rattle.volume_file.proofs.log.waiting.Statement.{statement}
+use Rattle.volume_file.proofs.log.waiting.Tie as tie
 
 log-waits-requires : tie.Need-log-waits-requires
 log-waits-requires c κs = search needs

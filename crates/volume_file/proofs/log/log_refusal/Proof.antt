@@ -2,8 +2,8 @@ use mathlib.Core.Path.{sym}
 use native.Mathlib.Omega.{arith}
 use Rattle.volume_file.proofs.Walks.Turns.{test-true, test-false, refused-count, refused-addresses, accepted-log}
 use borrow.Author.Needs.{needs}
-use Rattle.volume_file.proofs.check.log_refusal.Statement.{statement}
-use Rattle.volume_file.proofs.check.log_refusal.Tie as tie
+use Rattle.volume_file.proofs.log.log_refusal.Statement.{statement}
+use Rattle.volume_file.proofs.log.log_refusal.Tie as tie
 
 returns : tie.Need-returns
 returns c = sym (refused-count _ _ _ (c .before .before .pre .2) (omega arith))

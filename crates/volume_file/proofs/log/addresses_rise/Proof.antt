@@ -3,8 +3,8 @@ use mathlib.Core.Path.{_≡_, refl, sym, _∙_}
 use native.Mathlib.Omega.{arith}
 use Rattle.volume_file.specs.Format.{rising}
 use Rattle.volume_file.proofs.Walks.Turns.{rising-no, rising-yes, rising-end}
-use Rattle.volume_file.proofs.check.addresses_rise.Statement.{statement}
-use Rattle.volume_file.proofs.check.addresses_rise.Tie as tie
+use Rattle.volume_file.proofs.log.addresses_rise.Statement.{statement}
+use Rattle.volume_file.proofs.log.addresses_rise.Tie as tie
 
 abbrev Inv-loop : tie.InvT-loop
 Inv-loop file h k limit₀ left₀ limit left = (left ≤ k) × (limit ≤ h) × (rising h file h k ≡ rising h file limit left)

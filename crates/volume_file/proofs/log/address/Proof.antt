@@ -1,7 +1,7 @@
 use Rattle.volume_file.specs.Format.{address}
 use borrow.Author.Needs.{needs}
-use Rattle.volume_file.proofs.check.address.Statement.{statement}
-use Rattle.volume_file.proofs.check.address.Tie as tie
+use Rattle.volume_file.proofs.log.address.Statement.{statement}
+use Rattle.volume_file.proofs.log.address.Tie as tie
 
 add-at : tie.Need-add-at
 add-at c = search needs
