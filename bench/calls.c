@@ -28,6 +28,9 @@
 #pragma weak bulgefs_salvage
 #pragma weak bulgefs_journal_info
 #pragma weak bulgefs_undo_to
+#pragma weak bulgefs_shorten
+#pragma weak bulgefs_replace
+#pragma weak bulgefs_move
 
 enum { MAX_FILES = 252, JOURNAL = 65536, SIZE = 1000, SMALL = 100, SETTINGS = 60 };
 
@@ -35,7 +38,7 @@ enum {
     CHECK, LOOKUP, READ, READ_NEXT, LOOK_IN_PLACE, INFO, NEXT_ENTRY, LOAD_TABLE, STORE_TABLE,
     WRITE, UNDO, WRITE_GROWS, UNDO_GROWS, APPEND, LIST, DELETE, UNDO_DELETE, CREATE, CREATE_DIRECTORY,
     DELETE_DIRECTORY, SET_ATTRIBUTES, READ_ATTRIBUTES, CLEAR_ATTRIBUTES, CLEAR_FLAGS, FIRST_PUT, PUT,
-    GET_LATEST, SALVAGE, JOURNAL_INFO, UNDO_TO, KINDS
+    GET_LATEST, SALVAGE, JOURNAL_INFO, UNDO_TO, WRITE_WHOLE, REPLACE, REPLACE_FREES, SHORTEN, MOVE, KINDS
 };
 
 static const char *const names[KINDS] = {
@@ -45,7 +48,9 @@ static const char *const names[KINDS] = {
     "delete of two blocks", "undo of it, two blocks back", "create", "create directory",
     "delete directory", "set attributes", "read attributes", "clear attributes", "clear flags",
     "first put of settings", "put of settings", "get of the latest", "salvage of a sound volume",
-    "journal info", "undo to the mark before a change in place"};
+    "journal info", "undo to the mark before a change in place",
+    "write of the whole file", "replace by as many bytes", "replace by 100 bytes, a block freed",
+    "shorten by a block", "move within a directory"};
 
 static uint8_t image[BULGEFS_IMAGE_SIZE(BULGEFS_MAX_BLOCKS)], journal[JOURNAL];
 static uint8_t data[SIZE], buffer[4096], report[BULGEFS_MAX_REPORT];
@@ -140,6 +145,21 @@ static size_t make_list(uint8_t *list, const uint8_t *path, size_t len)
     return all;
 }
 
+/* A replace beside the write of the same bytes. */
+static void time_replaces(uint32_t file, const uint8_t *path, size_t len)
+{
+    TIMED(WRITE_WHOLE, bulgefs_write(BOTH, path, len, 0, data, SIZE, 2).number);
+    require(bulgefs_undo(BOTH).number, "undo");
+    TIMED(REPLACE, bulgefs_replace(BOTH, path, len, data, SIZE, 2).number);
+    require(bulgefs_undo(BOTH).number, "undo");
+    TIMED(REPLACE_FREES, bulgefs_replace(BOTH, path, len, data, SMALL, 2).number);
+    require(bulgefs_undo(BOTH).number, "undo");
+    TIMED(SHORTEN, bulgefs_shorten(BOTH, path, len, SMALL, 2).number);
+    require(bulgefs_undo(BOTH).number, "undo");
+    TIMED(MOVE, bulgefs_move(BOTH, path, len, (const uint8_t *)"/SN999999", 9).number);
+    require(bulgefs_undo(BOTH).number, "undo");
+}
+
 static void time_changes(uint32_t file, const uint8_t *path, size_t len)
 {
     uint8_t list[256];
@@ -160,6 +180,8 @@ static void time_changes(uint32_t file, const uint8_t *path, size_t len)
         require(bulgefs_write(BOTH, path, len, 0, data, SMALL, 2).number, "write");
         TIMED(UNDO_TO, bulgefs_undo_to(BOTH, BULGEFS_FIRST_MARK).number);
     }
+    if (bulgefs_replace)
+        time_replaces(file, path, len);
     TIMED(DELETE, bulgefs_delete(BOTH, path, len).number);
     BACK(UNDO_DELETE);
     if (bulgefs_clear_flags) {
