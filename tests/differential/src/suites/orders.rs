@@ -33,9 +33,8 @@ pub fn run(rng: &mut Rng, _: u64, t: &mut Tester) {
         let one = both(t, &state, &first, &second);
         let other = both(t, &state, &second, &first);
         if let (Some(one), Some(other)) = (one, other) {
-            let inside = |path: &Vec<u8>, other: &Vec<u8>| {
-                is_inside(path, other) || is_inside(other, path)
-            };
+            let inside =
+                |path: &Vec<u8>, other: &Vec<u8>| is_inside(path, other) || is_inside(other, path);
             let (these, those) = paths.split_at(first.paths().len());
             let inside = these.iter().any(|path| those.iter().any(|other| inside(path, other)));
             t.report.agree("accepted in both orders: one path inside the other", inside, false);
