@@ -436,6 +436,23 @@ static void append(void)
     put_changed(K_append, bulgefs_append(BOTH, PATH, data, n, time));
 }
 
+static void shorten(void)
+{
+    uint64_t size = one_in(2) ? below(9) : below(900), time = next();
+    size = wide(size);
+    path_of_file();
+    put_changed(K_shorten, bulgefs_shorten(BOTH, PATH, size, time));
+}
+
+static void replace(void)
+{
+    size_t n = one_in(4) ? below(4099) : below(700);
+    uint64_t time = next();
+    path_of_file();
+    fill(data, n);
+    put_changed(K_replace, bulgefs_replace(BOTH, PATH, n ? data : 0, n, time));
+}
+
 static void big_endian(uint8_t *to, unsigned bytes, uint64_t v)
 {
     for (unsigned i = 0; i < bytes; i++) to[i] = (uint8_t)(v >> (8 * (bytes - 1 - i)));
@@ -765,6 +782,7 @@ static const struct {
     uint32_t weight;
 } steps[] = {
     {create, 14},        {write_file, 13},       {write_settings, 1},   {append, 7},         {write_list, 4},
+    {shorten, 4},        {replace, 5},
     {delete_file, 5},    {create_directory, 7},  {delete_directory, 3}, {set_attributes, 3}, {clear_attributes, 1},
     {clear_flags, 2},    {put_settings, 9},      {get_settings, 6},     {get_latest_settings, 4},
     {undo, 3},           {journal_info, 3},      {undo_to, 1},          {version, 1},        {check, 2},

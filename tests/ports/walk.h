@@ -19,6 +19,8 @@
     X(create) \
     X(write) \
     X(append) \
+    X(shorten) \
+    X(replace) \
     X(write_list) \
     X(delete) \
     X(create_directory) \
