@@ -494,6 +494,17 @@ static void delete_file(void)
     put_changed(K_delete, bulgefs_delete(BOTH, PATH));
 }
 
+static void move_file(void)
+{
+    static uint8_t to[sizeof path];
+    size_t to_len;
+    path_of_file();
+    copy(to, PATH);
+    to_len = path_len;
+    path_of_file();
+    put_created(K_move, bulgefs_move(BOTH, PATH, to, to_len));
+}
+
 static void delete_directory(void)
 {
     path_of_directory();
@@ -784,6 +795,7 @@ static const struct {
     {create, 14},        {write_file, 13},       {write_settings, 1},   {append, 7},         {write_list, 4},
     {shorten, 4},        {replace, 5},
     {delete_file, 5},    {create_directory, 7},  {delete_directory, 3}, {set_attributes, 3}, {clear_attributes, 1},
+    {move_file, 5},
     {clear_flags, 2},    {put_settings, 9},      {get_settings, 6},     {get_latest_settings, 4},
     {undo, 3},           {journal_info, 3},      {undo_to, 1},          {version, 1},        {check, 2},
     {plain_check, 1},    {lookup, 5},            {read_file, 4},        {read_next, 4},      {read_attributes, 2},

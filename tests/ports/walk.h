@@ -23,6 +23,7 @@
     X(replace) \
     X(write_list) \
     X(delete) \
+    X(move) \
     X(create_directory) \
     X(delete_directory) \
     X(set_attributes) \
