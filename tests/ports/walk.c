@@ -786,6 +786,93 @@ static void salvage(void)
     check();
 }
 
+/* The volume file: its bytes, and the parts that are saved into it. */
+
+enum { IMAGE_SECTORS = 30, JOURNAL_SECTORS = 20, OWN_SECTORS = 4 };
+static uint8_t file[BULGEFS_FILE_LENGTH(IMAGE_SECTORS, JOURNAL_SECTORS, OWN_SECTORS)], parts[3][512 * IMAGE_SECTORS];
+static size_t file_len, parts_len[3];
+#define FILE_BYTES file, file_len
+
+/* At times a length or a sector too many; a size of 0 counts as a refusal. */
+static void file_begin(void)
+{
+    uint32_t n = 3 + below(IMAGE_SECTORS - 2), m = 1 + below(JOURNAL_SECTORS), x = below(OWN_SECTORS + 1);
+    uint64_t size;
+    parts_len[0] = 512 * (size_t)n;
+    parts_len[1] = 512 * (size_t)m;
+    parts_len[2] = 512 * (size_t)x;
+    n = wide32(n);
+    m = wide32(m);
+    x = wide32(x);
+    size = bulgefs_file_size(n, m, x);
+    answer(K_file_size, size == 0);
+    put(size);
+    file_len = size <= sizeof file && !one_in(9) ? (size_t)size : below(sizeof file);
+    fill(file, sizeof file);
+    answer(K_file_begin, bulgefs_file_begin(FILE_BYTES, n, m, x));
+    put_bytes(file, sizeof file);
+}
+
+static void file_look(void)
+{
+    uint32_t index = one_in(4) ? below(60) : below(3);
+    bulgefs_file_parts_answer p = bulgefs_file_parts(FILE_BYTES);
+    bulgefs_part home;
+    index = wide32(index);
+    answer(K_file_check, bulgefs_file_check(FILE_BYTES));
+    answer(K_file_parts, p.number);
+    put(p.waits);
+    put(p.image_start);
+    put(p.image_length);
+    put(p.journal_start);
+    put(p.journal_length);
+    put(p.own_start);
+    put(p.own_length);
+    home = bulgefs_file_home(FILE_BYTES, index);
+    answer(K_file_home, home.length == 0);
+    put(home.start);
+    put(home.length);
+}
+
+/* Parts of which a few bytes changed, at times of another length. */
+static void file_prepare(void)
+{
+    size_t lengths[3];
+    bulgefs_file_prepared p;
+    for (int i = 0; i < 3; i++) {
+        flip(parts[i], sizeof parts[i]);
+        lengths[i] = one_in(30) ? 512 * (size_t)below(20) : parts_len[i];
+    }
+    p = bulgefs_file_prepare(FILE_BYTES, parts[0], lengths[0], parts[1], lengths[1], parts[2], lengths[2]);
+    answer(K_file_prepare, p.number);
+    put(p.sectors);
+    put(p.numbers_start);
+    put(p.numbers_length);
+    put(p.sectors_start);
+    put(p.sectors_length);
+    put_bytes(file, sizeof file);
+}
+
+static void file_commit(void)
+{
+    answer(K_file_commit, bulgefs_file_commit(FILE_BYTES));
+    put_bytes(file, sizeof file);
+}
+
+static void file_recover(void)
+{
+    bulgefs_file_recovered r = bulgefs_file_recover(FILE_BYTES);
+    answer(K_file_recover, r.number);
+    put(r.waited);
+    put(r.sectors);
+    put_bytes(file, sizeof file);
+}
+
+static void file_damage(void)
+{
+    flip(file, one_in(2) ? 1200 : sizeof file);
+}
+
 /* The walk. */
 
 static const struct {
@@ -801,6 +888,7 @@ static const struct {
     {plain_check, 1},    {lookup, 5},            {read_file, 4},        {read_next, 4},      {read_attributes, 2},
     {look_in_place, 6},  {info, 2},              {list_directory, 4},   {load_table, 1},     {store_table, 1},
     {salvage, 2},        {damage, 3},            {restart_journal, 1},
+    {file_begin, 1},     {file_look, 3},         {file_prepare, 3},     {file_commit, 2},    {file_recover, 3},    {file_damage, 1},
 };
 
 static void make_a_step(void)
