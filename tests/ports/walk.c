@@ -689,17 +689,31 @@ static void read_attributes(void)
 }
 
 /* It gives no number: an empty part counts as a refusal. */
-static void look_in_place(void)
+static void look_at(uint64_t index)
 {
-    uint64_t index = one_in(30) ? next() : below(3);
-    bulgefs_part p;
-    if (one_in(6)) index |= (uint64_t)1 << (32 + below(32));
-    path_of_file();
-    p = bulgefs_look_in_place(IMAGE, PATH, index);
+    bulgefs_part p = bulgefs_look_in_place(IMAGE, PATH, index);
     answer(K_look_in_place, p.length == 0);
     put(p.start);
     put(p.length);
     put_bytes(image + p.start, p.length);
+}
+
+static void look_in_place(void)
+{
+    uint64_t index = one_in(30) ? next() : below(3);
+    if (one_in(6)) index |= (uint64_t)1 << (32 + below(32));
+    path_of_file();
+    look_at(index);
+}
+
+/* A part that is not empty: the other calls tell a refusal from another, and this one does not. */
+static void look_at_a_new_file(void)
+{
+    path_len = add_name(path, 0, "f", 0);
+    put_created(K_create, bulgefs_create(BOTH, PATH, BULGEFS_PLAIN_FILE, 0, 0, 0, 0, 1));
+    fill(data, 600);
+    put_changed(K_write, bulgefs_write(BOTH, PATH, 0, data, 600, 2));
+    look_at(0);
 }
 
 static void info(void)
@@ -903,6 +917,8 @@ static void make_a_step(void)
 /* Each step once, on a large image that was just made. */
 static void all_steps(void)
 {
+    lend();
+    look_at_a_new_file();
     for (size_t i = 0; i < sizeof steps / sizeof steps[0]; i++) {
         lend();
         steps[i].make();
