@@ -436,6 +436,23 @@ static void append(void)
     put_changed(K_append, bulgefs_append(BOTH, PATH, data, n, time));
 }
 
+static void shorten(void)
+{
+    uint64_t size = one_in(2) ? below(9) : below(900), time = next();
+    size = wide(size);
+    path_of_file();
+    put_changed(K_shorten, bulgefs_shorten(BOTH, PATH, size, time));
+}
+
+static void replace(void)
+{
+    size_t n = one_in(4) ? below(4099) : below(700);
+    uint64_t time = next();
+    path_of_file();
+    fill(data, n);
+    put_changed(K_replace, bulgefs_replace(BOTH, PATH, n ? data : 0, n, time));
+}
+
 static void big_endian(uint8_t *to, unsigned bytes, uint64_t v)
 {
     for (unsigned i = 0; i < bytes; i++) to[i] = (uint8_t)(v >> (8 * (bytes - 1 - i)));
@@ -475,6 +492,17 @@ static void delete_file(void)
 {
     path_of_file();
     put_changed(K_delete, bulgefs_delete(BOTH, PATH));
+}
+
+static void move_file(void)
+{
+    static uint8_t to[sizeof path];
+    size_t to_len;
+    path_of_file();
+    copy(to, PATH);
+    to_len = path_len;
+    path_of_file();
+    put_created(K_move, bulgefs_move(BOTH, PATH, to, to_len));
 }
 
 static void delete_directory(void)
@@ -661,17 +689,31 @@ static void read_attributes(void)
 }
 
 /* It gives no number: an empty part counts as a refusal. */
-static void look_in_place(void)
+static void look_at(uint64_t index)
 {
-    uint64_t index = one_in(30) ? next() : below(3);
-    bulgefs_part p;
-    if (one_in(6)) index |= (uint64_t)1 << (32 + below(32));
-    path_of_file();
-    p = bulgefs_look_in_place(IMAGE, PATH, index);
+    bulgefs_part p = bulgefs_look_in_place(IMAGE, PATH, index);
     answer(K_look_in_place, p.length == 0);
     put(p.start);
     put(p.length);
     put_bytes(image + p.start, p.length);
+}
+
+static void look_in_place(void)
+{
+    uint64_t index = one_in(30) ? next() : below(3);
+    if (one_in(6)) index |= (uint64_t)1 << (32 + below(32));
+    path_of_file();
+    look_at(index);
+}
+
+/* A part that is not empty: the other calls tell a refusal from another, and this one does not. */
+static void look_at_a_new_file(void)
+{
+    path_len = add_name(path, 0, "f", 0);
+    put_created(K_create, bulgefs_create(BOTH, PATH, BULGEFS_PLAIN_FILE, 0, 0, 0, 0, 1));
+    fill(data, 600);
+    put_changed(K_write, bulgefs_write(BOTH, PATH, 0, data, 600, 2));
+    look_at(0);
 }
 
 static void info(void)
@@ -758,6 +800,93 @@ static void salvage(void)
     check();
 }
 
+/* The volume file: its bytes, and the parts that are saved into it. */
+
+enum { IMAGE_SECTORS = 30, JOURNAL_SECTORS = 20, OWN_SECTORS = 4 };
+static uint8_t file[BULGEFS_FILE_LENGTH(IMAGE_SECTORS, JOURNAL_SECTORS, OWN_SECTORS)], parts[3][512 * IMAGE_SECTORS];
+static size_t file_len, parts_len[3];
+#define FILE_BYTES file, file_len
+
+/* At times a length or a sector too many; a size of 0 counts as a refusal. */
+static void file_begin(void)
+{
+    uint32_t n = 3 + below(IMAGE_SECTORS - 2), m = 1 + below(JOURNAL_SECTORS), x = below(OWN_SECTORS + 1);
+    uint64_t size;
+    parts_len[0] = 512 * (size_t)n;
+    parts_len[1] = 512 * (size_t)m;
+    parts_len[2] = 512 * (size_t)x;
+    n = wide32(n);
+    m = wide32(m);
+    x = wide32(x);
+    size = bulgefs_file_size(n, m, x);
+    answer(K_file_size, size == 0);
+    put(size);
+    file_len = size <= sizeof file && !one_in(9) ? (size_t)size : below(sizeof file);
+    fill(file, sizeof file);
+    answer(K_file_begin, bulgefs_file_begin(FILE_BYTES, n, m, x));
+    put_bytes(file, sizeof file);
+}
+
+static void file_look(void)
+{
+    uint32_t index = one_in(4) ? below(60) : below(3);
+    bulgefs_file_parts_answer p = bulgefs_file_parts(FILE_BYTES);
+    bulgefs_part home;
+    index = wide32(index);
+    answer(K_file_check, bulgefs_file_check(FILE_BYTES));
+    answer(K_file_parts, p.number);
+    put(p.waits);
+    put(p.image_start);
+    put(p.image_length);
+    put(p.journal_start);
+    put(p.journal_length);
+    put(p.own_start);
+    put(p.own_length);
+    home = bulgefs_file_home(FILE_BYTES, index);
+    answer(K_file_home, home.length == 0);
+    put(home.start);
+    put(home.length);
+}
+
+/* Parts of which a few bytes changed, at times of another length. */
+static void file_prepare(void)
+{
+    size_t lengths[3];
+    bulgefs_file_prepared p;
+    for (int i = 0; i < 3; i++) {
+        flip(parts[i], sizeof parts[i]);
+        lengths[i] = one_in(30) ? 512 * (size_t)below(20) : parts_len[i];
+    }
+    p = bulgefs_file_prepare(FILE_BYTES, parts[0], lengths[0], parts[1], lengths[1], parts[2], lengths[2]);
+    answer(K_file_prepare, p.number);
+    put(p.sectors);
+    put(p.numbers_start);
+    put(p.numbers_length);
+    put(p.sectors_start);
+    put(p.sectors_length);
+    put_bytes(file, sizeof file);
+}
+
+static void file_commit(void)
+{
+    answer(K_file_commit, bulgefs_file_commit(FILE_BYTES));
+    put_bytes(file, sizeof file);
+}
+
+static void file_recover(void)
+{
+    bulgefs_file_recovered r = bulgefs_file_recover(FILE_BYTES);
+    answer(K_file_recover, r.number);
+    put(r.waited);
+    put(r.sectors);
+    put_bytes(file, sizeof file);
+}
+
+static void file_damage(void)
+{
+    flip(file, one_in(2) ? 1200 : sizeof file);
+}
+
 /* The walk. */
 
 static const struct {
@@ -765,12 +894,15 @@ static const struct {
     uint32_t weight;
 } steps[] = {
     {create, 14},        {write_file, 13},       {write_settings, 1},   {append, 7},         {write_list, 4},
+    {shorten, 4},        {replace, 5},
     {delete_file, 5},    {create_directory, 7},  {delete_directory, 3}, {set_attributes, 3}, {clear_attributes, 1},
+    {move_file, 5},
     {clear_flags, 2},    {put_settings, 9},      {get_settings, 6},     {get_latest_settings, 4},
     {undo, 3},           {journal_info, 3},      {undo_to, 1},          {version, 1},        {check, 2},
     {plain_check, 1},    {lookup, 5},            {read_file, 4},        {read_next, 4},      {read_attributes, 2},
     {look_in_place, 6},  {info, 2},              {list_directory, 4},   {load_table, 1},     {store_table, 1},
     {salvage, 2},        {damage, 3},            {restart_journal, 1},
+    {file_begin, 1},     {file_look, 3},         {file_prepare, 3},     {file_commit, 2},    {file_recover, 3},    {file_damage, 1},
 };
 
 static void make_a_step(void)
@@ -785,6 +917,8 @@ static void make_a_step(void)
 /* Each step once, on a large image that was just made. */
 static void all_steps(void)
 {
+    lend();
+    look_at_a_new_file();
     for (size_t i = 0; i < sizeof steps / sizeof steps[0]; i++) {
         lend();
         steps[i].make();

@@ -19,8 +19,11 @@
     X(create) \
     X(write) \
     X(append) \
+    X(shorten) \
+    X(replace) \
     X(write_list) \
     X(delete) \
+    X(move) \
     X(create_directory) \
     X(delete_directory) \
     X(set_attributes) \
@@ -38,7 +41,15 @@
     X(undo_to) \
     X(load_table) \
     X(store_table) \
-    X(salvage)
+    X(salvage) \
+    X(file_size) \
+    X(file_begin) \
+    X(file_check) \
+    X(file_parts) \
+    X(file_prepare) \
+    X(file_commit) \
+    X(file_recover) \
+    X(file_home)
 
 #define WALK_KIND(name) K_##name,
 enum { WALK_CALLS(WALK_KIND) WALK_KINDS, WALK_NUMBERS = 32 };
