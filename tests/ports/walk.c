@@ -617,7 +617,7 @@ static void undo_to(void)
     uint32_t mark = one_in(9) ? below(4000) : w->mark;
     mark = wide32(mark);
     lend_journal();
-    bulgefs_backed b = bulgefs_undo_to(BOTH, mark);
+    bulgefs_listed b = bulgefs_undo_to(BOTH, mark);
     answer(K_undo_to, b.number);
     put(b.done);
     put_journal();
