@@ -830,7 +830,7 @@ static void file_begin(void)
 static void file_look(void)
 {
     uint32_t index = one_in(4) ? below(60) : below(3);
-    bulgefs_file_parts_answer p = bulgefs_file_parts(FILE_BYTES);
+    bulgefs_file_places p = bulgefs_file_parts(FILE_BYTES);
     bulgefs_part home;
     index = wide32(index);
     answer(K_file_check, bulgefs_file_check(FILE_BYTES));
