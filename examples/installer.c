@@ -7,12 +7,15 @@
  * a box's settings by its serial number.
  *
  * Usage: installer [FOLDER]
- * With a folder, image and journal are left there: changed.img and
- * changed.journal before the undo, settings.img and settings.journal after it.
+ * With a folder, both are saved there as a volume file, settings.volume, once for
+ * each stage.  Image and journal are also left there by themselves, to look at:
+ * changed.img and changed.journal before the undo, settings.img and
+ * settings.journal after it.
  *
- * Build: cc -Iinclude examples/installer.c target/staticlib/libbulgefs.a -o installer
+ * Build: cc -Iinclude examples/installer.c file/bulgefs_file.c file/bulgefs_system.c
+ *           target/staticlib/libbulgefs.a -o installer
  */
-#include "bulgefs.h"
+#include "bulgefs_file.h"
 
 #include <assert.h>
 #include <stdbool.h>
@@ -513,11 +516,51 @@ static void past(void)
                   bulgefs_get_settings(box, sizeof box, serial, 6, 3, data, sizeof data), data);
 }
 
+static bool same(const char *what, const uint8_t *now, const uint8_t *then, size_t len)
+{
+    bool equal = memcmp(now, then, len) == 0;
+    printf("  %-14s  %6zu bytes %s\n", what, len, equal ? "equal" : "DIFFERENT");
+    return equal;
+}
+
+/* Ends the program if a volume file could not be made, opened or saved. */
+static void require_file(bulgefs_volume_result r, const char *what, const char *path)
+{
+    if (r.error == BULGEFS_VOLUME_OK)
+        return;
+    fprintf(stderr, "installer: %s %s: %s (%u)\n", what, path, bulgefs_volume_text(r.error),
+            (unsigned)r.system);
+    exit(EXIT_FAILURE);
+}
+
 /*
- * Leaves a file to look at.  This is not how to save settings: against a loss
- * of power, image and journal go into one new file that is renamed over the
- * old one (see the header, "What it is not").
+ * Saves the pair of each stage in one volume file, and reads the last one back.
+ * Whenever power fails here, the file holds one of these pairs, whole.
  */
+static bool save(const char *folder)
+{
+    char path[4096];
+    bulgefs_volume_file v;
+    snprintf(path, sizeof path, "%s/settings.volume", folder);
+    remove(path);
+    require_file(bulgefs_volume_create(path, images[INSTALLED], sizeof image, journals[INSTALLED],
+                                       sizeof journal, NULL, 0, NULL), "create", path);
+    require_file(bulgefs_volume_open(&v, path, BULGEFS_VOLUME_CHANGE, NULL), "open", path);
+    for (int stage = CHANGED; stage < STAGES; stage++) {
+        memcpy(v.image, images[stage], v.image_len);
+        memcpy(v.journal, journals[stage], v.journal_len);
+        require_file(bulgefs_volume_save(&v), "save", path);
+    }
+    bulgefs_volume_close(&v);
+    require_file(bulgefs_volume_open(&v, path, BULGEFS_VOLUME_LOOK, NULL), "open", path);
+    printf("\nSaved in a volume file, and read back\n");
+    bool equal = same("image", v.image, images[UNDONE], sizeof image);
+    equal = same("journal", v.journal, journals[UNDONE], sizeof journal) && equal;
+    bulgefs_volume_close(&v);
+    return equal;
+}
+
+/* Leaves a file to look at. */
 static void leave(const char *folder, const char *name, const uint8_t *content, size_t len)
 {
     char path[4096];
@@ -527,13 +570,6 @@ static void leave(const char *folder, const char *name, const uint8_t *content, 
         fprintf(stderr, "installer: cannot write %s\n", path);
         exit(EXIT_FAILURE);
     }
-}
-
-static bool same(const char *what, const uint8_t *now, const uint8_t *then, size_t len)
-{
-    bool equal = memcmp(now, then, len) == 0;
-    printf("  %-14s  %6zu bytes %s\n", what, len, equal ? "equal" : "DIFFERENT");
-    return equal;
 }
 
 int main(int argc, char **argv)
@@ -556,6 +592,7 @@ int main(int argc, char **argv)
     past();
 
     if (argc > 1) {
+        equal = save(argv[1]) && equal;
         leave(argv[1], "changed.img", images[CHANGED], sizeof image);
         leave(argv[1], "changed.journal", journals[CHANGED], sizeof journal);
         leave(argv[1], "settings.img", images[UNDONE], sizeof image);
