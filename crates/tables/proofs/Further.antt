@@ -173,8 +173,8 @@ numbersOf s = map (be32 s) (1156 ∷ 1160 ∷ 1164 ∷ 1180 ∷ 20 ∷ 24 ∷ []
 pub shortens : List (List ℕ × List ℕ)
 shortens =
     let s = p₂ .image in
-    let to = λ size. after s (shorten fileA size 77) in
-    let saved = λ size. numbers (answer p₂ (change (shorten fileA size 77))) ++ ascending 8 (named s (shorten fileA size 77)) in
+    let to : ℕ → List ℕ = λ size. after s (shorten fileA size 77) in
+    let saved : ℕ → List ℕ = λ size. numbers (answer p₂ (change (shorten fileA size 77))) ++ ascending 8 (named s (shorten fileA size 77)) in
     let behind = splice s 2561 (7 ∷ []) in
     let short : State = record { image = s; journal = started 525 } in
     -- to 0: both blocks are freed
