@@ -34,6 +34,7 @@ static enum fault armed;
 static unsigned armed_at;
 static int dead, struck;
 disk_counts disk_count;
+void (*disk_meanwhile)(void);
 static uint64_t state = 88172645463325252u;
 
 static void stop(const char *why)
@@ -390,7 +391,11 @@ static int64_t sim_lock(void *context, intptr_t file, int alone, uint32_t *numbe
 {
     int64_t answer;
     file_state *f = of(file);
+    void (*meanwhile)(void) = disk_meanwhile;
     (void)context;
+    disk_meanwhile = NULL;
+    if (meanwhile)
+        meanwhile();
     if (spoilt(meet(), number, &answer))
         return answer;
     if (f->lock < 0 || (alone && f->lock > 0)) {

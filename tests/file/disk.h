@@ -54,6 +54,8 @@ unsigned disk_unflushed(void);
 void disk_power(const uint8_t *outcomes);
 /* The program is killed: files are closed, and the cache stays. */
 void disk_kill(void);
+/* If not NULL, what another program does just before the next lock; done once. */
+extern void (*disk_meanwhile)(void);
 /* A copy of the disk and its way back. */
 void disk_keep(void);
 void disk_back(void);

@@ -368,10 +368,70 @@ static void run_quiet(void)
     bulgefs_volume_close(&v);
 }
 
+static void grow_meanwhile(void)
+{
+    judge(bulgefs_volume_grow("v", LONG_JOURNAL, &disk_system).error == 0, "a grow by another program");
+}
+
+static void create_meanwhile(void)
+{
+    judge(act_create().error == 0, "a create by another program");
+}
+
+static void replace_always(void)
+{
+    static uint8_t bytes[200000];
+    size_t length = 0;
+    memcpy(bytes, disk_bytes("v", &length), 512);
+    disk_put("v", bytes, 512);
+    disk_meanwhile = replace_always;
+}
+
+/* Another program grows or makes the file while this one has opened and not yet locked it. */
+static void run_replaced(void)
+{
+    bulgefs_volume_file v;
+    pair p;
+    world_plain();
+    disk_meanwhile = grow_meanwhile;
+    judge(bulgefs_volume_open(&v, "v", BULGEFS_VOLUME_CHANGE, &disk_system).error == 0, "an open beside a grow");
+    judge(v.journal_len == LONG_JOURNAL, "the file that was grown meanwhile");
+    v.own[1] ^= 1;
+    pair_take(&p, &v);
+    judge(bulgefs_volume_save(&v).error == 0, "a save");
+    bulgefs_volume_close(&v);
+    disk_power(NULL);
+    judge(act_open().error == 0 && pair_same(&seen, &p), "what was saved beside a grow");
+    world_empty();
+    disk_meanwhile = create_meanwhile;
+    judge(act_create().error == BULGEFS_VOLUME_EXISTS && !remnants(), "two that create");
+    judge(act_open().error == 0 && pair_same(&seen, &after), "what one of them made");
+    world_plain();
+    disk_meanwhile = replace_always;
+    judge(act_open().error == BULGEFS_VOLUME_BUSY, "a file that is replaced again and again");
+    disk_meanwhile = NULL;
+    judge(all_closed(), "files and memory given back");
+}
+
+/* Another program makes the same file, and holds it. */
+static void run_claimed(void)
+{
+    bulgefs_volume_file v;
+    world_plain();
+    put_volume("w.bulgefs-new", &before);
+    judge(bulgefs_volume_open(&v, "w.bulgefs-new", BULGEFS_VOLUME_LOOK, &disk_system).error == 0, "open");
+    judge(bulgefs_volume_create("w", before.image, IMAGE_LEN, before.journal, JOURNAL_LEN, NULL, 0, &disk_system).error
+              == BULGEFS_VOLUME_BUSY, "a create while another one makes the file");
+    bulgefs_volume_close(&v);
+    judge(remnants() == 0 && act_open().error == 0, "files as they were");
+}
+
 int main(void)
 {
     setvbuf(stdout, NULL, _IOLBF, 0);
     run_quiet();
+    run_replaced();
+    run_claimed();
     for (size_t i = 0; i < sizeof scenarios / sizeof scenarios[0]; i++)
         run_scenario(&scenarios[i]);
     return finish_tests();

@@ -26,18 +26,24 @@ static int may_be(const pair *p)
     return pair_same(p, &saved);
 }
 
-/* The program ends: it closes the file, is killed, or power is cut. */
-static void end(bulgefs_volume_file *v, int dead)
+/* At a call that was the last, power was cut or the program was killed. */
+static void end_at_once(void)
 {
-    unsigned how = dead ? 0 : disk_random(3);
-    bulgefs_volume_close(v);
-    if (how == 0) {
+    if (disk_random(2)) {
         disk_power(NULL);
         cuts++;
-    } else if (how == 1) {
+    } else {
         disk_kill();
         kills++;
     }
+}
+
+/* The program ends: it closes the file, is killed, or power is cut. */
+static void end(bulgefs_volume_file *v, int dead)
+{
+    bulgefs_volume_close(v);
+    if (dead || disk_random(3))
+        end_at_once();
 }
 
 static int is_cut(enum fault fault)
@@ -97,7 +103,7 @@ static void grow_at_random(void)
     disk_arm(fault, disk_random(24));
     grown += bulgefs_volume_grow("v", LONG_JOURNAL, &disk_system).error == 0;
     if (is_cut(fault) && disk_struck())
-        disk_power(NULL);
+        end_at_once();
     disk_arm(NO_FAULT, 0);
 }
 
