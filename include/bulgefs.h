@@ -34,13 +34,11 @@
  *
  * What it is not
  *   - The journal is an undo journal, not a journal against loss of power.
- *     Image and journal are memory; how they reach a disk is up to you.  Keep
- *     both in one file, write a new one, fsync it, rename it over the old one
- *     and fsync the directory.  Do not use a pair that was half written: most
- *     such images are refused (1 to 7), and then undo is refused too, but some
- *     look sound.  bulgefs_salvage keeps what is whole, if the root holds no
- *     directory.  The volume file, at the end of this header, saves both whole
- *     or not at all.
+ *     Image and journal are memory.  To keep them on a disk, use a volume file
+ *     (at the end of this header, and bulgefs_file.h), which saves both whole or
+ *     not at all.  Do not use a pair that was half written: most such images are
+ *     refused (1 to 7), and then undo is refused too, but some look sound.
+ *     bulgefs_salvage keeps what is whole, if the root holds no directory.
  *   - A file's bytes have no checksum.  The check finds damage to the header,
  *     the table and the form of directories; a flipped bit in a file's bytes,
  *     a time or a user is not found.
