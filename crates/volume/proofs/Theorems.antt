@@ -11,7 +11,7 @@ use lib.ListN.{length, getD, take}
 use lib.Dec.{eqb}
 use Rattle.layout.specs.Claims.{Inserted, LowestFree}
 use Rattle.layout.specs.Limits.{maxLevels}
-use Rattle.layout.specs.Lists.{has, joined}
+use Rattle.layout.specs.Lists.{has, same, joined}
 use Rattle.layout.specs.Bytes.{be32, part, splice, zeros, block}
 use Rattle.layout.specs.Geometry.{blockCount, blocksFor}
 use Rattle.layout.specs.Table.{next, freeBlocks}
@@ -28,7 +28,7 @@ use Rattle.volume.specs.Attributes.{emptied}
 use Rattle.volume.specs.Shorten.{tailLength}
 use Rattle.volume.specs.Replace.{replaceAt, replaceNamed, replaceRefusal}
 use Rattle.volume.specs.Change.{Change, create, write, createDirectory, deleteDirectory, setAttributes, clearAttributes, clearFlags, shorten, replace, refusal, after, named, slotGiven, move}
-use Rattle.volume.specs.Claims.{NoRoom, NoRoomForSet, Blanked, Apart}
+use Rattle.volume.specs.Claims.{NoRoom, NoRoomForSet, Blanked, Apart, Aside, fronts}
 use Rattle.volume.specs.Views.{File, nothing, just, fileOf, fileAt, folderAt, SameFiles, NoNewFlags, subject, further, subjects, originOf, made, madeFolder, takes, gives, givesFolder}
 use Rattle.volume.proofs.Laws.Framed.{frame}
 use Rattle.volume.proofs.Laws.Blank.{blank}
@@ -48,11 +48,13 @@ use Rattle.volume.proofs.Laws.Alike.{lookup-alike, read-alike, look-ali
 use Rattle.volume.proofs.Laws.ShownFlags as shown-flags
 use Rattle.volume.proofs.Laws.Notes as noted
 use Rattle.volume.proofs.Laws.Orders as orders
-use Rattle.volume.proofs.Laws.Orders.{Aside, aside-one}
+use Rattle.volume.proofs.Laws.Orders.{not-in, aside-differ}
 use Rattle.volume.proofs.Laws.Inside as inside
 use Rattle.layout.proofs.Laws.Looks.{look-empty as empty-refused, look-empty-only as refused-empty}
 use Rattle.layout.proofs.Laws.Sound.{sound}
-use Rattle.layout.proofs.Laws.Lists.{In, has-eqb-in, false-has}
+use Rattle.layout.proofs.Laws.Lists.{has-in, has-eqb-in, false-has}
+use Rattle.layout.proofs.Laws.Joins.{of-map}
+use Rattle.layout.proofs.Laws.Names.{same-eq, same-refl}
 use Rattle.layout.proofs.Laws.Bytes.{part-splice, splice-nil, splice-whole}
 use Rattle.layout.proofs.Laws.Owners.{free-count as count-free}
 
@@ -126,14 +128,19 @@ module _ (s : List ℕ) (ok : check s ≡ 0) where
     one-owner other too i =
         file-owner s (sound s ok) path other (file-at-path s path found) (file-at-path s other too) b (has-eqb-in b (allBlocks s (entryOf isFile s path)) mine) (has-eqb-in b (allBlocks s (entryOf isFile s other)) i)
 
-    pub no-directory : (d : ℕ × ℕ) → In d (dirs s) → has eqb b (directory s (d .0)) ≡ false
-    no-directory d i = false-has b (directory s (d .0)) (directory-apart s (sound s ok) path (file-at-path s path found) d i b (has-eqb-in b (allBlocks s (entryOf isFile s path)) mine))
+    pub no-directory : (front : ℕ) → has eqb front (fronts s) ≡ true → has eqb b (directory s front) ≡ false
+    no-directory front i =
+        let d = of-map (λ (x : ℕ × ℕ). x .0) front (dirs s) (has-eqb-in front (fronts s) i) in
+        rw (d .2) (false-has b (directory s (d .0 .0)) (directory-apart s (sound s ok) path (file-at-path s path found) (d .0) (d .1) b (has-eqb-in b (allBlocks s (entryOf isFile s path)) mine)))
 
   pub one-chain : (path : List ℕ) → fileRefusal s path ≡ 0 → (b : ℕ) → has eqb b (fileBlocks s (entryOf isFile s path)) ≡ true → has eqb b (attributeBlocks s (entryOf isFile s path)) ≡ false
   one-chain path found b i = false-has b (attributeBlocks s (entryOf isFile s path)) (chains-apart s (sound s ok) path (file-at-path s path found) b (has-eqb-in b (fileBlocks s (entryOf isFile s path)) i))
 
-  pub one-directory : (d d′ : ℕ × ℕ) → In d (dirs s) → In d′ (dirs s) → (b : ℕ) → has eqb b (directory s (d .0)) ≡ true → has eqb b (directory s (d′ .0)) ≡ true → d .0 ≡ d′ .0
-  one-directory d d′ i i′ b m k = directory-owner s (sound s ok) d d′ i i′ b (has-eqb-in b (directory s (d .0)) m) (has-eqb-in b (directory s (d′ .0)) k)
+  pub one-directory : (front other : ℕ) → has eqb front (fronts s) ≡ true → has eqb other (fronts s) ≡ true → (b : ℕ) → has eqb b (directory s front) ≡ true → has eqb b (directory s other) ≡ true → front ≡ other
+  one-directory front other i j b m k =
+      let d = of-map (λ (x : ℕ × ℕ). x .0) front (dirs s) (has-eqb-in front (fronts s) i) in
+      let e = of-map (λ (x : ℕ × ℕ). x .0) other (dirs s) (has-eqb-in other (fronts s) j) in
+      d .2 ∙ directory-owner s (sound s ok) (d .0) (e .0) (d .1) (e .1) b (rw (d .2) at (has-eqb-in b (directory s front) m)) (rw (e .2) at (has-eqb-in b (directory s other) k)) ∙ sym (e .2)
 
   -- An accepted change c.
   module _ (c : Change) (r : refusal s c ≡ 0) where
@@ -175,15 +182,15 @@ module _ (s : List ℕ) (ok : check s ≡ 0) where
     flags-stay = shown-flags.flags-stay s c ok r
 
     -- Every other path shows what it showed, and lookup, read, look in place and read attributes answer what they answered.
-    module _ (other : List ℕ) (ne : In other (subjects c) → ⊥) where
+    module _ (other : List ℕ) (aside : has same other (subjects c) ≡ false) where
       pub other-files : fileAt (after s c) other ≡ fileAt s other
-      other-files = acts s c ok r .others other ne
+      other-files = acts s c ok r .others other (not-in other (subjects c) aside)
 
       pub other-folders : folderAt (after s c) other ≡ folderAt s other
-      other-folders = acts s c ok r .folders other (λ q. ne (inl q))
+      other-folders = acts s c ok r .folders other (λ q. not-in other (subjects c) aside (inl q))
 
       pub others-lookup : lookup (after s c) other ≡ lookup s other
-      others-lookup = lookup-kept s (after s c) other ok change-sound (others-untouched s c other ok r ne)
+      others-lookup = lookup-kept s (after s c) other ok change-sound (others-untouched s c other ok r (not-in other (subjects c) aside))
 
       pub others-read : (offset : ℕ) (buffer : List ℕ) → read (after s c) other offset buffer ≡ read s other offset buffer
       others-read = read-alike (after s c) s other change-sound ok other-files
@@ -196,22 +203,24 @@ module _ (s : List ℕ) (ok : check s ≡ 0) where
 
   -- Two changes c and d of any kinds, on different paths, in either order (L13). If both, one right after the other, are accepted in both orders, then
   -- after either order every path shows the same file or directory, or nothing, and as many blocks are free (SameFiles); slots and block numbers may
-  -- differ. A move has two paths, and no path of one change is a path of the other (Aside).
-  module _ (c d : Change) (c-first : refusal s c ≡ 0) (d-second : refusal (after s c) d ≡ 0) (d-first : refusal s d ≡ 0) (c-second : refusal (after s d) c ≡ 0) where
-    pub any-order : Aside (subjects c) (subjects d) → SameFiles (after (after s c) d) (after (after s d) c)
-    any-order = orders.either-order s ok c d c-first d-second d-first c-second
+  -- differ.
+  module _ (c d : Change) (c-first : refusal s c ≡ 0) (d-second : refusal (after s c) d ≡ 0) (d-first : refusal s d ≡ 0) (c-second : refusal (after s d) c ≡ 0) (different : subject c ≢ subject d) where
+    pub either-order : SameFiles (after (after s c) d) (after (after s d) c)
+    either-order = orders.either-order s ok c d c-first d-second d-first c-second different
 
     -- L13 asks also that neither path is inside the other (Apart). That need not be asked: it follows.
-    pub any-apart : Aside (subjects c) (subjects d) → (p q : List ℕ) → In p (subjects c) → In q (subjects d) → Apart p q
-    any-apart = inside.accepted-apart s ok c d c-first d-second d-first c-second
+    pub accepted-apart : Apart (subject c) (subject d)
+    accepted-apart = inside.accepted-apart s ok c d c-first d-second d-first c-second different (subject c) (subject d) (inl refl) (inl refl)
 
-    -- The same of changes that have one path, as all but a move.
-    module _ (c-one : further c ≡ []) (d-one : further d ≡ []) (different : subject c ≢ subject d) where
-      pub either-order : SameFiles (after (after s c) d) (after (after s d) c)
-      either-order = any-order (aside-one (further c) (further d) (subject c) (subject d) c-one d-one different)
+    -- A move has two paths (N2). Of them, too, it need not be asked: no path of one change is a path of the other, or inside one.
+    pub any-apart : (p q : List ℕ) → has same p (subjects c) ≡ true → has same q (subjects d) ≡ true → Apart p q
+    any-apart p q i j =
+        inside.accepted-apart s ok c d c-first d-second d-first c-second different p q (has-in same same-eq same-refl p (subjects c) i) (has-in same same-eq same-refl q (subjects d) j)
 
-      pub accepted-apart : Apart (subject c) (subject d)
-      accepted-apart = any-apart (aside-one (further c) (further d) (subject c) (subject d) c-one d-one different) (subject c) (subject d) (inl refl) (inl refl)
+  -- The same with the list of paths of each change: no path of one is a path of the other (Aside).
+  pub any-order : (c d : Change) → refusal s c ≡ 0 → refusal (after s c) d ≡ 0 → refusal s d ≡ 0 → refusal (after s d) c ≡ 0 → Aside (subjects c) (subjects d)
+      → SameFiles (after (after s c) d) (after (after s d) c)
+  any-order c d c-first d-second d-first c-second aside = either-order c d c-first d-second d-first c-second (aside-differ (further c) (further d) (subject c) (subject d) aside)
 
   -- An accepted write.
   module _ (path : List ℕ) (offset : ℕ) (bytes : List ℕ) (time : ℕ) (r : refusal s (write path offset bytes time) ≡ 0) where

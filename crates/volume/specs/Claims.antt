@@ -1,15 +1,16 @@
 -- The words of the theorems about changes that are no views: what a reader must believe to read them.
 use Prim.Native.Nat.{ℕ, _+_, _*_, _/_, _%_, _≤_, _<_}
 use mathlib.Core.Path.{_≡_}
-use mathlib.Core.Bool.{false}
-use mathlib.Core.List.{List}
+use mathlib.Core.Bool.{true, false}
+use mathlib.Core.List.{List, map}
 use mathlib.Core.Logic.{_≢_}
 use lib.ListN.{length}
 use Rattle.layout.specs.Limits.{maxData, maxAttributes}
+use Rattle.layout.specs.Lists.{has, same}
 use Rattle.layout.specs.Bytes.{block, zeros}
 use Rattle.layout.specs.Geometry.{blockCount}
 use Rattle.layout.specs.Table.{next, freeBlocks}
-use Rattle.layout.specs.Directory.{sizeOf, isFile, attributeBlocks}
+use Rattle.layout.specs.Directory.{sizeOf, isFile, dirs, attributeBlocks}
 use Rattle.layout.specs.Paths.{entryOf, fileRefusal}
 use Rattle.layout.specs.Claims.{isInside}
 use Rattle.volume.specs.Write.{needed}
@@ -40,3 +41,11 @@ pub record Apart (path other : List ℕ) : Type 0 where
   pub differ : path ≢ other
   pub outside : isInside path other ≡ false
   pub around : isInside other path ≡ false
+
+-- N2: the paths of two changes, of which a move has two: no path of one is a path of the other
+abbrev pub Aside : List (List ℕ) → List (List ℕ) → Type 0
+Aside paths others = (path : List ℕ) → has same path paths ≡ true → has same path others ≡ false
+
+-- the first blocks of all directories
+abbrev pub fronts : List ℕ → List ℕ
+fronts s = map (λ (d : ℕ × ℕ). d .0) (dirs s)

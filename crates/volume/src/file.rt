@@ -10,15 +10,6 @@ use super::number::put32;
 use super::number::put64;
 ghost use Rattle.layout.specs.Walks.Slots.{entryAt};
 
-// Zeroes the `count` bytes at `at`.
-fn clear_part(s: &mut [u8], at: usize, count: usize)
-    requires { ⌜ at + count ≤ length (now s) ⌝ }
-    ensures { λ _. ⌜ now (s .exit) ≡ splice (now (s .entry)) at (zeros count) ⌝ }
-{
-    let e = at + count;
-    layout::bytes::clear(&mut s[at..e]);
-}
-
 // Zeroes the `count` bytes at `at` of slot k, which is in block b.
 pub fn clear_bytes(image: &mut [u8], b: usize, k: usize, at: usize, count: usize)
     requires { ⌜ (512 * b + 512 ≤ length (now image)) × (at + count ≤ 128) ⌝ }
@@ -27,7 +18,7 @@ pub fn clear_bytes(image: &mut [u8], b: usize, k: usize, at: usize, count: usize
     let o = 128 * (k % 4) + at;
     let a = 512 * b;
     let e = a + 512;
-    clear_part(&mut image[a..e], o, count);
+    super::data::clear_part(&mut image[a..e], o, count);
 }
 
 // Zeroes slot k, which is in block b.

@@ -77,9 +77,7 @@ fn clear_tail(image: &mut [u8], b: usize, o: usize, count: usize)
     requires { ⌜ (512 * b + 512 ≤ length (now image)) × (o + count ≤ 512) ⌝ }
     ensures { λ _. ⌜ now (image .exit) ≡ splice (now (image .entry)) (512 * b + o) (zeros count) ⌝ }
 {
-    let a = 512 * b + o;
-    let e = a + count;
-    layout::bytes::clear(&mut image[a..e]);
+    super::data::clear_part(image, 512 * b + o, count);
 }
 
 // An accepted shorten; gives the file's first block after it, 0 if it has none.

@@ -1,10 +1,9 @@
 -- One path inside the other (L13): two changes on such paths are not both accepted in both orders.
 use Prim.Native.Nat.{ℕ}
-use mathlib.Core.Path.{_≡_, sym, ap}
+use mathlib.Core.Path.{_≡_, sym, subst}
 use mathlib.Core.Bool.{true, false}
 use mathlib.Core.List.{List}
 use mathlib.Core.Logic.{inl, inr, ⊎-elim, _≢_}
-use native.Mathlib.Omega.{arith}
 use borrow.Author.Tests.{ne-eqb}
 use lib.ListN.{length}
 use Rattle.layout.specs.Claims.{isInside}
@@ -15,13 +14,13 @@ use Rattle.volume.specs.Create.{placeRefusal}
 use Rattle.volume.specs.Directories.{deleteDirectoryRefusal}
 use Rattle.volume.specs.Change.{Change, create, write, delete, createDirectory, deleteDirectory, setAttributes, clearAttributes, clearFlags, shorten, replace, refusal, after, move}
 use Rattle.volume.specs.Claims.{Apart}
-use Rattle.volume.specs.Views.{Folder, Maybe, nothing, just, folderAt, subject, further, subjects, madeFolder}
+use Rattle.volume.specs.Views.{subject, further, subjects, madeFolder}
 use Rattle.volume.proofs.Laws.Places.{create-given, create-directory-given, At, file-at-path, directory-at-path, place-there, place-new, write-given, set-path}
 use Rattle.volume.proofs.Laws.Shorten.{shorten-given}
 use Rattle.volume.proofs.Laws.Replace.{replace-there}
 use Rattle.volume.proofs.Laws.Moved.{move-given, move-vacant}
 use Rattle.volume.proofs.Laws.Acts.{acts}
-use Rattle.volume.proofs.Laws.Orders.{Aside}
+use Rattle.volume.proofs.Laws.Orders.{folder-there, none-common}
 use Rattle.layout.proofs.Laws.Tests.{is-false, require-zero, firstOf-zero}
 use Rattle.layout.proofs.Laws.Lists.{In}
 use Rattle.layout.proofs.Laws.Paths.{path-named}
@@ -74,18 +73,12 @@ directory-no-place s path r ne =
     place-new s path r (pathSlot isDirectory s path) (N .low) (N .high) (directory-used-type (typeOf s (slotAt (directory s (home s path)) (pathSlot isDirectory s path))) (N .typed)) (sym (N .named))
 
 -- and a delete takes it away
-is-folder : Maybe Folder → ℕ
-is-folder nothing = 0
-is-folder (just x) = 1
-
 deleted-none : (s path : List ℕ) → check s ≡ 0 → (r : refusal s (deleteDirectory path) ≡ 0) → pathSlot isDirectory (after s (deleteDirectory path)) path ≢ 0 → ⊥
-unfolding refusal subject madeFolder folderAt directoryRefusal deleteDirectoryRefusal is-folder
+unfolding refusal subject madeFolder directoryRefusal deleteDirectoryRefusal
 deleted-none s path ok r ne =
     let a = require-zero (pathOk path) 8 _ (firstOf-zero (directoryRefusal s path) _ r .0) in
     let b = require-zero (shallow (parts path)) 16 _ (a .1) in
-    let gone : is-folder (folderAt (after s (deleteDirectory path)) path) ≡ 0 = ap is-folder (acts s (deleteDirectory path) ok r .folder) in
-    let there : is-folder (folderAt (after s (deleteDirectory path)) path) ≡ 1 = rw (a .0, b .0, ne-eqb (pathSlot isDirectory (after s (deleteDirectory path)) path) 0 ne) in
-    omega arith
+    folder-there (after s (deleteDirectory path)) path (rw (a .0, b .0, ne-eqb (pathSlot isDirectory (after s (deleteDirectory path)) path) 0 ne)) (acts s (deleteDirectory path) ok r .folder)
 
 -- so a change of a path is not accepted where the path is a directory, before the change and after it
 blocked : (s : List ℕ) → check s ≡ 0 → (c : Change) → refusal s c ≡ 0 → pathSlot isDirectory s (subject c) ≢ 0 → pathSlot isDirectory (after s c) (subject c) ≢ 0 → ⊥
@@ -117,6 +110,7 @@ outside s ok c d rc rd rcd p q i j ne =
     blocked-any s ok c rc p i (outer-directory s q p (g .0) f ne (g .1) x) (outer-directory (after s c) q p (h .0) f ne (h .1) x))
 
 pub accepted-apart : (s : List ℕ) → check s ≡ 0 → (c d : Change) → refusal s c ≡ 0 → refusal (after s c) d ≡ 0 → refusal s d ≡ 0 → refusal (after s d) c ≡ 0
-    → Aside (subjects c) (subjects d) → (p q : List ℕ) → In p (subjects c) → In q (subjects d) → Apart p q
-accepted-apart s ok c d rc rcd rd rdc ne p q i j =
-    record { differ = ne p q i j; outside = outside s ok d c rd rc rdc q p j i (ne p q i j); around = outside s ok c d rc rd rcd p q i j (λ z. ne p q i j (sym z)) }
+    → subject c ≢ subject d → (p q : List ℕ) → In p (subjects c) → In q (subjects d) → Apart p q
+accepted-apart s ok c d rc rcd rd rdc different p q i j =
+    let ne : p ≢ q = λ z. none-common s ok c d rc rcd rd rdc different p i (subst (λ (x : List ℕ). In x (subjects d)) (sym z) j) in
+    record { differ = ne; outside = outside s ok d c rd rc rdc q p j i ne; around = outside s ok c d rc rd rcd p q i j (λ z. ne (sym z)) }

@@ -21,7 +21,7 @@ use Rattle.layout.specs.Looks.{lookupRefusal, lookup, readRefusal, read, extent
 use Rattle.volume.specs.Delete.{allBlocks}
 use Rattle.volume.specs.Views.{File, Maybe, nothing, just, fileOf, fileAt}
 use Rattle.volume.proofs.Laws.Places.{At, write-given}
-use Rattle.volume.proofs.Laws.Views.{file-shown, shown-accepted}
+use Rattle.volume.proofs.Laws.Views.{not-nothing, file-shown, shown-accepted}
 use Rattle.volume.proofs.Laws.Effects.{OwnKept, content-length, attributes-blocks}
 use Rattle.volume.proofs.Laws.Framed.{at-entry}
 use Rattle.layout.proofs.Laws.Looks.{lookup-file, look-content}
@@ -77,14 +77,7 @@ module _ (s path : List ℕ) (ok : check s ≡ 0) (f : File) (shows : fileAt s p
 
 -- what shows no file is refused
 pub not-shown : (s path : List ℕ) → fileAt s path ≡ nothing → fileRefusal s path ≢ 0
-not-shown s path q z = absurd-just (sym (file-shown s path z) ∙ q)
-  where
-    is-file : Maybe File → ℕ
-    is-file nothing = 0
-    is-file (just x) = 1
-
-    absurd-just : {f : File} → _≡_ {A = Maybe File} (just f) nothing → ⊥
-    absurd-just e = let z : _≡_ {A = ℕ} 1 0 = ap is-file e in omega arith
+not-shown s path q z = not-nothing (fileOf s (entryOf isFile s path)) (sym (file-shown s path z) ∙ q)
 
 -- data put at an offset within a list reaches to its end
 pub splice-long : (s : List ℕ) (at : ℕ) (p : List ℕ) → at ≤ length s → at + length p ≤ length (splice s at p)

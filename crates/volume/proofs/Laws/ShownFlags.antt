@@ -13,7 +13,7 @@ use Rattle.volume.specs.Create.{placeRefusal}
 use Rattle.volume.specs.Change.{Change, create, write, delete, createDirectory, deleteDirectory, setAttributes, clearAttributes, clearFlags, shorten, replace, refusal, after, move}
 use Rattle.volume.specs.Views.{File, Folder, Maybe, nothing, just, fileAt, folderAt, flagsIn, folderFlagsIn, NoNewFlags, subject, made, madeFolder, further, originOf}
 use Rattle.volume.proofs.Laws.Places.{create-given, create-directory-given, file-at-path, place-new}
-use Rattle.volume.proofs.Laws.Views.{shown-accepted}
+use Rattle.volume.proofs.Laws.Views.{not-nothing, shown-accepted}
 use Rattle.volume.proofs.Laws.Acts.{acts}
 use Rattle.volume.proofs.Laws.Orders.{in-or-not}
 use Rattle.layout.proofs.Laws.Tests.{is-false}
@@ -24,13 +24,6 @@ use Rattle.layout.proofs.Laws.Owners.{file-used-type}
 none : (flags : ℕ) → flags ≡ 0 → bytes4 flags ≡ zeros 4
 unfolding bytes4 zeros
 none flags e = rw e
-
-abbrev is-file : Maybe File → ℕ
-is-file nothing = 0
-is-file (just x) = 1
-
-no-file : (f : File) → _≡_ {A = Maybe File} nothing (just f) → ⊥
-no-file f e = let z : _≡_ {A = ℕ} 0 1 = ap is-file e in omega arith
 
 module _ (s : List ℕ) where
   -- of what its own path shows
@@ -79,7 +72,7 @@ module _ (s : List ℕ) where
   unfolding refusal made subject
   made-stay (create path type user group permissions flags time) f g r q m ne = absurd (file-no-place path (shown-accepted s path g q) (create-given s path type flags r .placed))
   made-stay (write path offset bytes time) f g r q m ne = ap flagsIn (sym m)
-  made-stay (delete path) f g r q m ne = absurd (no-file f m)
+  made-stay (delete path) f g r q m ne = absurd (not-nothing f (sym m))
   made-stay (createDirectory path type user group permissions flags time d) f g r q m ne = ap flagsIn (sym m)
   made-stay (deleteDirectory path) f g r q m ne = ap flagsIn (sym m)
   made-stay (setAttributes path bytes) f g r q m ne = ap flagsIn (sym m)
@@ -87,7 +80,7 @@ module _ (s : List ℕ) where
   made-stay (clearFlags path) f g r q m ne = absurd (ne refl)
   made-stay (shorten path size time) f g r q m ne = ap flagsIn (sym m)
   made-stay (replace path bytes time) f g r q m ne = ap flagsIn (sym m)
-  made-stay (move path to) f g r q m ne = absurd (no-file f m)
+  made-stay (move path to) f g r q m ne = absurd (not-nothing f (sym m))
 
   module _ (c : Change) (ok : check s ≡ 0) (r : refusal s c ≡ 0) where
     -- where a move has brought a file, those that it had
@@ -110,7 +103,7 @@ module _ (s : List ℕ) where
     flags-stay path f g was now ne = go (same-or-not path (subject c)) (in-or-not path (further c))
       where
         go : (path ≡ subject c) ⊎ (path ≢ subject c) → In path (further c) ⊎ (In path (further c) → ⊥) → f .flags ≡ g .flags
-        go w (inl i) = absurd (no-file g (sym (acts s c ok r .vacant path i) ∙ was))
+        go w (inl i) = absurd (not-nothing g (sym was ∙ acts s c ok r .vacant path i))
         go (inl e) (inr out) =
             let q : fileAt s (subject c) ≡ just g = rw e at was in
             made-stay c f g r q (ap (made c) (sym q) ∙ sym (acts s c ok r .own) ∙ (rw e at now)) (λ z. ne (z ∙ ap clearFlags (sym e)))

@@ -50,17 +50,21 @@ pub file-shown : (s path : List ℕ) → fileRefusal s path ≡ 0 → fileAt s p
 unfolding fileAt
 file-shown s path r = rw r
 
+-- something is not nothing
+pub not-nothing : {A : Type 0} (x : A) → _≡_ {A = Maybe A} (just x) nothing → ⊥
+not-nothing {A} x e = true-not-false {a = is (just x)} refl (ap is e)
+  where
+    is : Maybe A → Bool
+    is nothing = false
+    is (just y) = true
+
 pub shown-accepted : (s path : List ℕ) (f : File) → fileAt s path ≡ just f → fileRefusal s path ≡ 0
 unfolding fileAt
 shown-accepted s path f q = go (fileRefusal s path) refl
   where
-    is : Maybe File → Bool
-    is nothing = false
-    is (just x) = true
-
     go : (k : ℕ) → fileRefusal s path ≡ k → fileRefusal s path ≡ 0
     go zero z = z
-    go (suc k) z = absurd (true-not-false {a = is (just f)} refl (sym (ap is (rw z at q))))
+    go (suc k) z = absurd (not-nothing f (sym (rw z at q)))
 
 pub none-shown : (s path : List ℕ) → pathSlot isFile s path ≡ 0 → fileAt s path ≡ nothing
 unfolding fileAt fileRefusal
