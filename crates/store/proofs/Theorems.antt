@@ -5,11 +5,11 @@
 use Prim.Native.Nat.{ℕ, suc, _+_, _/_, _≤_, _<_}
 use mathlib.Core.Path.{_≡_, refl, sym, ap, _∙_}
 use mathlib.Core.Bool.{Bool, true, false, _&&_, cond}
-use mathlib.Core.List.{List, [], _∷_}
+use mathlib.Core.List.{List, _∷_}
 use mathlib.Core.Logic.{_≢_}
 use lib.ListN.{length, getD}
 use lib.Dec.{eqb, leb}
-use Rattle.layout.specs.Lists.{has}
+use Rattle.layout.specs.Lists.{has, same}
 use Rattle.layout.specs.Refusals.{require, firstOf}
 use Rattle.layout.specs.Directory.{slash}
 use Rattle.layout.specs.Bytes.{be32, splice}
@@ -19,7 +19,7 @@ use Rattle.volume.specs.Create.{placeRefusal}
 use Rattle.volume.specs.Write.{needed}
 use Rattle.layout.specs.Check.{check}
 use Rattle.layout.specs.Looks.{lookup, read, lookInPlace, readAttributes, isRootPath}
-use Rattle.volume.specs.Claims.{Blanked}
+use Rattle.volume.specs.Claims.{Blanked, Aside}
 use Rattle.volume.specs.Views.{File, just, fileAt, folderAt, SameFiles, NoNewFlags, originOf}
 use Rattle.store.specs.Settings.{maxSetting, Revision, encoded, held, revisions}
 use Rattle.store.specs.Put.{serialOk, root, front, pathOf, addressRefusal, isThere, stored, opened, entryAt, rewritten, formRefusal, putImage, putRevision, putRefusal}
@@ -33,8 +33,7 @@ use Rattle.store.proofs.Laws.Whole as whole
 use Rattle.store.proofs.Laws.Sound.{kept}
 use Rattle.store.proofs.Laws.Framed.{frame}
 use Rattle.store.proofs.Laws.Blank.{blank}
-use Rattle.volume.proofs.Laws.Orders.{Aside, aside-one}
-use Rattle.layout.proofs.Laws.Lists.{In}
+use Rattle.volume.proofs.Laws.Orders.{not-in, aside-differ}
 use Rattle.store.proofs.Laws.Orders as orders
 use Rattle.store.proofs.Laws.Shown as shows
 use Rattle.store.proofs.Laws.Serials.{answer-same}
@@ -82,15 +81,15 @@ module _ (s : List ℕ) (ok : check s ≡ 0) where
     flags-stay = shows.flags-stay s c ok r
 
     -- Every other path shows what it showed, and lookup, read, look in place and read attributes answer what they answered.
-    module _ (other : List ℕ) (ne : In other (subjects c) → ⊥) where
+    module _ (other : List ℕ) (aside : has same other (subjects c) ≡ false) where
       pub other-files : fileAt (after s c) other ≡ fileAt s other
-      other-files = shows.others s c ok r other ne
+      other-files = shows.others s c ok r other (not-in other (subjects c) aside)
 
       pub other-folders : folderAt (after s c) other ≡ folderAt s other
-      other-folders = shows.folders s c ok r other ne
+      other-folders = shows.folders s c ok r other (not-in other (subjects c) aside)
 
       pub others-lookup : lookup (after s c) other ≡ lookup s other
-      others-lookup = shows.others-lookup s c ok r other ne
+      others-lookup = shows.others-lookup s c ok r other (not-in other (subjects c) aside)
 
       pub others-read : (offset : ℕ) (buffer : List ℕ) → read (after s c) other offset buffer ≡ read s other offset buffer
       others-read = read-alike (after s c) s other change-sound ok other-files
@@ -101,15 +100,15 @@ module _ (s : List ℕ) (ok : check s ≡ 0) where
       pub others-attributes : (buffer : List ℕ) → readAttributes (after s c) other buffer ≡ readAttributes s other buffer
       others-attributes = attributes-alike (after s c) s other change-sound ok other-files
 
-  -- L13. Two changes on different paths, accepted one right after the other in both orders, leave the same files and free count either way. A move has two
-  -- paths, and no path of one change is a path of the other (Aside); of changes that have one path, as all but a move, they differ.
+  -- L13. Two changes on different paths, accepted one right after the other in both orders, leave the same files and free count either way.
+  pub either-order : (c d : Change) → refusal s c ≡ 0 → refusal (after s c) d ≡ 0 → refusal s d ≡ 0 → refusal (after s d) c ≡ 0 → subject c ≢ subject d
+      → SameFiles (after (after s c) d) (after (after s d) c)
+  either-order = orders.either-order s ok
+
+  -- The same with the list of paths of each change, of which a move has two: no path of one is a path of the other (Aside).
   pub any-order : (c d : Change) → refusal s c ≡ 0 → refusal (after s c) d ≡ 0 → refusal s d ≡ 0 → refusal (after s d) c ≡ 0 → Aside (subjects c) (subjects d)
       → SameFiles (after (after s c) d) (after (after s d) c)
-  any-order = orders.either-order s ok
-
-  pub either-order : (c d : Change) → further c ≡ [] → further d ≡ [] → refusal s c ≡ 0 → refusal (after s c) d ≡ 0 → refusal s d ≡ 0 → refusal (after s d) c ≡ 0 → subject c ≢ subject d
-      → SameFiles (after (after s c) d) (after (after s d) c)
-  either-order c d c-one d-one rc rcd rd rdc ne = any-order c d rc rcd rd rdc (aside-one (further c) (further d) (subject c) (subject d) c-one d-one ne)
+  any-order c d rc rcd rd rdc aside = either-order c d rc rcd rd rdc (aside-differ (further c) (further d) (subject c) (subject d) aside)
 
 -- THE FORM of a file: revisions that fit it (Fits, Small), written into a file of any size, are read back; and a file of the form, of bytes (Bytes), is what
 -- its revisions are written as.
@@ -159,9 +158,10 @@ module _ (s directory serial : List ℕ) (time : ℕ) (bytes : List ℕ) (ok : c
   get-others = gets.others s directory serial time bytes ok r
 
 -- Every answer stays after a change that is about another path.
-pub get-stays : (s : List ℕ) (c : Change) (directory serial : List ℕ) → check s ≡ 0 → refusal s c ≡ 0 → (In (pathOf directory serial) (subjects c) → ⊥)
+pub get-stays : (s : List ℕ) (c : Change) (directory serial : List ℕ) → check s ≡ 0 → refusal s c ≡ 0 → has same (pathOf directory serial) (subjects c) ≡ false
     → (which : Which) (buffer : List ℕ) → getIn (after s c) directory serial which buffer ≡ getIn s directory serial which buffer
-get-stays s c directory serial ok r ne = answer-same s (after s c) directory serial (kept s c ok r ∙ sym ok) (shows.others s c ok r (pathOf directory serial) ne)
+get-stays s c directory serial ok r aside =
+    answer-same s (after s c) directory serial (kept s c ok r ∙ sym ok) (shows.others s c ok r (pathOf directory serial) (not-in (pathOf directory serial) (subjects c) aside))
 
 -- IN THE ROOT, L10: the path is `/` and the serial number, and of the refusals of directory and serial number only L10's 22 is left, so that every definition
 -- with the root for its directory is L10's.

@@ -2,9 +2,9 @@
 use Prim.Native.Nat.{ℕ}
 use mathlib.Core.Path.{_≡_, ap, _∙_, subst}
 use mathlib.Core.List.{List}
+use mathlib.Core.Logic.{_≢_}
 use Rattle.volume.specs.Views.{SameFiles}
-use Rattle.store.specs.Change.{Change, refusal, after, subjects}
-use Rattle.volume.proofs.Laws.Orders.{Aside}
+use Rattle.store.specs.Change.{Change, refusal, after, subject}
 use Rattle.store.proofs.Theorems as store
 use Rattle.journal.specs.Run.{State, changeRefusal, afterChange}
 use Rattle.journal.proofs.Laws.Undo.{accepted}
@@ -23,9 +23,9 @@ module _ (p : State) (c d : Change) (rc : changeRefusal p c ≡ 0) (rd : changeR
 
 pub either-order : (p : State) (c d : Change)
     → changeRefusal p c ≡ 0 → changeRefusal (afterChange p c) d ≡ 0 → changeRefusal p d ≡ 0 → changeRefusal (afterChange p d) c ≡ 0
-    → Aside (subjects c) (subjects d) → SameFiles (afterChange (afterChange p c) d .image) (afterChange (afterChange p d) c .image)
+    → subject c ≢ subject d → SameFiles (afterChange (afterChange p c) d .image) (afterChange (afterChange p d) c .image)
 either-order p c d rc rcd rd rdc ne =
     let C = accepted p c rc in
     let D = accepted p d rd in
     rw (both-images p c d rc rcd, both-images p d c rd rdc)
-    (store.any-order (p .image) (C .sound) c d (C .allowed) (second-allowed p c d rc rcd) (D .allowed) (second-allowed p d c rd rdc) ne)
+    (store.either-order (p .image) (C .sound) c d (C .allowed) (second-allowed p c d rc rcd) (D .allowed) (second-allowed p d c rd rdc) ne)

@@ -2,19 +2,19 @@
 use Prim.Native.Nat.{ℕ, _+_}
 use mathlib.Core.Path.{_≡_, sym, ap, _∙_}
 use mathlib.Core.List.{List}
-use mathlib.Core.Logic.{inl}
+use mathlib.Core.Logic.{inl, _≢_}
 use Rattle.layout.specs.Directory.{sizeOf}
 use Rattle.layout.specs.Check.{check}
 use Rattle.volume.specs.Change as changes
 use Rattle.volume.specs.Views as views
-use Rattle.volume.specs.Views.{File, Maybe, fileOf, fileAt, SameFiles}
+use Rattle.volume.specs.Views.{File, Maybe, nothing, just, fileOf, fileAt, SameFiles}
 use Rattle.store.specs.Put.{pathOf, opened, entryAt, rewritten, putImage, putRefusal}
-use Rattle.store.specs.Change.{Change, plain, putIn, refusal, after, subject, further, subjects}
+use Rattle.store.specs.Change.{Change, plain, putIn, refusal, after, subject, further}
 use Rattle.store.specs.Views.{lengthIn, openedIn, writeIn, made, madeFolder, takes, gives, givesFolder}
-use Rattle.volume.proofs.Laws.Views.{file-shown}
+use Rattle.volume.proofs.Laws.Views.{not-nothing, file-shown}
 use Rattle.volume.proofs.Laws.Effects.{content-length}
 use Rattle.volume.proofs.Laws.Orders as volume
-use Rattle.volume.proofs.Laws.Orders.{Action, Done, Aside, shown, same-files}
+use Rattle.volume.proofs.Laws.Orders.{Action, Done, Shown, shown, same-files}
 use Rattle.store.proofs.Laws.Serials.{there-shown, absent-shown, stored-view}
 use Rattle.store.proofs.Laws.Put.{by-opened, created, put-serial, opened-sound, opened-accepted, opened-used, put-effect, put-sound, put-others, put-folders, put-length}
 use Rattle.store.proofs.Laws.Sound.{kept}
@@ -60,12 +60,21 @@ module _ (s directory serial : List ℕ) (time : ℕ) (bytes : List ℕ) (ok : c
   unfolding changes.after views.subject putImage entryAt made
   put-own = rw (put-effect s directory serial time bytes ok r .own, whole-view, opened-view)
 
+  -- after a put there is a file
+  put-some : (m : Maybe File) → made (putIn directory serial time bytes) m ≢ nothing
+  unfolding made views.made
+  put-some nothing q = not-nothing _ q
+  put-some (just f) q = not-nothing _ q
+
   put-done : Done (action (putIn directory serial time bytes)) s (putImage s directory serial time bytes)
   unfolding shown changes.after views.subject views.gives putImage entryAt subject further madeFolder takes gives givesFolder
   put-done =
       let W = put-effect s directory serial time bytes ok r in
       record {
         own = rw (put-own, put-folders s directory serial time bytes ok r path);
+        alive = λ q now. put-some was (sym put-own ∙ ap (λ (m : Shown). m .0) now);
+        vacant = λ to i. absurd i;
+        brings = λ to i. absurd i;
         arrived = λ to i. absurd i;
         others = λ other ne. rw (put-others s directory serial time bytes ok r other (λ q. ne (inl q)), put-folders s directory serial time bytes ok r other);
         used = W .used ∙ rw (opened-used s directory serial time bytes ok r, whole-view, opened-view);
@@ -79,7 +88,7 @@ done s (plain c) ok r = volume.done s c ok r
 done s (putIn directory serial time bytes) ok r = put-done s directory serial time bytes ok r
 
 pub either-order : (s : List ℕ) → check s ≡ 0 → (c d : Change) → refusal s c ≡ 0 → refusal (after s c) d ≡ 0 → refusal s d ≡ 0 → refusal (after s d) c ≡ 0
-    → Aside (subjects c) (subjects d) → SameFiles (after (after s c) d) (after (after s d) c)
+    → subject c ≢ subject d → SameFiles (after (after s c) d) (after (after s d) c)
 either-order s ok c d rc rcd rd rdc ne =
     same-files (action c) (action d) ne s (after s c) (after (after s c) d) (after s d) (after (after s d) c)
     (done s c ok rc) (done (after s c) d (kept s c ok rc) rcd) (done s d ok rd) (done (after s d) c (kept s d ok rd) rdc)

@@ -13,6 +13,7 @@ use Rattle.store.specs.Put.{pathOf, opened, entryAt, rewritten, putImage
 use Rattle.store.specs.Change.{Change, plain, putIn, clearFlags, refusal, after, subject, further, subjects}
 use Rattle.store.specs.Views.{made, madeFolder, takes, gives, givesFolder}
 use Rattle.volume.proofs.Laws.Content.{write-untouched}
+use Rattle.volume.proofs.Laws.Acts.{others-untouched}
 use Rattle.volume.proofs.Laws.Shown.{lookup-kept}
 use Rattle.volume.proofs.Laws.Orders.{Shown, shown}
 use Rattle.volume.proofs.Theorems as volume
@@ -53,6 +54,10 @@ put-stay : (directory serial : List ℕ) (time : ℕ) (bytes : List ℕ) (g : Fi
 unfolding made views.made
 put-stay directory serial time bytes g = refl
 
+-- look up, the slot too
+plain-lookup : (s : List ℕ) (c : changes.Change) → check s ≡ 0 → changes.refusal s c ≡ 0 → (other : List ℕ) → (In other (views.subjects c) → ⊥) → lookup (changes.after s c) other ≡ lookup s other
+plain-lookup s c ok r other ne = lookup-kept s (changes.after s c) other ok (volume.change-sound s ok c r) (others-untouched s c other ok r ne)
+
 module _ (s directory serial : List ℕ) (time : ℕ) (bytes : List ℕ) (ok : check s ≡ 0) (r : putRefusal s directory serial time bytes ≡ 0) where
   abbrev t : List ℕ
   t = opened s directory serial time
@@ -63,10 +68,10 @@ module _ (s directory serial : List ℕ) (time : ℕ) (bytes : List ℕ) (ok : c
   abbrev s′ : List ℕ
   s′ = putImage s directory serial time bytes
 
-  -- look up, the slot too: as of the create and of the write
+  -- as of the create and of the write
   opened-lookup : (other : List ℕ) → other ≢ path → lookup t other ≡ lookup s other
   unfolding changes.refusal changes.after views.subject views.further
-  opened-lookup other ne = by-opened s directory serial time bytes ok r (λ x. lookup x other ≡ lookup s other) (λ q. refl) (λ q c. volume.others-lookup s ok (changes.create path 0x60 0 0 0 0 time) c other (λ i. ⊎-elim ne (λ x. x) i))
+  opened-lookup other ne = by-opened s directory serial time bytes ok r (λ x. lookup x other ≡ lookup s other) (λ q. refl) (λ q c. plain-lookup s (changes.create path 0x60 0 0 0 0 time) ok c other (λ i. ⊎-elim ne (λ x. x) i))
 
   put-lookup : (other : List ℕ) → other ≢ path → lookup s′ other ≡ lookup s other
   unfolding putImage entryAt
@@ -94,7 +99,7 @@ module _ (s directory serial : List ℕ) (time : ℕ) (bytes : List ℕ) (ok : c
 
 pub others-lookup : (s : List ℕ) (c : Change) → check s ≡ 0 → refusal s c ≡ 0 → (other : List ℕ) → (In other (subjects c) → ⊥) → lookup (after s c) other ≡ lookup s other
 unfolding refusal after subject further
-others-lookup s (plain c) ok r other ne = volume.others-lookup s ok c r other ne
+others-lookup s (plain c) ok r other ne = plain-lookup s c ok r other ne
 others-lookup s (putIn directory serial time bytes) ok r other ne = put-lookup s directory serial time bytes ok r other (λ q. ne (inl q))
 
 pub no-new-flags : (s : List ℕ) (c : Change) → check s ≡ 0 → refusal s c ≡ 0 → NoNewFlags s (after s c) (originOf (subject c) (further c))
