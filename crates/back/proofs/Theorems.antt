@@ -1,16 +1,24 @@
 -- What is promised of journal info and of undo to a mark.
-use Prim.Native.Nat.{ℕ}
-use mathlib.Core.List.{List}
+use Prim.Native.Nat.{ℕ, _+_}
+use mathlib.Core.Bool.{true}
+use mathlib.Core.List.{List, _∷_, map}
 use lib.ListN.{length}
 use mathlib.Core.Path.{_≡_}
+use Rattle.layout.specs.Bytes.{be32}
 use Rattle.store.specs.Change.{Change}
+use Rattle.journal.specs.Journal.{records, wellFormed}
 use Rattle.journal.specs.Run.{State, Call, undone, undoRefusal, undoAnswer, run}
 use Rattle.journal.specs.Kinds.{Kind, Reached, StandsFor}
 use Rattle.journal.specs.Back.{undos}
-use Rattle.back.specs.Marks.{journalInfo}
+use Rattle.back.specs.Marks.{marks, journalInfo}
 use Rattle.back.specs.UndoTo.{backBy, undoTo, Undoable}
 use Rattle.back.specs.Runs.{InfoRunTheorem, BackRunTheorem, ToldTheorem, ToStartTheorem, ToMarkTheorem, NeverBelow, StillStand, NeverBelowTheorem}
+use Rattle.back.proofs.Laws.Marks as ends
 use Rattle.back.proofs.Laws.Runs as runs
+
+-- The marks of a well-formed journal are 5 and where each of its records ends, in their order. (A record's first four bytes are its length.)
+pub marks-end : (j : List ℕ) (n : ℕ) → wellFormed j n ≡ true → marks j ≡ 5 ∷ map (λ at. at + be32 j at) (records j)
+marks-end = ends.marks-end
 
 -- On every state that a run reaches, image and whole journal are those of single undos, each with its check, as many as the call says it did. (On any bytes that pass
 -- 1 to 8 they are `backBy`, the rule of undo so many times without the check: that is the contract.)

@@ -1,21 +1,44 @@
--- Marks: the records of a journal and those behind a mark, at the mark itself and before the last record.
-use Prim.Native.Nat.{ℕ, suc, _+_, _≤_, _<_}
+-- Marks: where records end; the records of a journal and those behind a mark, at the mark itself and before the last record.
+use Prim.Native.Nat.{ℕ, zero, suc, _+_, _≤_, _<_}
 use mathlib.Core.Path.{_≡_, refl, sym, ap, _∙_}
 use mathlib.Core.Logic.{inl, inr, ⊎-elim}
-use mathlib.Core.Bool.{Bool, true, false}
-use mathlib.Core.List.{List, [], _∷_, _++_}
+use mathlib.Core.Bool.{Bool, true, false, cond}
+use mathlib.Core.List.{List, [], _∷_, _++_, map}
 use native.Mathlib.Omega.{arith}
-use borrow.Author.Tests.{le-leb, leb-true}
-use lib.Dec.{leb, eqb}
+use borrow.Author.Tests.{le-leb, leb-true, ltb-false}
+use lib.Dec.{leb, ltb, eqb}
 use lib.ListN.{length}
 use Rattle.layout.specs.Lists.{has, keep, select}
 use Rattle.layout.specs.Bytes.{be32}
-use Rattle.journal.specs.Journal.{used, records, lastRecord, undoneJournal}
-use Rattle.layout.proofs.Laws.Lists.{In, in-elim, in-right, in-here, in-append, has-eqb-in, in-has-eqb}
+use Rattle.journal.specs.Journal.{used, recordOk, recordsFrom, records, wellFormed, lastRecord, undoneJournal}
+use Rattle.layout.proofs.Laws.Lists.{In, in-elim, in-right, in-here, in-append, every-in, has-eqb-in, in-has-eqb}
 use Rattle.layout.proofs.Laws.Joins.{select-none}
-use Rattle.journal.proofs.Laws.Append.{WellFormed}
+use Rattle.journal.proofs.Laws.Append.{fine, WellFormed, well}
 use Rattle.back.specs.Marks.{marks, behind}
 use Rattle.journal.proofs.Laws.Dropped.{records-between, Dropped, dropped}
+
+-- records that are not empty and end within the used part u: each begins where the one before it ends, and the last one ends at u
+module _ (size : ℕ → ℕ) (u : ℕ) where
+  walked-ends : (fuel at : ℕ) → at ≤ u → u ≤ at + fuel → ((x : ℕ) → In x (recordsFrom size u at fuel) → (1 ≤ size x) × (x + size x ≤ u))
+      → recordsFrom size u at fuel ++ (u ∷ []) ≡ at ∷ map (λ x. x + size x) (recordsFrom size u at fuel)
+  unfolding recordsFrom
+  walked-ends zero at h f each = let e : at ≡ u = omega arith in rw e
+  walked-ends (suc fuel) at h f each = go (ltb at u) refl each (walked-ends fuel (at + size at))
+    where
+      go : (b : Bool) → ltb at u ≡ b → ((x : ℕ) → In x (cond b (at ∷ recordsFrom size u (at + size at) fuel) []) → (1 ≤ size x) × (x + size x ≤ u))
+          → (at + size at ≤ u → u ≤ at + size at + fuel → ((x : ℕ) → In x (recordsFrom size u (at + size at) fuel) → (1 ≤ size x) × (x + size x ≤ u))
+          → recordsFrom size u (at + size at) fuel ++ (u ∷ []) ≡ (at + size at) ∷ map (λ x. x + size x) (recordsFrom size u (at + size at) fuel))
+          → cond b (at ∷ recordsFrom size u (at + size at) fuel) [] ++ (u ∷ []) ≡ at ∷ map (λ x. x + size x) (cond b (at ∷ recordsFrom size u (at + size at) fuel) [])
+      go true e all more = let a = all at (inl refl) in ap (λ (xs : List ℕ). at ∷ xs) (more (a .1) (omega (arith, a .0)) (λ x i. all x (inr i)))
+      go false e all more = let l : u ≤ at = ltb-false at u e in let q : u ≡ at = omega arith in ap (λ (x : ℕ). x ∷ []) q
+
+-- so the marks are 5 and where each record ends
+pub marks-end : (j : List ℕ) (n : ℕ) → wellFormed j n ≡ true → marks j ≡ 5 ∷ map (λ at. at + be32 j at) (records j)
+unfolding marks records
+marks-end j n t =
+    let w = well j n t in
+    walked-ends (be32 j) (used j) (used j) 5 (w .used-low) (omega arith)
+    (λ x i. let f = fine j n x (every-in (recordOk j n) (records j) x (w .recorded) i) in (omega (arith, f .size), f .inside))
 
 -- one number more at the end, which passes
 select-snoc : (mark x : ℕ) → mark ≤ x → (xs : List ℕ) → length (select (leb mark) (xs ++ (x ∷ []))) ≡ suc (length (select (leb mark) xs))
