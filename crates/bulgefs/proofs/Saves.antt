@@ -18,7 +18,7 @@ use Rattle.journal.specs.Kinds.{Kind, KindCall, stepOf, runOf, FitsRun, AllFit,
 use Rattle.back.specs.UndoTo.{backed, undoTo as undoToMark}
 use Rattle.volume_file.specs.Format.{imageSectors, journalSectors, ownSectors, homeSectors, imageOf, journalOf, ownOf, homeOf}
 use Rattle.volume_file.proofs.Laws.Facts.{file-facts}
-use Rattle.volume_file.proofs.Walks.Logging.{prepare-lengths, lengths-ok}
+use Rattle.volume_file.proofs.Laws.Refused.{prepare-lengths, lengths-ok}
 use Rattle.volume_file.specs.Save.{homeWith, changes, prepareRefusal, committed, recovered}
 use Rattle.volume_file.specs.Cuts.{Quiet, Cut, RecoveryCuts}
 use Rattle.volume_file.proofs.Laws.Parts.{accepted-held, same-image, same-journal, journal-sized}

@@ -3,6 +3,7 @@ pub mod Restored
 pub mod Facts
 pub mod Recovery
 pub mod Prepared
+pub mod Refused
 pub mod Saves
 pub mod Histories
 pub mod Begins

@@ -9,7 +9,7 @@ use native.Mathlib.Nat.{sub-zero}
 use lib.Dec.{eqb}
 use lib.ListN.{length, take, drop, length-drop, length-append}
 use lib.Seq.{take-append-le, drop-append-le, drop-append-add}
-use borrow.Author.Tests.{ne-eqb, eq-eqb, eqb-true, not-true}
+use borrow.Author.Tests.{eqb-true, not-true}
 use Rattle.layout.specs.Bytes.{bytes4, part, block, splice}
 use Rattle.layout.specs.Lists.{interval, select, joined}
 use Rattle.layout.proofs.Laws.Tests.{firstOf-refused, firstOf-zero, require-zero, accept-refused}
@@ -183,43 +183,6 @@ module _ (d new : List ℕ) (h : ℕ) (t : List ℕ) (k i : ℕ) (g : Logging d 
   unfolding filled
   log-end =
       sym (rw (← hs, ← changes-is) (g .whole ∙ ap (logged h new t k) none ∙ splice-nil (splice t (addressAt h k) []) (512 * savedAt h k) ∙ splice-nil t (addressAt h k)))
-
--- what is refused: the lengths
-module _ (head image journal own : List ℕ) where
-  pub lengths-image : length image ≢ 512 * imageSectors head → lengthsRefusal head image journal own ≡ 7
-  unfolding lengthsRefusal
-  lengths-image ne = rw (ne-eqb (length image) (512 * imageSectors head) ne)
-
-  module _ (im : length image ≡ 512 * imageSectors head) where
-    pub lengths-journal : length journal ≢ 512 * journalSectors head → lengthsRefusal head image journal own ≡ 8
-    unfolding lengthsRefusal
-    lengths-journal ne = rw (eq-eqb (length image) (512 * imageSectors head) im, ne-eqb (length journal) (512 * journalSectors head) ne)
-
-    module _ (jo : length journal ≡ 512 * journalSectors head) where
-      pub lengths-own : length own ≢ 512 * ownSectors head → lengthsRefusal head image journal own ≡ 9
-      unfolding lengthsRefusal
-      lengths-own ne =
-          rw (eq-eqb (length image) (512 * imageSectors head) im, eq-eqb (length journal) (512 * journalSectors head) jo, ne-eqb (length own) (512 * ownSectors head) ne)
-
-      pub lengths-ok : length own ≡ 512 * ownSectors head → lengthsRefusal head image journal own ≡ 0
-      unfolding lengthsRefusal
-      lengths-ok ow =
-          rw (eq-eqb (length image) (512 * imageSectors head) im, eq-eqb (length journal) (512 * journalSectors head) jo, eq-eqb (length own) (512 * ownSectors head) ow)
-
--- the file, its log that waits, and the lengths
-module _ (d image journal own : List ℕ) (number : ℕ) (is : number ≡ fileRefusal d) where
-  pub prepare-file : number ≢ 0 → number ≡ prepareRefusal d image journal own
-  unfolding prepareRefusal
-  prepare-file some = sym (rw (← is) (firstOf-refused number _ some))
-
-  module _ (z : number ≡ 0) where
-    pub prepare-waits : waits d ≡ true → 6 ≡ prepareRefusal d image journal own
-    unfolding prepareRefusal
-    prepare-waits w = rw (← is, z, w)
-
-    pub prepare-lengths : waits d ≡ false → (r : ℕ) → r ≡ lengthsRefusal (block d 0) image journal own → r ≡ prepareRefusal d image journal own
-    unfolding prepareRefusal
-    prepare-lengths w r e = rw (← is, z, w, e)
 
 -- what is given where nothing is refused
 pub record Prepares (d image journal own : List ℕ) : Type 0 where

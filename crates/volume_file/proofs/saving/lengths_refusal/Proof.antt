@@ -1,6 +1,6 @@
 use mathlib.Core.Path.{sym, _∙_}
 use native.Mathlib.Omega.{arith}
-use Rattle.volume_file.proofs.Walks.Logging.{lengths-image, lengths-journal, lengths-own, lengths-ok}
+use Rattle.volume_file.proofs.Laws.Refused.{lengths-image, lengths-journal, lengths-own, lengths-ok}
 use borrow.Author.Needs.{needs}
 use Rattle.volume_file.proofs.saving.lengths_refusal.Statement.{statement}
 use Rattle.volume_file.proofs.saving.lengths_refusal.Tie as tie

@@ -4,7 +4,7 @@ use mathlib.Core.List.{List}
 use native.Mathlib.Omega.{arith}
 use Rattle.volume_file.specs.Save.{lengthsRefusal}
 use Rattle.volume_file.proofs.Walks.Places.{given-long}
-use Rattle.volume_file.proofs.Walks.Logging.{prepare-file, prepare-waits, prepare-lengths}
+use Rattle.volume_file.proofs.Laws.Refused.{prepare-file, prepare-waits, prepare-lengths}
 use borrow.Author.Needs.{needs}
 use Rattle.volume_file.proofs.saving.prepare_refusal.Statement.{statement}
 use Rattle.volume_file.proofs.saving.prepare_refusal.Tie as tie
