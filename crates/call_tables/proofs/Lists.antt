@@ -36,22 +36,25 @@ told w = w .number ∷ w .done ∷ used (w .state .journal) ∷ []
 -- both are done, as by two calls, with records 2,584 (blocks 0, 1, 2, 4, 5) and 2,068 (blocks 0, 1, 2, 6); two undos take them back
 pub accepted : List (List ℕ × List ℕ)
 accepted =
-    let w = writeList p (asList two) in
-    let q = step (step p (change (writeA 0 513))) (change (write (inRoot 66) 0 (0 ∷ []) 9)) in
+    let start = p in
+    let w = writeList start (asList two) in
+    let q = step (step start (change (writeA 0 513))) (change (write (inRoot 66) 0 (0 ∷ []) 9)) in
     let back = step (w .state) undo in
+    let first = step back undo in
     (length (asList two) ∷ told w, 559 ∷ 0 ∷ 2 ∷ 5697 ∷ [])
     ∷ (w .state .image ++ w .state .journal, q .image ++ q .journal)
     ∷ (numbers (answer (w .state) undo) ++ numbers (answer back undo), 0 ∷ 2068 ∷ 0 ∷ 2584 ∷ [])
-    ∷ (step back undo .image ++ step back undo .journal, p .image ++ p .journal)
+    ∷ (first .image ++ first .journal, start .image ++ start .journal)
     ∷ []
 
 -- a third write, to a file C that is not there: 10, with two done; the last byte missing; no items; a path longer than its item; version 2; 1 and 8 before 19
 pub stopped : List (List ℕ × List ℕ)
 stopped =
-    (told (writeList p (asList (two ++ item 9 (inRoot 67) 1))), 10 ∷ 2 ∷ 5697 ∷ [])
-    ∷ (told (writeList p (take 558 (asList two))) ++ told (writeList p (asList [])), 19 ∷ 0 ∷ 1045 ∷ 0 ∷ 0 ∷ 1045 ∷ [])
-    ∷ (told (writeList p (asList (bytes4 20 ++ (replicate 12 0 ++ (0 ∷ 3 ∷ fileA))))) ++ told (writeList p (2 ∷ bytes4 5)), 19 ∷ 0 ∷ 1045 ∷ 19 ∷ 0 ∷ 1045 ∷ [])
-    ∷ (listRefusal (record { image = []; journal = [] }) [] ∷ listRefusal (record { image = p .image; journal = [] }) [] ∷ [], 1 ∷ 8 ∷ [])
+    let start = p in
+    (told (writeList start (asList (two ++ item 9 (inRoot 67) 1))), 10 ∷ 2 ∷ 5697 ∷ [])
+    ∷ (told (writeList start (take 558 (asList two))) ++ told (writeList start (asList [])), 19 ∷ 0 ∷ 1045 ∷ 0 ∷ 0 ∷ 1045 ∷ [])
+    ∷ (told (writeList start (asList (bytes4 20 ++ (replicate 12 0 ++ (0 ∷ 3 ∷ fileA))))) ++ told (writeList start (2 ∷ bytes4 5)), 19 ∷ 0 ∷ 1045 ∷ 19 ∷ 0 ∷ 1045 ∷ [])
+    ∷ (listRefusal (record { image = []; journal = [] }) [] ∷ listRefusal (record { image = start .image; journal = [] }) [] ∷ [], 1 ∷ 8 ∷ [])
     ∷ []
 
 accepted-hold : AsExpected accepted

@@ -14,9 +14,9 @@ use Rattle.chain_table.specs.Transfer.{tableRefusal, loadTable, storeTable}
 use Rattle.samples.proofs.Rules.{rules}
 use Rattle.samples.proofs.Samples.{AsExpected, formattedAs, createFile, writeA, samples}
 
--- n = 8, d = 2: root blocks 2 and 3, file A of 513 bytes in blocks 4 and 5
-s : List ℕ
-s = after (after (formattedAs 8 2) (createFile 65)) (writeA 0 513)
+-- n = 8, d = 2: root blocks 2 and 3, file A of 513 bytes in blocks 4 and 5. (A table computes it once, in a `let`.)
+image : List ℕ
+image = after (after (formattedAs 8 2) (createFile 65)) (writeA 0 513)
 
 entries : List ℕ
 entries = 1 ∷ 1 ∷ 3 ∷ 1 ∷ 5 ∷ 1 ∷ 0 ∷ 0 ∷ []
@@ -30,6 +30,7 @@ kept image xs = let a = storeTable image xs in a .number ∷ a .image
 -- eight numbers; seven and nine: 21; a damaged image before 21; a store of the image's own numbers, and of one that differs
 pub transfers : List (List ℕ × List ℕ)
 transfers =
+    let s = image in
     (loaded s (replicate 8 9), 0 ∷ entries)
     ∷ (loaded s (replicate 7 9) ++ loaded s (replicate 9 9) ++ loaded (drop 1 s) [], 21 ∷ (replicate 7 9 ++ (21 ∷ (replicate 9 9 ++ (1 ∷ [])))))
     ∷ (kept s entries, 0 ∷ s)
@@ -38,15 +39,15 @@ transfers =
     ∷ []
 
 pub transfers-hold : AsExpected transfers
-unfolding transfers loaded kept entries s entriesOf stored tableRefusal loadTable storeTable samples rules
+unfolding transfers loaded kept entries image entriesOf stored tableRefusal loadTable storeTable samples rules
 transfers-hold = tt
 
 -- THE QUESTIONS, of the values of the numbers and of the image: 1 is yes, 0 no. The last of them is stage 6 of the image's own chains.
 told : Bool → ℕ
 told b = cond b 1 0
 
-asked : (ℕ → ℕ) → List (List ℕ)
-asked v =
+asked : List ℕ → (ℕ → ℕ) → List (List ℕ)
+asked s v =
     (v 4 ∷ v 7 ∷ [])
     ∷ chain v 4 2
     ∷ (getD (chain v 4 2) 1 0 ∷ getD (chain v 4 2) 2 0 ∷ lastOr 0 (chain v 4 2) ∷ lastOr 0 (chain v 4 0) ∷ [])
@@ -79,10 +80,10 @@ beside (x ∷ xs) [] = []
 beside (x ∷ xs) (y ∷ ys) = (x, y) ∷ beside xs ys
 
 pub questions : List (List ℕ × List ℕ)
-questions = beside (asked (valueIn entries)) answered ++ beside (asked (next s)) answered
+questions = let s = image in beside (asked s (valueIn entries)) answered ++ beside (asked s (next s)) answered
 
 pub questions-hold : AsExpected questions
-unfolding questions beside asked answered told entries s lowestFree samples rules
+unfolding questions beside asked answered told entries image lowestFree samples rules
 questions-hold = tt
 
 -- THE CHANGES, on the numbers and then on the image: set, link (behind no block too), take, free; blocks of a list taken and freed in turn
@@ -91,6 +92,7 @@ changedTo xs image expected = (xs ++ entriesOf (next image) 8, expected ++ expec
 
 pub changes : List (List ℕ × List ℕ)
 changes =
+    let s = image in
     changedTo (set entries 7 258) (setNext s 7 258) (1 ∷ 1 ∷ 3 ∷ 1 ∷ 5 ∷ 1 ∷ 0 ∷ 258 ∷ [])
     ∷ changedTo (linkedIn entries 5 6) (linked s 5 6) (1 ∷ 1 ∷ 3 ∷ 1 ∷ 5 ∷ 6 ∷ 0 ∷ 0 ∷ [])
     ∷ changedTo (linkedIn entries 0 6) (linked s 0 6) entries
@@ -101,5 +103,5 @@ changes =
     ∷ []
 
 pub changes-hold : AsExpected changes
-unfolding changes changedTo linkedIn takenIn freedIn grownIn releasedIn entriesOf entries s samples rules
+unfolding changes changedTo linkedIn takenIn freedIn grownIn releasedIn entriesOf entries image samples rules
 changes-hold = tt

@@ -16,15 +16,9 @@ unfolding salvageRefusal claimable ends ended takeFile zeroEntry skip takeSlot t
 salvageRules = tt
 
 -- n = 8, d = 2: root blocks 2 and 3, file A of 513 bytes in slot 1 (at 1,152) and blocks 4 and 5, blocks 6 and 7 free; the end slot is at 1,920
-s₀ : List ℕ
-s₀ = after (after (formattedAs 8 2) (createFile 65)) (writeA 0 513)
-
--- the same with attributes of one block, 6; with a file B of one block, 6, in slot 2 (at 1,280)
-s₁ : List ℕ
-s₁ = after s₀ (setAttributes fileA (pattern 512))
-
-s₂ : List ℕ
-s₂ = after (after s₀ (createFile 66)) (write (inRoot 66) 0 (pattern 10) 9)
+-- (a table computes it once, in a `let`)
+image : List ℕ
+image = after (after (formattedAs 8 2) (createFile 65)) (writeA 0 513)
 
 -- number, report and image after a salvage with a report of one byte more than there are slots
 salvaged : List ℕ → List ℕ
@@ -38,6 +32,7 @@ done codes s = 0 ∷ (codes ++ (7 ∷ s))
 -- loop, so that both are freed
 pub chains : List (List ℕ × List ℕ)
 chains =
+    let s₀ = image in
     (salvaged s₀, done (replicate 8 0) s₀)
     ∷ (salvaged (setNext s₀ 5 0), done (0 ∷ 3 ∷ replicate 6 0) s₀)
     ∷ (salvaged (setNext s₀ 4 0), done (0 ∷ 2 ∷ replicate 6 0) (splice (formattedAs 8 2) 2048 (pattern 512)))
@@ -47,6 +42,7 @@ chains =
 -- the end slot's type; the same type, a directory's, in slot 1: 5; a report of seven bytes: 9; 1 to 4
 pub refusals : List (List ℕ × List ℕ)
 refusals =
+    let s₀ = image in
     (salvaged (splice s₀ 1920 (0x20 ∷ [])), done (replicate 7 0 ++ (3 ∷ [])) s₀)
     ∷ (salvaged (splice s₀ 1152 (0x20 ∷ [])), 5 ∷ (replicate 9 7 ++ splice s₀ 1152 (0x20 ∷ [])))
     ∷ (map (salvageRefusal s₀) (7 ∷ 8 ∷ []), 9 ∷ 0 ∷ [])
@@ -54,9 +50,13 @@ refusals =
     ∷ []
 
 -- 1: an equal name, and B's block is freed; 2: the last block of A is B's too, and A has it; 4: the attributes on the file's own block, also where the
--- file's chain gets its end; without a code: entries 0 and 7, a padding entry and the counts
+-- file's chain gets its end; without a code: entries 0 and 7, a padding entry and the counts. s₁ is the same image with attributes of one block, 6; s₂ with a
+-- file B of one block, 6, in slot 2 (at 1,280).
 pub codes : List (List ℕ × List ℕ)
 codes =
+    let s₀ = image in
+    let s₁ = after s₀ (setAttributes fileA (pattern 512)) in
+    let s₂ = after (after s₀ (createFile 66)) (write (inRoot 66) 0 (pattern 10) 9) in
     (salvaged (splice s₂ 1328 (65 ∷ [])), done (0 ∷ 0 ∷ 1 ∷ replicate 5 0) s₀)
     ∷ (salvaged (splice s₂ 1284 (bytes4 5)), done (0 ∷ 0 ∷ 2 ∷ replicate 5 0) s₀)
     ∷ (salvaged (setNext (splice s₁ 1184 (bytes4 4)) 5 7), done (0 ∷ 4 ∷ replicate 6 0) s₀)
@@ -64,15 +64,15 @@ codes =
     ∷ []
 
 chains-hold : AsExpected chains
-unfolding chains salvaged done s₀ salvageRules samples rules
+unfolding chains salvaged done image salvageRules samples rules
 chains-hold = tt
 
 refusals-hold : AsExpected refusals
-unfolding refusals salvaged done s₀ salvageRules samples rules
+unfolding refusals salvaged done image salvageRules samples rules
 refusals-hold = tt
 
 codes-hold : AsExpected codes
-unfolding codes salvaged done s₀ s₁ s₂ salvageRules samples rules
+unfolding codes salvaged done image salvageRules samples rules
 codes-hold = tt
 
 pub salvage-cases : AsExpected chains × AsExpected refusals × AsExpected codes

@@ -22,24 +22,25 @@ bit true = 1
 bit false = 0
 
 -- n = 8, d = 2: root blocks 2 and 3, file A of 513 bytes in slot 1 (at 1,152) and blocks 4 and 5, blocks 6 and 7 free; record of the write at 525
+-- (A table computes it once, in a `let`.)
+image : List ℕ
+image = after (after (formattedAs 8 2) (createFile 65)) (writeA 0 513)
+
+-- the states of the two calls that make it
 p₁ : State
 p₁ = step (record { image = formattedAs 8 2; journal = started 8800 }) (change (createFile 65))
 
-p₂ : State
-p₂ = step p₁ (change (writeA 0 513))
+with513 : State → State
+with513 p = step p (change (writeA 0 513))
 
 -- check each image
 checks : List (List ℕ) → List ℕ
 checks images = map check images
 
--- the answer of a look on p₂
-looked : Look → List ℕ
-looked l = numbers (answer p₂ (look l))
-
 -- the stages: each damage, and the number it gives
 pub stages : List (List ℕ × List ℕ)
 stages =
-    let s = p₂ .image in
+    let s = image in
     let both = after (after s (createFile 66)) (write (inRoot 66) 0 (pattern 10) 9) in
     (checks (s ∷ both ∷ []), 0 ∷ 0 ∷ [])
     -- 1: an odd length, two blocks, nothing
@@ -82,7 +83,9 @@ stages =
 -- the calls that only look
 pub looks : List (List ℕ × List ℕ)
 looks =
-    let s = p₂ .image in
+    let s = image in
+    let p : State = record { image = s; journal = [] } in
+    let looked : Look → List ℕ = λ l. numbers (answer p (look l)) in
     (looked (findFile fileA) ++ looked (findFile (47 ∷ 65 ∷ 66 ∷ [])), 0 ∷ 1 ∷ 513 ∷ 2 ∷ 10 ∷ 0 ∷ 0 ∷ 0 ∷ [])
     -- names: none, 81 bytes, 80, with a zero in it
     ∷ (
@@ -124,6 +127,8 @@ starts =
 -- the changes: refusals in their order, named blocks, undo
 pub changes : List (List ℕ × List ℕ)
 changes =
+    let first = p₁ in
+    let p₂ = with513 first in
     let s = p₂ .image in
     let gone = step p₂ (change (delete fileA)) in
     let back = step gone undo in
@@ -137,6 +142,8 @@ changes =
     ∷ (numbers (answer gone undo), 0 ∷ 2584 ∷ [])
     ∷ (back .image, s)
     ∷ (back .journal, p₂ .journal)
+    -- the image that the other parts are about
+    ∷ (s, image)
     -- a freed block is taken again, lowest first
     ∷ (map (next (again .image)) (4 ∷ 5 ∷ 6 ∷ []) ++ (check (again .image) ∷ []), 5 ∷ 1 ∷ 0 ∷ 0 ∷ [])
     -- named blocks of a write within the file, of no bytes, across two blocks, and of one that takes a block
@@ -162,7 +169,7 @@ changes =
     )
     -- undo: 16, 8, 1; another image's journal puts its blocks back all the same
     ∷ (undoRefusal short ∷ undoRefusal (record { image = s; journal = [] }) ∷ undoRefusal (record { image = []; journal = started 5 }) ∷ [], 16 ∷ 8 ∷ 1 ∷ [])
-    ∷ (step (record { image = formattedAs 8 1; journal = p₁ .journal }) undo .image, splice (formattedAs 8 1) 1024 (take 512 (drop 1024 (formattedAs 8 2))))
+    ∷ (step (record { image = formattedAs 8 1; journal = first .journal }) undo .image, splice (formattedAs 8 1) 1024 (take 512 (drop 1024 (formattedAs 8 2))))
     ∷ []
 
 -- the numbers of file A, its modified time, the counts, the links of blocks 4 to 6, and the check
@@ -172,9 +179,12 @@ numbersOf s = map (be32 s) (1156 ∷ 1160 ∷ 1164 ∷ 1180 ∷ 20 ∷ 24 ∷ []
 -- shorten, of the 513 bytes of file A
 pub shortens : List (List ℕ × List ℕ)
 shortens =
-    let s = p₂ .image in
+    let s = image in
+    let p : State = record { image = s; journal = started 2600 } in
     let to : ℕ → List ℕ = λ size. after s (shorten fileA size 77) in
-    let saved : ℕ → List ℕ = λ size. numbers (answer p₂ (change (shorten fileA size 77))) ++ ascending 8 (named s (shorten fileA size 77)) in
+    let saved : ℕ → List ℕ = λ size. numbers (answer p (change (shorten fileA size 77))) ++ ascending 8 (named s (shorten fileA size 77)) in
+    let one = to 1 in
+    let whole = to 512 in
     let behind = splice s 2561 (7 ∷ []) in
     let short : State = record { image = s; journal = started 525 } in
     -- to 0: both blocks are freed
@@ -182,13 +192,13 @@ shortens =
     ∷ (numbersOf (to 0), 0 ∷ 0 ∷ 0 ∷ 77 ∷ 4 ∷ 4 ∷ 0 ∷ 0 ∷ 0 ∷ 0 ∷ [])
     -- to 1: block 4 is the block of the new end; 5 is freed
     ∷ (saved 1, 0 ∷ 0 ∷ 2584 ∷ 0 ∷ 1 ∷ 2 ∷ 4 ∷ 5 ∷ [])
-    ∷ (numbersOf (to 1), 4 ∷ 1 ∷ 1 ∷ 77 ∷ 5 ∷ 3 ∷ 1 ∷ 0 ∷ 0 ∷ 0 ∷ [])
-    ∷ (block (to 1) 4 ++ block (to 1) 5, pattern 1 ++ replicate 1023 0)
-    ∷ (step (step p₂ (change (shorten fileA 1 77))) undo .image, s)
+    ∷ (numbersOf one, 4 ∷ 1 ∷ 1 ∷ 77 ∷ 5 ∷ 3 ∷ 1 ∷ 0 ∷ 0 ∷ 0 ∷ [])
+    ∷ (block one 4 ++ block one 5, pattern 1 ++ replicate 1023 0)
+    ∷ (step (step p (change (shorten fileA 1 77))) undo .image, s)
     -- to 512: block 4 ends there, and is not saved
     ∷ (saved 512, 0 ∷ 0 ∷ 2068 ∷ 0 ∷ 1 ∷ 2 ∷ 5 ∷ [])
-    ∷ (numbersOf (to 512), 4 ∷ 512 ∷ 1 ∷ 77 ∷ 5 ∷ 3 ∷ 1 ∷ 0 ∷ 0 ∷ 0 ∷ [])
-    ∷ (block (to 512) 4 ++ block (to 512) 5, pattern 512 ++ replicate 512 0)
+    ∷ (numbersOf whole, 4 ∷ 512 ∷ 1 ∷ 77 ∷ 5 ∷ 3 ∷ 1 ∷ 0 ∷ 0 ∷ 0 ∷ [])
+    ∷ (block whole 4 ++ block whole 5, pattern 512 ++ replicate 512 0)
     -- to 513, its size: a record of 520, and only the time changes; what stands behind the end stays
     ∷ (saved 513, 0 ∷ 0 ∷ 520 ∷ 2 ∷ [])
     ∷ (to 513, splice s 1180 (bytes4 77))
@@ -201,11 +211,12 @@ shortens =
 -- replace, of the 513 bytes of file A
 pub replaces : List (List ℕ × List ℕ)
 replaces =
-    let s = p₂ .image in
+    let s = image in
+    let p : State = record { image = s; journal = started 3700 } in
     let three : List ℕ = 51 ∷ 48 ∷ 48 ∷ [] in
-    let small = step p₂ (change (replace fileA three 77)) in
+    let small = step p (change (replace fileA three 77)) in
     -- by 3 bytes: block 4 stays, 5 is freed; undo of it
-    (numbers (answer p₂ (change (replace fileA three 77))) ++ ascending 8 (named s (replace fileA three 77)), 0 ∷ 0 ∷ 2584 ∷ 0 ∷ 1 ∷ 2 ∷ 4 ∷ 5 ∷ [])
+    (numbers (answer p (change (replace fileA three 77))) ++ ascending 8 (named s (replace fileA three 77)), 0 ∷ 0 ∷ 2584 ∷ 0 ∷ 1 ∷ 2 ∷ 4 ∷ 5 ∷ [])
     ∷ (numbersOf (small .image), 4 ∷ 3 ∷ 1 ∷ 77 ∷ 5 ∷ 3 ∷ 1 ∷ 0 ∷ 0 ∷ 0 ∷ [])
     ∷ (block (small .image) 4 ++ block (small .image) 5, three ++ replicate 1021 0)
     ∷ (small .image, after (after s (shorten fileA 3 77)) (write fileA 0 three 77))
@@ -229,7 +240,7 @@ replaces =
 -- the journal's form: good; version; used too low and too high; a record of no blocks; one byte more; numbers that do not rise; a number not below n
 pub forms : List (List ℕ × List ℕ)
 forms =
-    let j = p₂ .journal in (
+    let j = with513 p₁ .journal in (
       map (λ x. bit (wellFormed x 8))
           (j ∷ splice j 0 (2 ∷ []) ∷ splice j 1 (bytes4 4) ∷ splice j 1 (bytes4 8801) ∷ splice (started 20) 1 (bytes4 9 ++ bytes4 4) ∷ splice j 1 (bytes4 3110) ∷ splice j 1045 (bytes4 0) ∷ splice j 2593 (bytes4 8) ∷ take 4 j ∷ []),
       1 ∷ 0 ∷ 0 ∷ 0 ∷ 0 ∷ 0 ∷ 0 ∷ 0 ∷ 0 ∷ [],
@@ -239,31 +250,31 @@ forms =
     ∷ []
 
 stages-hold : AsExpected stages
-unfolding stages bit checks looked p₁ p₂ samples rules
+unfolding stages checks image samples rules
 stages-hold = tt
 
 looks-hold : AsExpected looks
-unfolding looks bit checks looked p₁ p₂ samples rules
+unfolding looks image samples rules
 looks-hold = tt
 
 starts-hold : AsExpected starts
-unfolding starts bit checks looked p₁ p₂ samples rules
+unfolding starts samples rules
 starts-hold = tt
 
 changes-hold : AsExpected changes
-unfolding changes bit checks looked p₁ p₂ samples rules
+unfolding changes image p₁ with513 samples rules
 changes-hold = tt
 
 shortens-hold : AsExpected shortens
-unfolding shortens numbersOf bit checks looked p₁ p₂ samples rules
+unfolding shortens numbersOf image samples rules
 shortens-hold = tt
 
 replaces-hold : AsExpected replaces
-unfolding replaces numbersOf bit checks looked p₁ p₂ samples rules
+unfolding replaces numbersOf image samples rules
 replaces-hold = tt
 
 forms-hold : AsExpected forms
-unfolding forms bit checks looked p₁ p₂ samples rules
+unfolding forms bit p₁ with513 samples rules
 forms-hold = tt
 
 pub further-cases : AsExpected stages × AsExpected looks × AsExpected starts × AsExpected changes × AsExpected shortens × AsExpected replaces × AsExpected forms

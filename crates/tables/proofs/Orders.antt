@@ -57,26 +57,31 @@ reads s c d path = numbers (filled (read (step (step s c) d) path 0 (9 ∷ [])))
 -- Accepted in both orders: on different paths a file's slot may differ, 1 and 2; on one path the last write stands, 2 and 1.
 pub accepted : List (List ℕ × List ℕ)
 accepted =
-    (refusals empty (createFile 65) (createFile 66), 0 ∷ 0 ∷ 0 ∷ 0 ∷ [])
-    ∷ (lookups empty (createFile 65) (createFile 66) fileA, 0 ∷ 1 ∷ 0 ∷ 0 ∷ 0 ∷ 2 ∷ 0 ∷ 0 ∷ [])
-    ∷ (refusals full (writeByte 1) (writeByte 2), 0 ∷ 0 ∷ 0 ∷ 0 ∷ [])
-    ∷ (reads full (writeByte 1) (writeByte 2) fileA, 0 ∷ 1 ∷ 2 ∷ 0 ∷ 1 ∷ 1 ∷ [])
+    let none = empty in
+    let both = full in
+    (refusals none (createFile 65) (createFile 66), 0 ∷ 0 ∷ 0 ∷ 0 ∷ [])
+    ∷ (lookups none (createFile 65) (createFile 66) fileA, 0 ∷ 1 ∷ 0 ∷ 0 ∷ 0 ∷ 2 ∷ 0 ∷ 0 ∷ [])
+    ∷ (refusals both (writeByte 1) (writeByte 2), 0 ∷ 0 ∷ 0 ∷ 0 ∷ [])
+    ∷ (reads both (writeByte 1) (writeByte 2) fileA, 0 ∷ 1 ∷ 2 ∷ 0 ∷ 1 ∷ 1 ∷ [])
     ∷ []
 
 -- One path inside the other: accepted in one order only, and the file is found after that one only; or in neither, and the first of the two stands.
 pub inside : List (List ℕ × List ℕ)
 inside =
-    (refusals empty folder createInner, 0 ∷ 0 ∷ 10 ∷ 0 ∷ [])
-    ∷ (lookups empty folder createInner inner, 0 ∷ 1 ∷ 0 ∷ 0 ∷ 10 ∷ 0 ∷ 0 ∷ 0 ∷ [])
-    ∷ (refusals (after empty folder) (deleteDirectory (inRoot 68)) createInner, 0 ∷ 10 ∷ 0 ∷ 18 ∷ [])
-    ∷ (lookups (after empty folder) (deleteDirectory (inRoot 68)) createInner inner, 10 ∷ 0 ∷ 0 ∷ 0 ∷ 0 ∷ 1 ∷ 0 ∷ 0 ∷ [])
+    let none = empty in
+    let made = after none folder in
+    (refusals none folder createInner, 0 ∷ 0 ∷ 10 ∷ 0 ∷ [])
+    ∷ (lookups none folder createInner inner, 0 ∷ 1 ∷ 0 ∷ 0 ∷ 10 ∷ 0 ∷ 0 ∷ 0 ∷ [])
+    ∷ (refusals made (deleteDirectory (inRoot 68)) createInner, 0 ∷ 10 ∷ 0 ∷ 18 ∷ [])
+    ∷ (lookups made (deleteDirectory (inRoot 68)) createInner inner, 10 ∷ 0 ∷ 0 ∷ 0 ∷ 0 ∷ 1 ∷ 0 ∷ 0 ∷ [])
     ∷ []
 
 -- Neither inside the other, accepted in one order only: a delete makes room for a write, and the file has 513 bytes or 512.
 pub oneOrder : List (List ℕ × List ℕ)
 oneOrder =
-    (refusals full (delete fileA) growB, 0 ∷ 0 ∷ 14 ∷ 0 ∷ [])
-    ∷ (lookups full (delete fileA) growB (inRoot 66), 0 ∷ 2 ∷ 513 ∷ 2 ∷ 0 ∷ 2 ∷ 512 ∷ 1 ∷ [])
+    let both = full in
+    (refusals both (delete fileA) growB, 0 ∷ 0 ∷ 14 ∷ 0 ∷ [])
+    ∷ (lookups both (delete fileA) growB (inRoot 66), 0 ∷ 2 ∷ 513 ∷ 2 ∷ 0 ∷ 2 ∷ 512 ∷ 1 ∷ [])
     ∷ []
 
 accepted-hold : AsExpected accepted

@@ -26,17 +26,15 @@ largerVolume =
     ∷ []
 
 -- n = 8, d = 2: the same file, its entry at 1,152, blocks 6 and 7 free; s₁ has attributes of one block, 6, s₂ of two, 6 and 7
-s₀ : List ℕ
-s₀ = after (after (formattedAs 8 2) (createFile 65)) (writeA 0 513)
-
-s₁ : List ℕ
-s₁ = after s₀ (set 512)
-
-s₂ : List ℕ
-s₂ = after s₁ (set 1024)
+-- (a table computes them once, in a `let`)
+image : List ℕ
+image = after (after (formattedAs 8 2) (createFile 65)) (writeA 0 513)
 
 pub changes : List (List ℕ × List ℕ)
 changes =
+    let s₀ = image in
+    let s₁ = after s₀ (set 512) in
+    let s₂ = after s₁ (set 1024) in
     -- two blocks over one: the old block counts as free and is taken again
     (map (next s₂) (4 ∷ 5 ∷ 6 ∷ 7 ∷ []) ++ map (be32 s₂) (20 ∷ 1160 ∷ 1184 ∷ 1188 ∷ []) ++ (check s₂ ∷ []), 5 ∷ 1 ∷ 7 ∷ 1 ∷ 8 ∷ 513 ∷ 6 ∷ 2 ∷ 0 ∷ [])
     ∷ (ascending 8 (named s₁ (set 1024)) ++ ascending 8 (named s₂ (set 512)) ++ ascending 8 (named s₂ (clearAttributes fileA)), 0 ∷ 1 ∷ 2 ∷ 6 ∷ 7 ∷ 0 ∷ 1 ∷ 2 ∷ 6 ∷ 7 ∷ 0 ∷ 1 ∷ 2 ∷ 6 ∷ 7 ∷ [])
@@ -53,6 +51,9 @@ changes =
 
 pub looks : List (List ℕ × List ℕ)
 looks =
+    let s₀ = image in
+    let s₁ = after s₀ (set 512) in
+    let s₂ = after s₁ (set 1024) in
     -- whole blocks, as many as there are and the buffer holds; the rest of the buffer stays
     (numbers (lookAnswer s₁ (readAttributesOf fileA (replicate 600 7))), 0 ∷ 512 ∷ (pattern 512 ++ replicate 88 7))
     ∷ (numbers (lookAnswer s₂ (readAttributesOf fileA (replicate 600 7))), 0 ∷ 512 ∷ (pattern 512 ++ replicate 88 7))
@@ -71,11 +72,11 @@ unfolding largerVolume set samples rules
 larger-holds = tt
 
 changes-hold : AsExpected changes
-unfolding changes set s₀ s₁ s₂ samples rules
+unfolding changes set image samples rules
 changes-hold = tt
 
 looks-hold : AsExpected looks
-unfolding looks set s₀ s₁ s₂ samples rules
+unfolding looks set image samples rules
 looks-hold = tt
 
 pub attribute-cases : AsExpected largerVolume × AsExpected changes × AsExpected looks

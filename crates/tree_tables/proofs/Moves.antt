@@ -19,28 +19,28 @@ file : List ℕ → Change
 file xs = create (way xs) 0x60 1 2 3 0 2000
 
 -- n = 9, root blocks 2 and 3; in its slots 1 to 4 the directory /E (69) of one block, 4, and the files /A (65), /B (66) and /C (67): the entries of /A and
--- /B are at 1,280 and 1,408, that of /C at 1,536. /A has 3 bytes in block 5.
-m₀ : State
-m₀ = step (record { image = formattedAs 9 2; journal = started 9900 }) (change (createDirectory (way (69 ∷ [])) 0x20 1 2 3 0 2000 1))
+-- /B are at 1,280 and 1,408, that of /C at 1,536. /A has 3 bytes in block 5. (A table computes it once, in a `let`.)
+image : List ℕ
+image =
+    let s₀ = after (formattedAs 9 2) (createDirectory (way (69 ∷ [])) 0x20 1 2 3 0 2000 1) in
+    let s₁ = after (after s₀ (file (65 ∷ []))) (file (66 ∷ [])) in
+    after (after s₁ (file (67 ∷ []))) (write (way (65 ∷ [])) 0 (pattern 3) 3000)
 
-m₁ : State
-m₁ = step (step m₀ (change (file (65 ∷ [])))) (change (file (66 ∷ [])))
+-- with a journal just started; what a move answers on it, with the blocks that it names
+begun : List ℕ → State
+begun s = record { image = s; journal = started 1100 }
 
-m₂ : State
-m₂ = step (step m₁ (change (file (67 ∷ [])))) (change (write (way (65 ∷ [])) 0 (pattern 3) 3000))
-
--- what a move answers on a state, with the blocks that it names
-moved : State → List ℕ → List ℕ → List ℕ
-moved p from to = numbers (answer p (change (move (way from) (way to)))) ++ named (p .image) (move (way from) (way to))
+moved : List ℕ → List ℕ → List ℕ → List ℕ
+moved s from to = numbers (answer (begun s) (change (move (way from) (way to)))) ++ named s (move (way from) (way to))
 
 pub within : List (List ℕ × List ℕ)
 within =
-    let s = m₂ .image in
+    let s = image in
     let renamed = after s (move (way (65 ∷ [])) (way (68 ∷ []))) in
-    let less = step m₂ (change (delete (way (66 ∷ [])))) in
-    let lower = after (less .image) (move (way (67 ∷ [])) (way (68 ∷ []))) in
+    let less = after s (delete (way (66 ∷ []))) in
+    let lower = after less (move (way (67 ∷ [])) (way (68 ∷ []))) in
     -- its own slot is the lowest: it stays there, with the new name
-    (moved m₂ (65 ∷ []) (68 ∷ []), 0 ∷ 2 ∷ 520 ∷ 2 ∷ 2 ∷ [])
+    (moved s (65 ∷ []) (68 ∷ []), 0 ∷ 2 ∷ 520 ∷ 2 ∷ 2 ∷ [])
     ∷ (part renamed 1280 128, part s 1280 48 ++ (68 ∷ replicate 79 0))
     ∷ (check renamed ∷ refusal renamed (delete (way (65 ∷ []))) ∷ [], 0 ∷ 10 ∷ [])
     -- a lower slot is free: it goes there, and its old one is zeroed
@@ -52,22 +52,22 @@ within =
 
 pub across : List (List ℕ × List ℕ)
 across =
-    let s = m₂ .image in
-    let there = step m₂ (change (move (way (65 ∷ [])) (way (69 ∷ 90 ∷ [])))) in
-    let full = step (step m₂ (change (file (69 ∷ 88 ∷ [])))) (change (file (69 ∷ 89 ∷ []))) in
+    let s = image in
+    let there = step (begun s) (change (move (way (65 ∷ [])) (way (69 ∷ 90 ∷ [])))) in
+    let full = after (after s (file (69 ∷ 88 ∷ []))) (file (69 ∷ 89 ∷ [])) in
     -- to another directory, with its bytes; undo brings it back
-    (moved m₂ (65 ∷ []) (69 ∷ 90 ∷ []), 0 ∷ 1 ∷ 1036 ∷ 2 ∷ 4 ∷ [])
+    (moved s (65 ∷ []) (69 ∷ 90 ∷ []), 0 ∷ 1 ∷ 1036 ∷ 2 ∷ 4 ∷ [])
     ∷ (check (there .image) ∷ numbers (answer there (look (findFile (way (69 ∷ 90 ∷ []))))), 0 ∷ 0 ∷ 1 ∷ 3 ∷ 1 ∷ [])
     ∷ (numbers (answer there (look (readFile (way (69 ∷ 90 ∷ [])) 0 (replicate 3 7)))), 0 ∷ 3 ∷ pattern 3)
     ∷ (step there undo .image, s)
     -- a full directory: no slot for another file, but its own ones may be renamed
-    ∷ (refusal (full .image) (move (way (65 ∷ [])) (way (69 ∷ 90 ∷ []))) ∷ [], 13 ∷ [])
+    ∷ (refusal full (move (way (65 ∷ [])) (way (69 ∷ 90 ∷ []))) ∷ [], 13 ∷ [])
     ∷ (moved full (69 ∷ 89 ∷ []) (69 ∷ 90 ∷ []), 0 ∷ 2 ∷ 520 ∷ 4 ∷ 4 ∷ [])
     ∷ []
 
 pub refusals : List (List ℕ × List ℕ)
 refusals =
-    let s = m₂ .image in
+    let s = image in
     let a = way (65 ∷ []) in
     let d = way (68 ∷ []) in
     let deep = way (replicate 10 68) in
@@ -80,15 +80,15 @@ refusals =
     ∷ []
 
 within-holds : AsExpected within
-unfolding within moved way file m₀ m₁ m₂ samples rules
+unfolding within moved begun image way file samples rules
 within-holds = tt
 
 across-holds : AsExpected across
-unfolding across moved way file m₀ m₁ m₂ samples rules
+unfolding across moved begun image way file samples rules
 across-holds = tt
 
 refusals-hold : AsExpected refusals
-unfolding refusals moved way file m₀ m₁ m₂ samples rules
+unfolding refusals image way file samples rules
 refusals-hold = tt
 
 pub move-cases : AsExpected within × AsExpected across × AsExpected refusals

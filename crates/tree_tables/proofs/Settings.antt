@@ -30,20 +30,15 @@ first = put box 500 (97 ∷ 98 ∷ 99 ∷ [])
 second : Change
 second = put box 600 []
 
--- n = 8, d = 2: the file takes slot 1 of the root, at 1,152, and block 4
-s₀ : List ℕ
-s₀ = formattedAs 8 2
-
-s₁ : List ℕ
-s₁ = after s₀ first
-
-s₂ : List ℕ
-s₂ = after s₁ second
-
+-- n = 8, d = 2: the file takes slot 1 of the root, at 1,152, and block 4. s₁ is the image after the first put, s₂ after both. (A table computes an image
+-- once, in a `let`.)
 -- The first put names the directory block 2, the new block 4, block 0 and the table block 1, so its record has 4 + 4 · 516 = 2,068 bytes; the second
 -- takes no block and names 2 and 4: 1,036 bytes. The file has 5 + 5 + 3 bytes, then 5 more.
 pub puts : List (List ℕ × List ℕ)
 puts =
+    let s₀ = formattedAs 8 2 in
+    let s₁ = after s₀ first in
+    let s₂ = after s₁ second in
     let p : State = record { image = s₀; journal = started 5200 } in
     let q = step p (change first) in
     (numbers (answer p (change first)) ++ ascending 8 (named s₀ first), 0 ∷ 1 ∷ 2068 ∷ 0 ∷ 1 ∷ 2 ∷ 4 ∷ [])
@@ -58,6 +53,7 @@ room = replicate 200 7
 
 pub gets : List (List ℕ × List ℕ)
 gets =
+    let s₂ = after (after (formattedAs 8 2) first) second in
     (numbers (lookAnswer s₂ (getSettings box theLatest room)), 0 ∷ 2 ∷ 0 ∷ room)
     ∷ (numbers (lookAnswer s₂ (getSettings box (theNumber 1) room)), 0 ∷ 1 ∷ 3 ∷ 97 ∷ 98 ∷ 99 ∷ replicate 197 7)
     -- no such revision; a buffer that is too short, before a serial number that has no file; a serial number that is none
@@ -69,17 +65,13 @@ gets =
     ∷ []
 
 -- A file that is empty, one of a revision with the last number, a directory; a root of one block is full with two entries, and 2,048 bytes take the four free blocks.
-empty : List ℕ
-empty = after s₀ (createFile 65)
-
-last : List ℕ
-last = after empty (write fileA 0 (1 ∷ 0 ∷ 0 ∷ 0 ∷ 10 ∷ 0 ∷ 255 ∷ 255 ∷ 255 ∷ 255 ∷ []) 3000)
-
-small : List ℕ
-small = after (after (formattedAs 6 1) (createFile 66)) (createFile 67)
-
 pub refusals : List (List ℕ × List ℕ)
 refusals =
+    let s₀ = formattedAs 8 2 in
+    let s₂ = after (after s₀ first) second in
+    let empty = after s₀ (createFile 65) in
+    let last = after empty (write fileA 0 (1 ∷ 0 ∷ 0 ∷ 0 ∷ 10 ∷ 0 ∷ 255 ∷ 255 ∷ 255 ∷ 255 ∷ []) 3000) in
+    let small = after (after (formattedAs 6 1) (createFile 66)) (createFile 67) in
     (map (refusal s₂) (put [] 1 [] ∷ put (replicate 17 65) 1 [] ∷ put (47 ∷ []) 1 [] ∷ put box 1 (pattern 201) ∷ put box 1 (pattern 200) ∷ []), 22 ∷ 22 ∷ 22 ∷ 22 ∷ 0 ∷ [])
     ∷ (refusal empty (put (65 ∷ []) 1 []) ∷ getRefusal empty root (65 ∷ []) theLatest 200 ∷ [], 24 ∷ 24 ∷ [])
     ∷ (refusal last (put (65 ∷ []) 1 []) ∷ getRefusal last root (65 ∷ []) theLatest 200 ∷ getRefusal last root (65 ∷ []) (theNumber 4294967295) 200 ∷ [], 25 ∷ 0 ∷ 0 ∷ [])
@@ -95,14 +87,8 @@ refusals =
 folder : List ℕ
 folder = inRoot 68
 
-d₀ : List ℕ
-d₀ = after s₀ (createDirectory folder 0x20 0 0 0 0 1 1)
-
 inside : Change
 inside = putIn folder box 500 (97 ∷ 98 ∷ 99 ∷ [])
-
-d₁ : List ℕ
-d₁ = after d₀ inside
 
 -- `/a` so many times, and then `/D`
 deep : ℕ → List ℕ
@@ -110,6 +96,8 @@ deep k = joined (λ (i : ℕ). 47 ∷ 97 ∷ []) (interval 0 k) ++ folder
 
 pub folders : List (List ℕ × List ℕ)
 folders =
+    let d₀ = after (formattedAs 8 2) (createDirectory folder 0x20 0 0 0 0 1 1) in
+    let d₁ = after d₀ inside in
     let p : State = record { image = d₀; journal = started 5200 } in
     (numbers (answer p (change inside)) ++ ascending 8 (named d₀ inside) ++ (check d₁ ∷ []), 0 ∷ 1 ∷ 2068 ∷ 0 ∷ 1 ∷ 4 ∷ 5 ∷ 0 ∷ [])
     ∷ (map (be32 d₁) (2180 ∷ 2184 ∷ 2188 ∷ []), 5 ∷ 13 ∷ 1 ∷ [])
@@ -170,25 +158,26 @@ forms =
 -- The volume's numbers with the first bytes of its UUID; the entries of the root, by the slot to begin with.
 pub overview : List (List ℕ × List ℕ)
 overview =
+    let s₁ = after (formattedAs 8 2) first in
     (numbers (lookAnswer s₁ (showVolume (7 ∷ 7 ∷ 7 ∷ []))), 0 ∷ 8 ∷ 5 ∷ 3 ∷ 2 ∷ 1 ∷ 2 ∷ 3 ∷ [])
     ∷ (numbers (lookAnswer s₁ (showEntry (47 ∷ []) 0 (7 ∷ 7 ∷ 7 ∷ []))), 0 ∷ 1 ∷ 0x60 ∷ 0 ∷ 0 ∷ 0 ∷ 4 ∷ 13 ∷ 1 ∷ 500 ∷ 500 ∷ 0 ∷ 0 ∷ 0 ∷ 66 ∷ 55 ∷ 0 ∷ [])
     ∷ (numbers (lookAnswer s₁ (showEntry (47 ∷ []) 2 (7 ∷ []))), 0 ∷ 0 ∷ 0 ∷ 0 ∷ 0 ∷ 0 ∷ 0 ∷ 0 ∷ 0 ∷ 0 ∷ 0 ∷ 0 ∷ 0 ∷ 0 ∷ 7 ∷ [])
     ∷ []
 
 puts-hold : AsExpected puts
-unfolding puts first second box s₀ s₁ s₂ samples storeRules rules
+unfolding puts first second box samples storeRules rules
 puts-hold = tt
 
 gets-hold : AsExpected gets
-unfolding gets room first second box s₀ s₁ s₂ samples storeRules rules
+unfolding gets room first second box samples storeRules rules
 gets-hold = tt
 
 refusals-hold : AsExpected refusals
-unfolding refusals empty last small first second box s₀ s₁ s₂ samples storeRules rules
+unfolding refusals first second box samples storeRules rules
 refusals-hold = tt
 
 folders-hold : AsExpected folders
-unfolding folders folder d₀ inside d₁ deep second room box s₀ samples storeRules rules
+unfolding folders folder inside deep second room box samples storeRules rules
 folders-hold = tt
 
 forms-hold : AsExpected forms
@@ -196,7 +185,7 @@ unfolding forms sixteen numbersOf storeRules rules
 forms-hold = tt
 
 overview-holds : AsExpected overview
-unfolding overview first box s₀ s₁ samples storeRules rules
+unfolding overview first box samples storeRules rules
 overview-holds = tt
 
 pub settings-cases : AsExpected puts × AsExpected gets × AsExpected refusals × AsExpected folders × AsExpected forms × AsExpected overview

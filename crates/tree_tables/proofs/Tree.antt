@@ -27,25 +27,20 @@ folder : List ℕ → ℕ → Change
 folder xs d = createDirectory (way xs) 0x20 1 2 3 0 2000 d
 
 -- n = 9, root of one block, 2; directory /D (68) of two blocks, 3 and 4, its entry at 1,152; file /D/A (65) of 513 bytes in blocks 5 and 6, its entry
--- at 1,664; directory /E (69) of one block, 7, its entry at 1,280; block 8 is free
-q₀ : State
-q₀ = record { image = formattedAs 9 1; journal = started 9900 }
-
-q₁ : State
-q₁ = step q₀ (change (folder (68 ∷ []) 2))
-
-q₂ : State
-q₂ = step q₁ (change (file (68 ∷ 65 ∷ [])))
-
-q₃ : State
-q₃ = step q₂ (change (write (way (68 ∷ 65 ∷ [])) 0 (pattern 513) 3000))
-
-q₄ : State
-q₄ = step q₃ (change (folder (69 ∷ []) 1))
+-- at 1,664; directory /E (69) of one block, 7, its entry at 1,280; block 8 is free. (A table computes it once, in a `let`.)
+image : List ℕ
+image =
+    let s = after (after (formattedAs 9 1) (folder (68 ∷ []) 2)) (file (68 ∷ 65 ∷ [])) in
+    after (after s (write (way (68 ∷ 65 ∷ [])) 0 (pattern 513) 3000)) (folder (69 ∷ []) 1)
 
 -- what the changes answer and leave
 pub built : List (List ℕ × List ℕ)
 built =
+    let q₀ : State = record { image = formattedAs 9 1; journal = started 9900 } in
+    let q₁ = step q₀ (change (folder (68 ∷ []) 2)) in
+    let q₂ = step q₁ (change (file (68 ∷ 65 ∷ []))) in
+    let q₃ = step q₂ (change (write (way (68 ∷ 65 ∷ [])) 0 (pattern 513) 3000)) in
+    let q₄ = step q₃ (change (folder (69 ∷ []) 1)) in
     let gone = step q₄ (change (deleteDirectory (way (69 ∷ [])))) in
     let back = step q₄ undo in
     -- a directory of two blocks: its slot, a record of its blocks and of blocks 0, 1 and 2; a file in it; a write; a directory of one block
@@ -67,12 +62,14 @@ built =
     ∷ (numbers (answer q₄ undo), 0 ∷ 2068 ∷ [])
     ∷ (back .image, q₃ .image)
     ∷ (back .journal, q₃ .journal)
+    -- the image that the other parts are about
+    ∷ (q₄ .image, image)
     ∷ []
 
 -- paths: 9, 10, 17
 pub paths : List (List ℕ × List ℕ)
 paths =
-    let s = q₄ .image in
+    let s = image in
     -- a file of a directory; a directory where a file is wanted; no such part; through a missing part; through a file
     (map (fileRefusal s) (way (68 ∷ 65 ∷ []) ∷ way (68 ∷ []) ∷ way (65 ∷ []) ∷ way (88 ∷ 65 ∷ []) ∷ way (68 ∷ 65 ∷ 65 ∷ []) ∷ []), 0 ∷ 10 ∷ 10 ∷ 10 ∷ 10 ∷ [])
     -- nothing, no `/` before, `/` alone, an empty part before, at the end and between
@@ -90,7 +87,7 @@ paths =
 -- the changes: their refusals
 pub refused : List (List ℕ × List ℕ)
 refused =
-    let s = q₄ .image in
+    let s = image in
     -- 9: a file's type, the types beside 0x20 to 0x5F, no block, 65 blocks
     (map (λ type. refusal s (createDirectory (way (69 ∷ 70 ∷ [])) type 1 2 3 0 2000 1)) (0x60 ∷ 0x1F ∷ 0x20 ∷ 0x5F ∷ []), 9 ∷ 9 ∷ 0 ∷ 0 ∷ [])
     ∷ (map (λ d. refusal s (folder (69 ∷ 70 ∷ []) d)) (0 ∷ 65 ∷ []), 9 ∷ 9 ∷ [])
@@ -109,7 +106,7 @@ refused =
 -- the check: each damage of a tree, and the number it gives
 pub faults : List (List ℕ × List ℕ)
 faults =
-    let s = q₄ .image in
+    let s = image in
     let wide = setNext (splice (splice s 3596 (bytes4 2)) 1292 (bytes4 2)) 7 4 in
     -- 4, of the child's self entry: type, block_self, block_parent, d, name
     (map check (splice s 1536 (0 ∷ []) ∷ splice s 1540 (bytes4 4) ∷ splice s 1544 (bytes4 3) ∷ splice s 1548 (bytes4 1) ∷ splice s 1584 (69 ∷ []) ∷ []), 4 ∷ 4 ∷ 4 ∷ 4 ∷ 4 ∷ [])
@@ -143,19 +140,19 @@ levels =
     ∷ []
 
 built-holds : AsExpected built
-unfolding built way file folder q₀ q₁ q₂ q₃ q₄ samples rules
+unfolding built image way file folder samples rules
 built-holds = tt
 
 paths-hold : AsExpected paths
-unfolding paths way file folder q₀ q₁ q₂ q₃ q₄ samples rules
+unfolding paths image way file folder samples rules
 paths-hold = tt
 
 refused-hold : AsExpected refused
-unfolding refused way file folder q₀ q₁ q₂ q₃ q₄ samples rules
+unfolding refused image way file folder samples rules
 refused-hold = tt
 
 faults-hold : AsExpected faults
-unfolding faults way file folder q₀ q₁ q₂ q₃ q₄ samples rules
+unfolding faults image way file folder samples rules
 faults-hold = tt
 
 levels-hold : AsExpected levels
