@@ -1,0 +1,107 @@
+-- WHAT IS PROMISED OF THE MODEL. `Shows s m`: the image s shows the model m. Together these say that the model's pages are the whole of what a user of a volume
+-- sees: what is there at the start, what each change makes of it, which number it is refused with, and what each look answers, over any run of calls.
+use Prim.Native.Nat.{ℕ, _+_, _-_, _*_, _≤_}
+use mathlib.Core.Path.{_≡_}
+use mathlib.Core.Bool.{true, false}
+use mathlib.Core.List.{List, []}
+use mathlib.Core.Logic.{_≢_}
+use lib.ListN.{length}
+use Rattle.layout.specs.Limits.{minJournal, maxJournal}
+use Rattle.layout.specs.Bytes.{part}
+use Rattle.layout.specs.Geometry.{blockCount, rootBlock, blocksFor}
+use Rattle.layout.specs.Check.{check}
+use Rattle.layout.specs.Paths.{directoryRefusal}
+use Rattle.layout.specs.Claims.{isInside}
+use Rattle.layout.specs.Looks.{lookup, read, lookInPlace, readAttributes}
+use Rattle.volume.specs.Format.{formatRefusal, formatted}
+use Rattle.volume.specs.Change.{deleteDirectory}
+use Rattle.volume.specs.Views.{SameFiles}
+use Rattle.store.specs.Claims.{Bytes}
+use Rattle.store.specs.Settings.{held, added}
+use Rattle.store.specs.Put.{pathOf, heldIn}
+use Rattle.store.specs.Get.{Which, getIn}
+use Rattle.store.specs.Change.{Change, plain, putIn, refusal, after, subject}
+use Rattle.journal.specs.Journal.{started}
+use Rattle.journal.specs.Run.{Call, State, run, answers}
+use Rattle.journal.specs.Replay.{standing}
+use Rattle.journal.specs.Kinds.{Kind, KindCall, runOf, AllFit, asCalls, KindRunTheorem, oneOf}
+use Rattle.model.specs.Model.{Model, empty, step, settings, showsNothing}
+use Rattle.model.specs.Looks.{bytesIn, noFile, readIn, readAttributesIn, settingsIn}
+use Rattle.model.specs.Refusals.{refusalIn, placeFor, isBare}
+use Rattle.model.specs.Refines.{Shows, Tree, Inhabited, modelOf}
+use Rattle.model.specs.Runs.{begun, told, ModelRunTheorem, modelled}
+use Rattle.model.proofs.Laws.Steps as steps
+use Rattle.model.proofs.Laws.Looks as looks
+use Rattle.model.proofs.Laws.Exists as exists
+use Rattle.model.proofs.Laws.Trees as trees
+use Rattle.model.proofs.Laws.Refusals as refusals
+use Rattle.model.proofs.Laws.Bare as bare
+use Rattle.model.proofs.Laws.Runs as runs
+use Rattle.model.proofs.Corollaries as corollaries
+
+-- THE START: a formatted volume shows nothing, and every sound image of bytes shows a model.
+pub shows-some : (s : List ℕ) → Bytes s → check s ≡ 0 → Shows s (modelOf s)
+shows-some = exists.shows-some
+
+-- A sound image s that shows m.
+module _ (s : List ℕ) (m : Model) (shown : Shows s m) (ok : check s ≡ 0) where
+  -- It is a tree: what has a path inside it that shows something is a folder.
+  pub shows-tree : Tree m
+  shows-tree = trees.shows-tree s m shown
+
+  -- A CHANGE is refused with the model's number; but whether the folder has a place for one entry more (13), and whether a folder is empty (18), the image says.
+  pub refused : (c : Change) → refusal s c ≡ refusalIn (placeFor s c) (isBare s (subject c)) m c
+  refused = refusals.decided s m shown ok
+
+  -- Accepted, it leaves an image that shows the model's step.
+  pub refines : (c : Change) → refusal s c ≡ 0 → Shows (after s c) (step m c)
+  refines = steps.refines s m shown ok
+
+  -- An accepted put adds one revision to the settings of its serial number.
+  pub put-adds : (directory serial : List ℕ) (time : ℕ) (bytes : List ℕ) → refusal s (putIn directory serial time bytes) ≡ 0
+      → settings (step m (putIn directory serial time bytes) .at (pathOf directory serial)) ≡ held (added (heldIn (settings (m .at (pathOf directory serial)))) bytes)
+  put-adds = steps.put-adds s m shown ok
+
+  -- 18: a folder that is not empty has something inside that the model shows, and one that is removed has nothing.
+  pub not-bare : (path : List ℕ) → directoryRefusal s path ≡ 0 → isBare s path ≡ false → Inhabited m path
+  not-bare = bare.not-bare s m shown ok
+
+  pub removed-bare : (path : List ℕ) → refusal s (plain (deleteDirectory path)) ≡ 0 → (other : List ℕ) → isInside other path ≡ true → other ≢ path → showsNothing (m .at other) ≡ true
+  removed-bare = corollaries.removed-bare s m shown ok
+
+  -- Two changes on different paths, accepted in both orders, leave the same files (L13).
+  pub either-order : (c d : Change) → refusal s c ≡ 0 → refusal (after s c) d ≡ 0 → refusal s d ≡ 0 → refusal (after s d) c ≡ 0 → subject c ≢ subject d
+      → SameFiles (after (after s c) d) (after (after s d) c)
+  either-order = corollaries.either-order s m shown ok
+
+  -- LOOKS answer what the model answers, numbers and all; look up but for the slot.
+  pub read-model : (path : List ℕ) (offset : ℕ) (buffer : List ℕ) → read s path offset buffer ≡ readIn m path offset buffer
+  read-model = looks.read-model s m shown ok
+
+  pub attributes-model : (path buffer : List ℕ) → readAttributes s path buffer ≡ readAttributesIn m path buffer
+  attributes-model = looks.attributes-model s m shown ok
+
+  pub look-model : (path : List ℕ) (i : ℕ) → lookInPlace s path i ≡ part (bytesIn (m .at path)) (512 * i) 512
+  look-model = looks.look-model s m shown ok
+
+  pub lookup-model : (path : List ℕ)
+      → (lookup s path .number ≡ noFile m path) × (lookup s path .size ≡ length (bytesIn (m .at path))) × (lookup s path .blocks ≡ blocksFor (length (bytesIn (m .at path))))
+  lookup-model = looks.lookup-model s m shown ok
+
+  pub get-model : (directory serial : List ℕ) (which : Which) (buffer : List ℕ) → getIn s directory serial which buffer ≡ settingsIn m directory serial which buffer
+  get-model = looks.get-model s m shown ok
+
+-- A RUN. After any calls the image shows what their answers tell, and the model says so of every answer.
+pub model-run : ModelRunTheorem
+model-run = runs.model-run
+
+-- The same by the changes that stand, and with further calls.
+pub run-shown : (image : List ℕ) (m : Model) (size : ℕ) → check image ≡ 0 → Shows image m → minJournal ≤ size → size ≤ maxJournal
+    → let start : State = record { image = image; journal = started size } in
+    (calls : List Call) → Shows (run start calls .image) (modelled m (standing start [] calls))
+run-shown = runs.run-shown
+
+pub kind-run : (K : Kind) → KindRunTheorem K → (image : List ℕ) (m : Model) (size : ℕ) (calls : List (KindCall K)) → check image ≡ 0 → Shows image m → minJournal ≤ size → size ≤ maxJournal
+    → let start : State = record { image = image; journal = started size } in
+    AllFit start calls → Shows (runOf start calls .image) (told (begun m) (asCalls start calls) (answers start (asCalls start calls)) .now)
+kind-run = runs.kind-run
