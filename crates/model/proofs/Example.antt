@@ -1,4 +1,4 @@
--- The model computes: 10 free blocks, `/A` made and 513 bytes written to it.
+-- The model computes: 10 free blocks, `/A` made and 513 bytes written to it; then moved to `/B`.
 use Prim.Native.Nat.{ℕ}
 use mathlib.Core.Path.{_≡_, refl}
 use mathlib.Core.Bool.{true}
@@ -7,7 +7,7 @@ use lib.ListN.{replicate}
 use Rattle.layout.specs.Bytes.{splice}
 use Rattle.layout.specs.Directory.{goodName}
 use Rattle.layout.specs.Paths.{cut, parts, pathOk, shallow}
-use Rattle.volume.specs.Change.{create, write, createDirectory}
+use Rattle.volume.specs.Change.{create, write, delete, createDirectory, move}
 use Rattle.volume.specs.Views.{subject as path-of, further as path-further}
 use Rattle.store.specs.Change.{plain, subject, further}
 use Rattle.model.specs.Model.{Model, empty, setAt, becomes, step}
@@ -16,6 +16,9 @@ use Rattle.model.specs.Refusals.{inFolder, newNumber, roomNumber, refusa
 
 abbrev a : List ℕ
 a = 47 ∷ 65 ∷ []
+
+abbrev b : List ℕ
+b = 47 ∷ 66 ∷ []
 
 abbrev inside : List ℕ
 inside = 47 ∷ 66 ∷ 47 ∷ 67 ∷ []
@@ -46,3 +49,18 @@ beyond = refl
 no-room : refusalIn true true m (plain (createDirectory (47 ∷ 66 ∷ []) 0x20 0 0 0 0 9 9)) ≡ 14
 unfolding step setAt becomes subject path-of further path-further splice refusalIn roomNumber newNumber inFolder parts cut pathOk shallow goodName
 no-room = refl
+
+abbrev n : Model
+n = step m (plain (move a b))
+
+moved-there : readIn n b 512 (0 ∷ 0 ∷ []) ≡ record { number = 0; count = 1; buffer = 9 ∷ 0 ∷ [] }
+unfolding step setAt becomes subject path-of further path-further splice readIn noFile parts cut pathOk shallow goodName
+moved-there = refl
+
+moved-away : refusalIn true true n (plain (delete a)) ≡ 10
+unfolding step setAt becomes subject path-of further path-further splice refusalIn noFile parts cut pathOk shallow goodName
+moved-away = refl
+
+moved-free : n .free ≡ 8
+unfolding step setAt becomes subject path-of further path-further splice
+moved-free = refl

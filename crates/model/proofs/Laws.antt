@@ -8,5 +8,8 @@ pub mod Exists
 pub mod Trees
 pub mod Parents
 pub mod Refusals
-pub mod Bare
+pub mod Folders
+pub mod Counts
+pub mod Entries
 pub mod Runs
+pub mod Calls

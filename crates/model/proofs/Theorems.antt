@@ -1,45 +1,50 @@
 -- WHAT IS PROMISED OF THE MODEL. `Shows s m`: the image s shows the model m. Together these say that the model's pages are the whole of what a user of a volume
 -- sees: what is there at the start, what each change makes of it, which number it is refused with, and what each look answers, over any run of calls.
-use Prim.Native.Nat.{ℕ, _+_, _-_, _*_, _≤_}
-use mathlib.Core.Path.{_≡_}
-use mathlib.Core.Bool.{true, false}
+use Prim.Native.Nat.{ℕ, _*_, _≤_}
+use mathlib.Core.Path.{_≡_, ap}
+use mathlib.Core.Bool.{true, false, _||_}
 use mathlib.Core.List.{List, []}
 use mathlib.Core.Logic.{_≢_}
 use lib.ListN.{length}
+use lib.Dec.{eqb}
 use Rattle.layout.specs.Limits.{minJournal, maxJournal}
 use Rattle.layout.specs.Bytes.{part}
-use Rattle.layout.specs.Geometry.{blockCount, rootBlock, blocksFor}
+use Rattle.layout.specs.Geometry.{blocksFor}
 use Rattle.layout.specs.Check.{check}
-use Rattle.layout.specs.Paths.{directoryRefusal}
+use Rattle.layout.specs.Directory.{goodName}
 use Rattle.layout.specs.Claims.{isInside}
-use Rattle.layout.specs.Looks.{lookup, read, lookInPlace, readAttributes}
-use Rattle.volume.specs.Format.{formatRefusal, formatted}
+use Rattle.layout.specs.Looks.{lookup, read, lookInPlace, readAttributes, nextEntry}
 use Rattle.volume.specs.Change.{deleteDirectory}
 use Rattle.volume.specs.Views.{SameFiles}
 use Rattle.store.specs.Claims.{Bytes}
-use Rattle.store.specs.Settings.{held, added}
-use Rattle.store.specs.Put.{pathOf, heldIn}
+use Rattle.store.specs.Settings.{added}
+use Rattle.store.specs.Put.{front, pathOf, heldIn}
 use Rattle.store.specs.Get.{Which, getIn}
-use Rattle.store.specs.Change.{Change, plain, putIn, refusal, after, subject}
+use Rattle.store.specs.Change.{Change, plain, putIn, refusal, after, subject, subjects}
 use Rattle.journal.specs.Journal.{started}
-use Rattle.journal.specs.Run.{Call, State, run, answers}
+use Rattle.journal.specs.Run.{Call, State, run}
 use Rattle.journal.specs.Replay.{standing}
-use Rattle.journal.specs.Kinds.{Kind, KindCall, runOf, AllFit, asCalls, KindRunTheorem, oneOf}
-use Rattle.model.specs.Model.{Model, empty, step, settings, showsNothing}
-use Rattle.model.specs.Looks.{bytesIn, noFile, readIn, readAttributesIn, settingsIn}
-use Rattle.model.specs.Refusals.{refusalIn, placeFor, isBare}
-use Rattle.model.specs.Refines.{Shows, Tree, Inhabited, modelOf}
-use Rattle.model.specs.Runs.{begun, told, ModelRunTheorem, modelled}
+use Rattle.model.specs.Model.{Node, Model, step, settings, showsNothing}
+use Rattle.model.specs.Looks.{bytesIn, noFile, readIn, readAttributesIn, revisionsIn, settingsIn}
+use Rattle.model.specs.Refusals.{parentOf, noFolder, refusalIn, placeIn, placeFor, isBare}
+use Rattle.model.specs.Listing.{child, roomFor, listNumber, EntrySays, Counted, goal, leadsOn, staysIn, Comes}
+use Rattle.model.specs.Refines.{Shows, Tree, modelOf}
+use Rattle.model.specs.Runs.{ModelRunTheorem, modelled}
+use Rattle.model.specs.Calls.{EveryCallTheorem}
+use Rattle.layout.proofs.Laws.Lists.{In}
+use Rattle.model.proofs.Laws.Models as models
 use Rattle.model.proofs.Laws.Steps as steps
 use Rattle.model.proofs.Laws.Looks as looks
 use Rattle.model.proofs.Laws.Exists as exists
 use Rattle.model.proofs.Laws.Trees as trees
 use Rattle.model.proofs.Laws.Refusals as refusals
-use Rattle.model.proofs.Laws.Bare as bare
+use Rattle.model.proofs.Laws.Counts as counts
+use Rattle.model.proofs.Laws.Entries as entries
 use Rattle.model.proofs.Laws.Runs as runs
+use Rattle.model.proofs.Laws.Calls as calls
 use Rattle.model.proofs.Corollaries as corollaries
 
--- THE START: a formatted volume shows nothing, and every sound image of bytes shows a model.
+-- THE START: every sound image of bytes shows a model.
 pub shows-some : (s : List ℕ) → Bytes s → check s ≡ 0 → Shows s (modelOf s)
 shows-some = exists.shows-some
 
@@ -57,14 +62,22 @@ module _ (s : List ℕ) (m : Model) (shown : Shows s m) (ok : check s ≡ 0) whe
   pub refines : (c : Change) → refusal s c ≡ 0 → Shows (after s c) (step m c)
   refines = steps.refines s m shown ok
 
-  -- An accepted put adds one revision to the settings of its serial number.
+  -- SETTINGS are a list of revisions for each directory and serial number. An accepted put adds one to its own, and a change that is about another path leaves them.
   pub put-adds : (directory serial : List ℕ) (time : ℕ) (bytes : List ℕ) → refusal s (putIn directory serial time bytes) ≡ 0
-      → settings (step m (putIn directory serial time bytes) .at (pathOf directory serial)) ≡ held (added (heldIn (settings (m .at (pathOf directory serial)))) bytes)
-  put-adds = steps.put-adds s m shown ok
+      → revisionsIn (step m (putIn directory serial time bytes)) directory serial ≡ added (revisionsIn m directory serial) bytes
+  put-adds directory serial time bytes r = ap heldIn (steps.put-adds s m shown ok directory serial time bytes r)
 
-  -- 18: a folder that is not empty has something inside that the model shows, and one that is removed has nothing.
-  pub not-bare : (path : List ℕ) → directoryRefusal s path ≡ 0 → isBare s path ≡ false → Inhabited m path
-  not-bare = bare.not-bare s m shown ok
+  pub revisions-stay : (c : Change) → refusal s c ≡ 0 → (directory serial : List ℕ) → (In (pathOf directory serial) (subjects c) → ⊥)
+      → revisionsIn (step m c) directory serial ≡ revisionsIn m directory serial
+  revisions-stay c r directory serial away = ap (λ (x : Node). heldIn (settings x)) (models.other-at m c (steps.allowed s m shown ok c r) (pathOf directory serial) away)
+
+  -- 13: whether there is a place, by the names in the folder that the new name comes to; a move within a folder has its own. 18: a folder is empty if it has no
+  -- names, and one that is removed has nothing inside.
+  pub places : (path : List ℕ) (tos : List (List ℕ)) → leadsOn m path tos ≡ true → (n : Counted m (parentOf (goal path tos))) × (placeIn s path tos ≡ staysIn path tos || roomFor (n .size) (n .names))
+  places = counts.places s m shown ok
+
+  pub bare-counted : (path : List ℕ) → noFolder m path ≡ 0 → (n : Counted m path) × (isBare s path ≡ eqb (length (n .names)) 0)
+  bare-counted = counts.bare-counted s m shown ok
 
   pub removed-bare : (path : List ℕ) → refusal s (plain (deleteDirectory path)) ≡ 0 → (other : List ℕ) → isInside other path ≡ true → other ≢ path → showsNothing (m .at other) ≡ true
   removed-bare = corollaries.removed-bare s m shown ok
@@ -88,6 +101,14 @@ module _ (s : List ℕ) (m : Model) (shown : Shows s m) (ok : check s ≡ 0) whe
       → (lookup s path .number ≡ noFile m path) × (lookup s path .size ≡ length (bytesIn (m .at path))) × (lookup s path .blocks ≡ blocksFor (length (bytesIn (m .at path))))
   lookup-model = looks.lookup-model s m shown ok
 
+  -- A listing: each entry is that of what is at a name, and every name comes.
+  pub entry-says : (path buffer : List ℕ) (start : ℕ) → EntrySays m path buffer (nextEntry s path start buffer)
+  entry-says = entries.entry-says s m shown ok
+
+  pub every-name : (path buffer : List ℕ) → listNumber m path ≡ 0 → (name : List ℕ) → goodName name ≡ true → showsNothing (m .at (child (front path) name)) ≡ false
+      → Comes (λ start. nextEntry s path start buffer) buffer name
+  every-name = entries.comes s m shown ok
+
   pub get-model : (directory serial : List ℕ) (which : Which) (buffer : List ℕ) → getIn s directory serial which buffer ≡ settingsIn m directory serial which buffer
   get-model = looks.get-model s m shown ok
 
@@ -95,13 +116,12 @@ module _ (s : List ℕ) (m : Model) (shown : Shows s m) (ok : check s ≡ 0) whe
 pub model-run : ModelRunTheorem
 model-run = runs.model-run
 
--- The same by the changes that stand, and with further calls.
+-- The same by the changes that stand.
 pub run-shown : (image : List ℕ) (m : Model) (size : ℕ) → check image ≡ 0 → Shows image m → minJournal ≤ size → size ≤ maxJournal
     → let start : State = record { image = image; journal = started size } in
     (calls : List Call) → Shows (run start calls .image) (modelled m (standing start [] calls))
 run-shown = runs.run-shown
 
-pub kind-run : (K : Kind) → KindRunTheorem K → (image : List ℕ) (m : Model) (size : ℕ) (calls : List (KindCall K)) → check image ≡ 0 → Shows image m → minJournal ≤ size → size ≤ maxJournal
-    → let start : State = record { image = image; journal = started size } in
-    AllFit start calls → Shows (runOf start calls .image) (told (begun m) (asCalls start calls) (answers start (asCalls start calls)) .now)
-kind-run = runs.kind-run
+-- ALL CALLS of the C header, in any order, each by its own answer.
+pub every-call : EveryCallTheorem
+every-call = calls.every-call

@@ -7,7 +7,7 @@ use Rattle.layout.specs.Bytes.{part, splice}
 use Rattle.layout.specs.Refusals.{require, firstOf, accept}
 use Rattle.layout.specs.Paths.{parts, pathOk, leading, shallow}
 use Rattle.layout.specs.Looks.{ReadAnswer}
-use Rattle.store.specs.Settings.{maxSetting}
+use Rattle.store.specs.Settings.{maxSetting, Revision}
 use Rattle.store.specs.Put.{pathOf, addressRefusal, heldIn}
 use Rattle.store.specs.Get.{Which, wanted, dataOf, GetAnswer, gotAnswer, soughtRefusal}
 use Rattle.model.specs.Model.{Node, nothing, file, folder, Model, settings, showsFile}
@@ -36,10 +36,14 @@ readIn m path offset buffer =
 unfoldable pub readAttributesIn : Model → List ℕ → List ℕ → ReadAnswer
 readAttributesIn m path buffer = answered (noFile m path) (take (512 * (length buffer / 512)) (attributesIn (m .at path))) buffer
 
+-- the settings of a serial number in a directory: its revisions, oldest first
+abbrev pub revisionsIn : Model → (directory serial : List ℕ) → List Revision
+revisionsIn m directory serial = heldIn (settings (m .at (pathOf directory serial)))
+
 unfoldable pub settingsIn : Model → (directory serial : List ℕ) → Which → List ℕ → GetAnswer
 settingsIn m directory serial which buffer =
     let x = m .at (pathOf directory serial) in
-    let rs = heldIn (settings x) in
+    let rs = revisionsIn m directory serial in
     let revision = wanted rs which in
     let number = firstOf (addressRefusal directory serial (leb maxSetting (length buffer))) (require (showsFile x) 10 (soughtRefusal (settings x) which)) in
     accept number (gotAnswer 0 revision (length (dataOf revision rs)) (splice buffer 0 (dataOf revision rs))) (gotAnswer number 0 0 buffer)

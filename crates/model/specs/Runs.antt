@@ -1,23 +1,24 @@
 -- Runs by the model: what somebody knows of a volume who has the calls, their answers and the model, and nothing else.
 use Prim.Native.Nat.{ℕ, _*_, _≤_}
 use mathlib.Core.Path.{_≡_}
-use mathlib.Core.Bool.{Bool, false}
+use mathlib.Core.Bool.{Bool, true, _||_}
 use mathlib.Core.List.{List, [], _∷_}
 use lib.ListN.{length}
+use lib.Dec.{eqb}
 use Rattle.layout.specs.Refusals.{require, firstOf, accept}
 use Rattle.layout.specs.Limits.{minJournal, maxJournal}
 use Rattle.layout.specs.Bytes.{part}
 use Rattle.layout.specs.Geometry.{blocksFor}
 use Rattle.layout.specs.Check.{check}
-use Rattle.layout.specs.Looks.{Extent, VolumeAnswer}
-use Rattle.volume.specs.Change.{deleteDirectory}
-use Rattle.store.specs.Change.{Change, plain}
+use Rattle.layout.specs.Looks.{Extent, VolumeAnswer, EntryAnswer}
+use Rattle.store.specs.Change.{Change, subject, further}
 use Rattle.journal.specs.Journal.{started}
-use Rattle.journal.specs.Run.{Look, checkImage, findFile, readFile, lookAt, readAttributesOf, showVolume, showEntry, getSettingsIn, Call, change, undo, look, Answer, checked, found, filled, shown, described, got, numberOf, State, run, answers}
+use Rattle.journal.specs.Run.{Look, checkImage, findFile, readFile, lookAt, readAttributesOf, showVolume, showEntry, getSettingsIn, Call, change, undo, look, Answer, checked, found, filled, shown, described, entered, got, numberOf, State, run, answers}
 use Rattle.model.specs.Model.{Model, step}
 use Rattle.model.specs.Looks.{bytesIn, noFile, readIn, readAttributesIn, settingsIn}
-use Rattle.model.specs.Refusals.{noFolder, refusalIn}
-use Rattle.model.specs.Refines.{Shows, Inhabited}
+use Rattle.model.specs.Refusals.{parentOf, noFolder, refusalIn}
+use Rattle.model.specs.Listing.{roomFor, EntrySays, Counted, goal, leadsOn, staysIn}
+use Rattle.model.specs.Refines.{Shows}
 
 -- the model now, and those that undos go back to, the last one first
 pub record Story : Type 0 where
@@ -43,7 +44,7 @@ told h (c ∷ cs) [] = h
 told h (c ∷ cs) (a ∷ more) = told (tells h c a) cs more
 
 -- What the model says of an answer. A look's is the model's own, but for where things lie: the slot of a look up, the place of a look in place, and all but
--- the free blocks of the volume's numbers; of an entry by its slot it says nothing. An undo is refused, with 16, where there is nothing to go back to.
+-- the free blocks of the volume's numbers; an entry's fields are those of what is at its name. An undo is refused, with 16, where there is nothing to go back to.
 unfoldable pub LookSays : Model → Look → Answer → Type 0
 LookSays m checkImage a = a ≡ checked 0
 LookSays m (findFile path) a =
@@ -52,17 +53,19 @@ LookSays m (readFile path offset buffer) a = a ≡ filled (readIn m path offset 
 LookSays m (lookAt path i) a = (x : Extent) × (a ≡ shown x (part (bytesIn (m .at path)) (512 * i) 512))
 LookSays m (readAttributesOf path buffer) a = a ≡ filled (readAttributesIn m path buffer)
 LookSays m (showVolume buffer) a = (x : VolumeAnswer) × (a ≡ described x) × (x .free ≡ m .free)
-LookSays m (showEntry path start buffer) a = Unit {0}
+LookSays m (showEntry path start buffer) a = (x : EntryAnswer) × (a ≡ entered x) × EntrySays m path buffer x
 LookSays m (getSettingsIn directory serial which buffer) a = a ≡ got (settingsIn m directory serial which buffer)
 
--- A change's number is the model's; unknown to the model are only whether there is a place in the folder (13), whether there is room in the journal (15), and
--- whether a folder is empty (18): if it is not, something inside is shown.
+-- A change's number is the model's; whether there is a place (13) and whether a folder is empty (18) go by the names in a folder. Unknown to the model is only
+-- whether there is room in the journal (15).
 pub record Decided (m : Model) (c : Change) (number : ℕ) : Type 0 where
   pub place : Bool
   pub empty : Bool
   pub fits : Bool
   pub is : number ≡ firstOf (refusalIn place empty m c) (require fits 15 0)
-  pub bare : (path : List ℕ) → c ≡ plain (deleteDirectory path) → noFolder m path ≡ 0 → empty ≡ false → Inhabited m path
+  pub placed : leadsOn m (subject c) (further c) ≡ true
+      → (n : Counted m (parentOf (goal (subject c) (further c)))) × (place ≡ staysIn (subject c) (further c) || roomFor (n .size) (n .names))
+  pub bare : noFolder m (subject c) ≡ 0 → (n : Counted m (subject c)) × (empty ≡ eqb (length (n .names)) 0)
 
 abbrev pub undoNumber : List Model → ℕ
 undoNumber [] = 16

@@ -1,7 +1,7 @@
 -- Runs by the model: from the theorem over runs, and one step.
 use Prim.Native.Nat.{ℕ, zero, suc, _+_, _≤_}
 use mathlib.Core.Path.{_≡_, refl, ap, _∙_}
-use mathlib.Core.Bool.{true, false}
+use mathlib.Core.Bool.{Bool, true, false}
 use mathlib.Core.List.{List, [], _∷_}
 use lib.ListN.{length}
 use Rattle.layout.specs.Limits.{minJournal, maxJournal}
@@ -9,27 +9,25 @@ use Rattle.layout.specs.Check.{check}
 use Rattle.layout.specs.Geometry.{blockCount}
 use Rattle.layout.specs.Refusals.{require, firstOf}
 use lib.Dec.{leb}
-use Rattle.layout.specs.Looks.{LookupAnswer, lookup, extentOf, volumeInfo}
-use Rattle.volume.specs.Change.{deleteDirectory}
-use Rattle.volume.specs.Views as views
-use Rattle.store.specs.Change.{Change, plain, refusal, after, subject}
+use Rattle.layout.specs.Looks.{LookupAnswer, lookup, extentOf, volumeInfo, nextEntry}
+use Rattle.store.specs.Change.{Change, refusal, after, subject, further}
 use Rattle.store.proofs.Theorems.{change-sound}
 use Rattle.journal.specs.Journal.{started, used, wellFormed}
 use Rattle.journal.specs.Run.{Look, checkImage, findFile, readFile, lookAt, readAttributesOf, showVolume, showEntry, getSettingsIn, Call, change, undo, look, checked, found, filled, shown, got, numberOf, State, recordOf, changeRefusal, afterChange, changeAnswer, lookAnswer, answer, run, answers}
 use Rattle.journal.specs.Run as rules
 use Rattle.journal.specs.Replay.{RunInvariant, replayed, standingAfter, standing, replayAnswer}
-use Rattle.journal.specs.Kinds.{Kind, KindCall, runOf, AllFit, asCalls, KindRunTheorem}
 use Rattle.journal.proofs.Laws.Undo.{first, kept}
 use Rattle.journal.proofs.Laws.Runs.{Stand, One, one-call, run-stands}
 use Rattle.journal.proofs.Theorems.{every-run}
 use Rattle.layout.proofs.Laws.Tests.{require-zero, firstOf-zero}
 use Rattle.model.specs.Model.{Model}
-use Rattle.model.specs.Refines.{Shows, Inhabited}
-use Rattle.model.specs.Refusals.{noFolder, placeFor, isBare}
-use Rattle.model.specs.Runs.{Story, begun, tells, told, LookSays, undoNumber, Says, AllSaid, ModelRunTheorem, modelled}
+use Rattle.model.specs.Refines.{Shows}
+use Rattle.model.specs.Refusals.{placeIn, placeFor, isBare}
+use Rattle.model.specs.Runs.{Story, tells, told, LookSays, Decided, undoNumber, Says, AllSaid, ModelRunTheorem, modelled}
 use Rattle.model.proofs.Laws.Steps.{refines}
-use Rattle.model.proofs.Laws.Refusals.{decided, folder-number}
-use Rattle.model.proofs.Laws.Bare.{not-bare}
+use Rattle.model.proofs.Laws.Refusals.{decided}
+use Rattle.model.proofs.Laws.Counts.{bare-counted, places}
+use Rattle.model.proofs.Laws.Entries.{entry-says}
 use Rattle.model.proofs.Laws.Looks.{lookup-model, read-model, look-model, attributes-model, get-model}
 
 -- an accepted change on a state
@@ -75,19 +73,35 @@ look-says s m S ok (readFile path offset buffer) = ap filled (read-model s m S o
 look-says s m S ok (lookAt path i) = (extentOf s path i, ap (shown (extentOf s path i)) (look-model s m S ok path i))
 look-says s m S ok (readAttributesOf path buffer) = ap filled (attributes-model s m S ok path buffer)
 look-says s m S ok (showVolume buffer) = (volumeInfo s buffer, refl, rw ok (S .free))
-look-says s m S ok (showEntry path start buffer) = tt
+look-says s m S ok (showEntry path start buffer) = (nextEntry s path start buffer, refl, entry-says s m S ok path buffer start)
 look-says s m S ok (getSettingsIn directory serial which buffer) = ap got (get-model s m S ok directory serial which buffer)
 
-inhabited : (s : List ℕ) (m : Model) → Shows s m → check s ≡ 0 → (c : Change) (path : List ℕ) → c ≡ plain (deleteDirectory path) → noFolder m path ≡ 0 → isBare s (subject c) ≡ false → Inhabited m path
-unfolding subject views.subject
-inhabited s m S ok c path e z w = not-bare s m S ok path (folder-number s m S ok path ∙ z) (rw e at w)
+-- a change on a sound image: its number is the model's
+place-for : (s : List ℕ) (c : Change) → placeFor s c ≡ placeIn s (subject c) (further c)
+unfolding placeFor
+place-for s c = refl
+
+weighs : (s : List ℕ) (m : Model) → Shows s m → check s ≡ 0 → (c : Change) (fits : Bool) (number : ℕ) → number ≡ firstOf (refusal s c) (require fits 15 0) → Decided m c number
+weighs s m S ok c fits number e =
+    record {
+      place = placeFor s c;
+      empty = isBare s (subject c);
+      fits = fits;
+      is = e ∙ ap (λ (k : ℕ). firstOf k (require fits 15 0)) (decided s m S ok c);
+      placed = λ h. let w = places s m S ok (subject c) (further c) h in (w .0, place-for s c ∙ w .1);
+      bare = bare-counted s m S ok (subject c);
+    }
+
+firstOf-none : (n : ℕ) → n ≡ firstOf n (require true 15 0)
+firstOf-none zero = refl
+firstOf-none (suc n) = refl
 
 -- the story of changes that stand
-pastOf : Model → List Change → List Model
+unfoldable pub pastOf : Model → List Change → List Model
 pastOf m [] = []
 pastOf m (c ∷ cs) = modelled m cs ∷ pastOf m cs
 
-abbrev storyOf : Model → List Change → Story
+abbrev pub storyOf : Model → List Change → Story
 storyOf m cs = record { now = modelled m cs; past = pastOf m cs }
 
 module _ (image : List ℕ) (m : Model) (size : ℕ) (ok : check image ≡ 0) (S : Shows image m) (low : minJournal ≤ size) (high : size ≤ maxJournal) where
@@ -113,28 +127,28 @@ module _ (image : List ℕ) (m : Model) (size : ℕ) (ok : check image ≡ 0) (S
   tells-change cs c zero e = rw (number-is (replayed start cs) c, e)
   tells-change cs c (suc k) e = rw (number-is (replayed start cs) c, e)
 
-  tells-standing : (cs : List Change) (c : Call) → Stand start cs → tells (storyOf m cs) c (answer (replayed start cs) c) ≡ storyOf m (standingAfter start cs c)
+  pub tells-standing : (cs : List Change) (c : Call) → Stand start cs → tells (storyOf m cs) c (answer (replayed start cs) c) ≡ storyOf m (standingAfter start cs c)
   unfolding tells standingAfter pastOf modelled
   tells-standing cs (change c) t = tells-change cs c (changeRefusal (replayed start cs) c) refl
   tells-standing [] undo t = rw (undo-number [] t)
   tells-standing (c ∷ cs) undo t = rw (undo-number (c ∷ cs) t)
   tells-standing cs (look l) t = refl
 
-  says-standing : (cs : List Change) (c : Call) → Stand start cs → Says (storyOf m cs) c (answer (replayed start cs) c)
-  unfolding Says
-  says-standing cs (change c) t =
+  pub decides : (cs : List Change) (c : Change) → Stand start cs → Decided (modelled m cs) c (changeRefusal (replayed start cs) c)
+  decides cs c t =
       let h = standing-shown cs t in
-      let p : State = replayed start cs in
-      record {
-        place = placeFor (replayed start cs .image) c;
-        empty = isBare (replayed start cs .image) (subject c);
-        fits = leb (used (replayed start cs .journal) + length (recordOf (replayed start cs) c)) (length (replayed start cs .journal));
-        is =
-            answer-is (replayed start cs) c ∙ ready-number (replayed start cs) c (h .0 .sound) (h .0 .well-formed)
-            ∙ ap (λ (k : ℕ). firstOf k (require (leb (used (replayed start cs .journal) + length (recordOf (replayed start cs) c)) (length (replayed start cs .journal))) 15 0))
-            (decided (replayed start cs .image) (modelled m cs) (h .1) (h .0 .sound) c);
-        bare = λ path e z w. inhabited (replayed start cs .image) (modelled m cs) (h .1) (h .0 .sound) c path e z w;
-      }
+      weighs (replayed start cs .image) (modelled m cs) (h .1) (h .0 .sound) c
+      (leb (used (replayed start cs .journal) + length (recordOf (replayed start cs) c)) (length (replayed start cs .journal)))
+      (changeRefusal (replayed start cs) c) (ready-number (replayed start cs) c (h .0 .sound) (h .0 .well-formed))
+
+  pub decides-short : (cs : List Change) (c : Change) → Stand start cs → Decided (modelled m cs) c (refusal (replayed start cs .image) c)
+  decides-short cs c t =
+      let h = standing-shown cs t in
+      weighs (replayed start cs .image) (modelled m cs) (h .1) (h .0 .sound) c true (refusal (replayed start cs .image) c) (firstOf-none (refusal (replayed start cs .image) c))
+
+  pub says-standing : (cs : List Change) (c : Call) → Stand start cs → Says (storyOf m cs) c (answer (replayed start cs) c)
+  unfolding Says
+  says-standing cs (change c) t = rw (answer-is (replayed start cs) c) (decides cs c t)
   says-standing cs undo t = undo-number cs t
   says-standing cs (look l) t = let h = standing-shown cs t in unfold answer in look-says (replayed start cs .image) (modelled m cs) (h .1) (h .0 .sound) l
 
@@ -165,11 +179,3 @@ model-run image m size calls ok S low high =
     let start : State = record { image = image; journal = started size } in
     let q = told-standing image m size ok S low high calls [] tt in
     record { shown = rw q (run-shown image m size ok S low high calls); said = said-standing image m size ok S low high calls [] tt }
-
--- the same with further calls, of any kind for which the theorem over runs holds: as the calls that they are
-pub kind-run : (K : Kind) → KindRunTheorem K → (image : List ℕ) (m : Model) (size : ℕ) (calls : List (KindCall K)) → check image ≡ 0 → Shows image m → minJournal ≤ size → size ≤ maxJournal
-    → let start : State = record { image = image; journal = started size } in
-    AllFit start calls → Shows (runOf start calls .image) (told (begun m) (asCalls start calls) (answers start (asCalls start calls)) .now)
-kind-run K theorem image m size calls ok S low high f =
-    let start : State = record { image = image; journal = started size } in
-    rw (theorem image size calls ok low high f .as-calls) (model-run image m size (asCalls start calls) ok S low high .shown)

@@ -188,12 +188,11 @@ module _ (s : List ℕ) (m : Model) (S : Shows s m) (ok : check s ≡ 0) (c : Ch
   -- blocks: those in use before and after, against what the model counts
   both : (be32 s 20 + m .free ≡ blockCount s) × (be32 (after s c) 20 + be32 (after s c) 24 ≡ blockCount s)
       × (be32 (after s c) 20 + (gives c (asFile here) + givesFolder c (asFolder here)) ≡ be32 s 20 + takes c (asFile here))
-  both =
-      (
-        rw (S .free) at (all-blocks s ok),
-        all-blocks (after s c) (change-sound s ok c r) ∙ ap (λ (k : ℕ). k / 512) (change-length s ok c r),
-        rw (S .files (subject c), S .folders (subject c)) at (blocks-in-use s ok c r),
-      )
+  both = (
+    rw (S .free) at (all-blocks s ok),
+    all-blocks (after s c) (change-sound s ok c r) ∙ ap (λ (k : ℕ). k / 512) (change-length s ok c r),
+    rw (S .files (subject c), S .folders (subject c)) at (blocks-in-use s ok c r),
+  )
 
   one : further c ≡ [] → (be32 (after s c) 24 ≡ m .free + blocks here - blocks (becomes c here)) × (blocks (becomes c here) ≤ m .free + blocks here)
   one o =
