@@ -16,7 +16,7 @@ use Rattle.store.specs.Change.{Change, plain, refusal, after, subject, further}
 use Rattle.layout.proofs.Laws.Tests.{firstOf-zero}
 use Rattle.volume.proofs.Laws.Places.{directory-at-path}
 use Rattle.store.proofs.Theorems.{change-sound}
-use Rattle.model.specs.Model.{nothing, Model, becomes, step, showsNothing, showsFolder}
+use Rattle.model.specs.Model.{Model, becomes, step, showsNothing, showsFolder}
 use Rattle.model.specs.Refines.{asFile, asFolder, Shows, Alike}
 use Rattle.model.proofs.Laws.Models.{own-at, other-at, either-order-model}
 use Rattle.model.proofs.Laws.Steps.{refines, allowed}

@@ -27,7 +27,7 @@ use Rattle.journal.specs.Replay.{standing}
 use Rattle.model.specs.Model.{Node, Model, step, settings, showsNothing}
 use Rattle.model.specs.Looks.{bytesIn, noFile, readIn, readAttributesIn, revisionsIn, settingsIn}
 use Rattle.model.specs.Refusals.{parentOf, noFolder, refusalIn, placeIn, placeFor, isBare}
-use Rattle.model.specs.Listing.{child, roomFor, listNumber, EntrySays, Counted, goal, leadsOn, staysIn, Comes}
+use Rattle.model.specs.Listing.{child, Lists, roomFor, listNumber, EntrySays, Counted, goal, leadsOn, staysIn, Comes}
 use Rattle.model.specs.Refines.{Shows, Tree, modelOf}
 use Rattle.model.specs.Runs.{ModelRunTheorem, modelled}
 use Rattle.model.specs.Calls.{EveryCallTheorem}
@@ -38,6 +38,7 @@ use Rattle.model.proofs.Laws.Looks as looks
 use Rattle.model.proofs.Laws.Exists as exists
 use Rattle.model.proofs.Laws.Trees as trees
 use Rattle.model.proofs.Laws.Refusals as refusals
+use Rattle.model.proofs.Laws.Folders as folders
 use Rattle.model.proofs.Laws.Counts as counts
 use Rattle.model.proofs.Laws.Entries as entries
 use Rattle.model.proofs.Laws.Runs as runs
@@ -54,7 +55,7 @@ module _ (s : List ℕ) (m : Model) (shown : Shows s m) (ok : check s ≡ 0) whe
   pub shows-tree : Tree m
   shows-tree = trees.shows-tree s m shown
 
-  -- A CHANGE is refused with the model's number; but whether the folder has a place for one entry more (13), and whether a folder is empty (18), the image says.
+  -- A CHANGE is refused with the model's number; whether there is a place for a new name (13) and whether a folder is empty (18) is said below, by names.
   pub refused : (c : Change) → refusal s c ≡ refusalIn (placeFor s c) (isBare s (subject c)) m c
   refused = refusals.decided s m shown ok
 
@@ -111,6 +112,10 @@ module _ (s : List ℕ) (m : Model) (shown : Shows s m) (ok : check s ≡ 0) whe
 
   pub get-model : (directory serial : List ℕ) (which : Which) (buffer : List ℕ) → getIn s directory serial which buffer ≡ settingsIn m directory serial which buffer
   get-model = looks.get-model s m shown ok
+
+-- Two lists of the names of a folder are as long, so 13 and 18 go by the model alone, but for the blocks of the root.
+pub as-many : (m : Model) (at : List ℕ) (ns ks : List (List ℕ)) → Lists m at ns → Lists m at ks → length ns ≡ length ks
+as-many = folders.as-many
 
 -- A RUN. After any calls the image shows what their answers tell, and the model says so of every answer.
 pub model-run : ModelRunTheorem

@@ -7,7 +7,7 @@ use mathlib.Core.List.{List, [], _∷_, _++_}
 use mathlib.Core.Logic.{_⊎_}
 use lib.ListN.{length, take}
 use lib.Dec.{eqb, ltb}
-use Rattle.layout.specs.Lists.{same, has, distinct}
+use Rattle.layout.specs.Lists.{every, same, has, distinct}
 use Rattle.layout.specs.Bytes.{be32, be64, bytes4, bytes8, splice}
 use Rattle.layout.specs.Geometry.{blocksFor}
 use Rattle.layout.specs.Directory.{slash, goodName, padded}
@@ -21,8 +21,9 @@ use Rattle.model.specs.Refusals.{parentOf, inFolder, noFolder}
 abbrev pub child : List ℕ → List ℕ → List ℕ
 child at name = at ++ (slash ∷ name)
 
--- these are the names in a folder: each once, something is at each, and no name is left out at which something is
+-- these are the names in a folder: good names, each once, something is at each, and no name is left out at which something is
 pub record Lists (m : Model) (at : List ℕ) (names : List (List ℕ)) : Type 0 where
+  pub good : every goodName names ≡ true
   pub once : distinct same names ≡ true
   pub shown : (name : List ℕ) → has same name names ≡ true → showsNothing (m .at (child at name)) ≡ false
   pub whole : (name : List ℕ) → goodName name ≡ true → showsNothing (m .at (child at name)) ≡ false → has same name names ≡ true

@@ -1,34 +1,32 @@
 -- Every call by the model: further calls are calls of the run, and what they tell by their own answers is what those tell.
 use Prim.Native.Nat.{ℕ, zero, suc, _+_, _≤_}
 use mathlib.Core.Path.{_≡_, refl, sym, ap, _∙_, subst}
-use mathlib.Core.Bool.{Bool, true, false, false≢true}
+use mathlib.Core.Bool.{Bool, true, false}
 use mathlib.Core.List.{List, [], _∷_, _++_, map}
-use mathlib.Core.Logic.{_⊎_, inl, inr, _≢_}
-use native.Mathlib.Omega.{arith}
+use mathlib.Core.Logic.{_⊎_, inl, inr}
 use native.Mathlib.Nat.{suc-ne-zero}
 use lib.ListN.{length, take}
 use lib.Dec.{eqb}
-use Rattle.layout.specs.Refusals.{require, firstOf, accept}
+use Rattle.layout.specs.Refusals.{require, accept}
 use Rattle.layout.specs.Limits.{minJournal, maxJournal}
 use Rattle.layout.specs.Lists.{has}
-use Rattle.layout.specs.Geometry.{blockCount}
 use Rattle.layout.specs.Check.{check}
 use Rattle.layout.specs.Directory.{isFile, sizeOf}
 use Rattle.layout.specs.Paths.{entryOf, fileRefusal}
 use Rattle.layout.specs.Looks.{ReadAnswer}
 use Rattle.layout.proofs.Laws.Tests.{true-or-false}
-use Rattle.store.specs.Change.{Change, write, refusal, subject}
+use Rattle.store.specs.Change.{Change, write}
 use Rattle.store.proofs.Theorems.{change-sound}
-use Rattle.journal.specs.Journal.{started, wellFormed}
-use Rattle.journal.specs.Run.{Call, change, undo, numberOf, State, state, changeRefusal, afterChange, step, answer, run}
-use Rattle.journal.specs.Replay.{RunInvariant, replayed, standingAfter, standing}
-use Rattle.journal.specs.Kinds.{KindCall, call, further, StandsFor, Reached, stepOf, runOf, FitsRun, AllFit, oneOf}
+use Rattle.journal.specs.Journal.{started}
+use Rattle.journal.specs.Run.{Call, change, numberOf, State, changeRefusal, afterChange, step, answer, run}
+use Rattle.journal.specs.Replay.{replayed, standingAfter, standing}
+use Rattle.journal.specs.Kinds.{call, further, StandsFor, Reached, stepOf, runOf, FitsRun, AllFit}
 use Rattle.journal.specs.Back.{undos}
 use Rattle.journal.proofs.Laws.Kinds.{run-append}
 use Rattle.journal.proofs.Laws.Runs.{Stand, One, one-call, run-after}
 use Rattle.write_list.specs.List.{Listed, listOk, writes, listed, oneByOne, listRefusal, writeList}
 use Rattle.write_list.proofs.Laws.Runs.{lists-stand}
-use Rattle.append.specs.Append.{fileEnd, pieceWrite, appendRefusal, afterAppend, appendAnswer}
+use Rattle.append.specs.Append.{fileEnd, pieceWrite, appendRefusal, appendAnswer}
 use Rattle.append.specs.Runs.{Piece, pieceCalls}
 use Rattle.append.proofs.Laws.Runs.{pieces-stand}
 use Rattle.chain_table.proofs.Laws.Runs.{transfers-stand}
@@ -37,11 +35,10 @@ use Rattle.back.specs.UndoTo as marked
 use Rattle.back.proofs.Laws.Runs.{infos-stand, backs-stand}
 use Rattle.bulgefs.specs.Runs.{FurtherKind, list, append, readOn, table, journalInfo, undoTo, readings, kindOf}
 use Rattle.model.specs.Model.{Model}
-use Rattle.model.specs.Looks.{bytesIn, noFile}
+use Rattle.model.specs.Looks.{bytesIn}
 use Rattle.model.specs.Refines.{Shows}
-use Rattle.model.specs.Refusals.{placeFor, isBare}
-use Rattle.model.specs.Runs.{Story, begun, tells, Decided, Says, modelled}
-use Rattle.model.specs.Calls.{stepped, many, backBy, pieceOf, appended, furtherTells, OneByOne, ListSays, FurtherSays, AnyCall, toldAll, SaidAll, EveryCallTheorem}
+use Rattle.model.specs.Runs.{Story, tells, Decided, modelled}
+use Rattle.model.specs.Calls.{many, backBy, appended, furtherTells, OneByOne, ListSays, FurtherSays, AnyCall, toldAll, SaidAll, EveryCallTheorem}
 use Rattle.model.proofs.Laws.Looks.{Both, Neither, either, number-shown, read-model}
 use Rattle.model.proofs.Laws.Runs.{number-is, decides, decides-short, pastOf, storyOf, standing-shown, tells-standing, says-standing}
 

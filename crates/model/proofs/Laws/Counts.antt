@@ -1,39 +1,38 @@
 -- PLACES: the folder that a path is in, opened; whether it has a place left (13), by its names; and the same of a move, whose own place counts too.
 use Prim.Native.Nat.{ℕ, _+_, _-_, _*_, _≤_, _<_}
 use mathlib.Core.Path.{_≡_, refl, sym, ap, _∙_, subst}
-use mathlib.Core.Bool.{Bool, true, false, not, _&&_, _||_, or-true, false≢true}
+use mathlib.Core.Bool.{Bool, true, false, not, _||_, or-true, false≢true}
 use mathlib.Core.List.{List, [], _∷_}
-use mathlib.Core.Logic.{_⊎_, inl, inr, ⊎-elim, _≢_}
+use mathlib.Core.Logic.{inl, _≢_}
 use native.Mathlib.Omega.{arith}
 use native.Mathlib.Decide.{ℕ-discrete}
-use borrow.Author.Tests.{eqb-true, eqb-false, ne-eqb, eq-eqb, not-true}
+use borrow.Author.Tests.{eqb-true, ne-eqb, eq-eqb}
 use lib.ListN.{length, getD}
 use lib.Dec.{eqb}
 use Rattle.layout.specs.Lists.{same}
-use Rattle.layout.specs.Directory.{slotAt, slots, typeOf, firstBlock, isFree, isFile, isDirectory, directory, rootOf, dirs, freeSlot, isEmpty}
+use Rattle.layout.specs.Directory.{slotAt, typeOf, firstBlock, isFree, isFile, isDirectory, directory, rootOf, freeSlot, isEmpty}
 use Rattle.layout.specs.Check.{check}
 use Rattle.layout.specs.Paths.{parts, pathOk, leading, shallow, resolve, home, pathSlot, entryOf, fileRefusal, directoryRefusal}
-use Rattle.layout.proofs.Laws.Tests.{and-split, is-false, eqb-self, true-not-false}
+use Rattle.layout.proofs.Laws.Tests.{and-split, is-false, true-not-false}
 use Rattle.layout.proofs.Laws.Lists.{lowest-none, select-same}
 use Rattle.layout.proofs.Laws.Names.{same-eq, same-refl}
 use Rattle.layout.proofs.Laws.Slots.{slot-other}
 use Rattle.layout.proofs.Laws.Trees.{sizeAt, length-directory}
-use Rattle.layout.proofs.Laws.Sound.{Sound, sound}
+use Rattle.layout.proofs.Laws.Sound.{sound}
 use Rattle.layout.proofs.Laws.Ways.{same-home}
 use Rattle.volume.specs.Views as views
 use Rattle.volume.specs.Views.{folderAt}
 use Rattle.volume.specs.Move.{openSlot, moveSlot}
 use Rattle.volume.proofs.Laws.Places.{At, file-at-path}
-use Rattle.store.specs.Change.{Change, subject, further}
-use Rattle.model.specs.Model.{Folder, Node, folder, Model, showsFolder}
+use Rattle.model.specs.Model.{Folder, folder, Model}
 use Rattle.model.specs.Looks.{noFile}
-use Rattle.model.specs.Refusals.{parentOf, inFolder, noFolder, hasPlace, placeIn, placeFor, isBare}
-use Rattle.model.specs.Listing.{Lists, roomFor, Counted, goal, leadsOn, staysIn}
+use Rattle.model.specs.Refusals.{parentOf, inFolder, noFolder, hasPlace, placeIn, isBare}
+use Rattle.model.specs.Listing.{roomFor, Counted, goal, leadsOn, staysIn}
 use Rattle.model.specs.Refines.{asFolder, Shows, namesIn}
 use Rattle.model.proofs.Laws.Nodes.{isShownFolder}
 use Rattle.model.proofs.Laws.Trees.{outer-shown, folder-accepted}
 use Rattle.model.proofs.Laws.Looks.{number-shown}
-use Rattle.model.proofs.Laws.Parents.{joins, Parent, parent, folder-of, home-root, home-shown}
+use Rattle.model.proofs.Laws.Parents.{joins, parent, folder-of, home-root, home-shown}
 use Rattle.model.proofs.Laws.Refusals.{folder-number}
 use Rattle.model.proofs.Laws.Folders.{Opened, root-opened, folder-opened, folder-size, listed, place-counted, empty-counted}
 

@@ -2,19 +2,19 @@
 use Prim.Native.Nat.{ℕ, zero, suc, _+_, _-_, _*_, _/_, _≤_, _<_, min}
 use mathlib.Core.Path.{_≡_, refl, sym, ap, _∙_, subst}
 use mathlib.Core.Bool.{Bool, true, false, _&&_, cond, false≢true}
-use mathlib.Core.List.{List, [], _∷_}
+use mathlib.Core.List.{List, []}
 use mathlib.Core.Logic.{_⊎_, inl, inr, ⊎-elim, _≢_}
 use native.Mathlib.Omega.{arith}
 use native.Mathlib.Decide.{ℕ-discrete}
-use borrow.Author.Tests.{leb-true, le-leb, ne-eqb, eq-eqb, eqb-true, eqb-false, not-true}
+use borrow.Author.Tests.{leb-true, le-leb, ne-eqb, eqb-true, eqb-false, not-true}
 use lib.ListN.{length, getD, take}
 use lib.Dec.{eqb, leb}
-use Rattle.layout.specs.Lists.{lowest, interval, same}
+use Rattle.layout.specs.Lists.{lowest, interval}
 use Rattle.layout.specs.Bytes.{be32, be64, bytes4, bytes8, part, splice}
 use Rattle.layout.specs.Geometry.{blocksFor}
-use Rattle.layout.specs.Directory.{slotAt, slots, typeOf, firstBlock, sizeOf, blocksOf, attributeBlock, attributeSize, isFile, isDirectory, isUsed, goodName, nameOf, nameOk, padded, directory, rootOf, content, attributes}
+use Rattle.layout.specs.Directory.{slotAt, typeOf, firstBlock, sizeOf, blocksOf, attributeBlock, attributeSize, isFile, isDirectory, isUsed, goodName, nameOf, nameOk, padded, directory, rootOf, content, attributes}
 use Rattle.layout.specs.Check.{check, noAttributes, attributesOk, fileOk, directoryEntryOk}
-use Rattle.layout.specs.Paths.{home, pathSlot, entryOf, fileRefusal, directoryRefusal}
+use Rattle.layout.specs.Paths.{pathSlot, entryOf, fileRefusal, directoryRefusal}
 use Rattle.layout.specs.Looks.{EntryAnswer, noEntry, entryFields, isRootPath, listedRefusal, listedBlock, usedSlot, nextEntry}
 use Rattle.layout.proofs.Laws.Tests.{and-split, and-join}
 use Rattle.layout.proofs.Laws.Lists.{lowest-met, lowest-none, lowest-first}
@@ -27,13 +27,13 @@ use Rattle.layout.proofs.Laws.Slots.{slot-entry, entry-high, names-differ}
 use Rattle.layout.proofs.Laws.Trees.{sizeAt, length-directory}
 use Rattle.layout.proofs.Laws.Sound.{Sound, sound}
 use Rattle.volume.specs.Views as views
-use Rattle.volume.specs.Views.{fileAt, folderAt, fileOf, folderOf}
+use Rattle.volume.specs.Views.{fileOf, folderOf}
 use Rattle.volume.proofs.Laws.Views.{file-shown}
 use Rattle.volume.proofs.Laws.Effects.{content-length, attributes-blocks}
 use Rattle.store.specs.Put.{front}
 use Rattle.model.specs.Model.{Given, Node, nothing, file, folder, Model, showsNothing}
 use Rattle.model.specs.Refusals.{noFolder}
-use Rattle.model.specs.Listing.{child, listNumber, Given≡, Tells, Entered, EntrySays, Comes}
+use Rattle.model.specs.Listing.{child, listNumber, Given≡, Tells, EntrySays, Comes}
 use Rattle.model.specs.Refines.{kindBytes, asFile, asFolder, Shows}
 use Rattle.model.proofs.Laws.Nodes.{isShown, isShownFolder}
 use Rattle.model.proofs.Laws.Steps.{folder-shown}

@@ -1,7 +1,7 @@
 -- A FOLDER OF THE IMAGE AND ITS NAMES: the names in its slots are those of the model, 13 counts them, and 18 asks whether there is one.
 use Prim.Native.Nat.{ℕ, zero, suc, _+_, _-_, _*_, _≤_, _<_}
 use mathlib.Core.Path.{_≡_, refl, sym, ap, _∙_, subst}
-use mathlib.Core.Bool.{Bool, true, false, not, _&&_, cond}
+use mathlib.Core.Bool.{Bool, true, false, not, cond}
 use mathlib.Core.List.{List, [], _∷_, _++_, map, append-nil}
 use mathlib.Core.Logic.{_⊎_, inl, inr, ⊎-elim, _≢_}
 use native.Mathlib.Omega.{arith}
@@ -12,11 +12,11 @@ use lib.Dec.{eqb, leb, ltb}
 use Rattle.layout.specs.Limits.{maxLevels}
 use Rattle.layout.specs.Lists.{every, has, distinct, interval, select, same}
 use Rattle.layout.specs.Geometry.{blockCount}
-use Rattle.layout.specs.Directory.{slotAt, slots, typeOf, firstBlock, blocksOf, isFree, isFile, isDirectory, isUsed, isEmpty, slash, goodName, nameOf, nameOk, directory, rootOf, children, dirs, freeSlot}
+use Rattle.layout.specs.Directory.{slotAt, slots, typeOf, firstBlock, isFree, isFile, isDirectory, isUsed, isEmpty, slash, goodName, nameOf, nameOk, directory, rootOf, children, dirs, freeSlot}
 use Rattle.layout.specs.Check.{check, fileOk, directoryEntryOk}
 use Rattle.layout.specs.Paths.{cut, parts, pathOk, leading, lastPart, shallow, childOf, resolve, home, pathSlot, entryOf, directoryRefusal}
 use Rattle.layout.proofs.Laws.Tests.{and-split, and-join, require-zero, true-not-false, is-false}
-use Rattle.layout.proofs.Laws.Lists.{In, has-in, in-has, select-split}
+use Rattle.layout.proofs.Laws.Lists.{In, every-in, in-every, has-in, in-has, select-split}
 use Rattle.layout.proofs.Laws.Joins.{in-interval, in-select, select-has, of-map, to-map}
 use Rattle.layout.proofs.Laws.Names.{same-eq, same-refl, goodName-split}
 use Rattle.layout.proofs.Laws.Paths.{Named, path-slot, path-named}
@@ -27,7 +27,7 @@ use Rattle.volume.specs.Views as views
 use Rattle.volume.specs.Views.{folderOf}
 use Rattle.volume.proofs.Laws.Places.{At, directory-at-path}
 use Rattle.store.proofs.Laws.Serials.{cut-append}
-use Rattle.model.specs.Model.{Folder, Node, nothing, file, folder, Model, showsNothing}
+use Rattle.model.specs.Model.{Folder, folder, Model, showsNothing}
 use Rattle.model.specs.Listing.{child, Lists, roomFor}
 use Rattle.model.specs.Refines.{asFolder, Shows, namesIn, usedSlots}
 use Rattle.model.proofs.Laws.Steps.{folder-shown}
@@ -83,6 +83,47 @@ names-once f (x ∷ l) d g =
 length-map : (f : ℕ → List ℕ) (xs : List ℕ) → length (map f xs) ≡ length xs
 length-map f [] = refl
 length-map f (x ∷ xs) = ap suc (length-map f xs)
+
+-- TWO LISTS of the same names are as long
+without : List ℕ → List (List ℕ) → List (List ℕ)
+without x [] = []
+without x (k ∷ ks) = cond (same x k) ks (k ∷ without x ks)
+
+without-length : (x : List ℕ) (ks : List (List ℕ)) → In x ks → length ks ≡ suc (length (without x ks))
+unfolding without
+without-length x (k ∷ ks) (inl e) = rw (e, same-refl k)
+without-length x (k ∷ ks) (inr i) = go (same x k) (without-length x ks i)
+  where
+    go : (t : Bool) → length ks ≡ suc (length (without x ks)) → suc (length ks) ≡ suc (length (cond t ks (k ∷ without x ks)))
+    go true h = refl
+    go false h = ap suc h
+
+without-in : (x y : List ℕ) (ks : List (List ℕ)) → In y ks → y ≢ x → In y (without x ks)
+unfolding without
+without-in x y (k ∷ ks) i ne = go (same x k) refl i (λ j. without-in x y ks j ne)
+  where
+    go : (t : Bool) → same x k ≡ t → In y (k ∷ ks) → (In y ks → In y (without x ks)) → In y (cond t ks (k ∷ without x ks))
+    go true e (inl q) ih = absurd (ne (q ∙ sym (same-eq x k e)))
+    go true e (inr j) ih = j
+    go false e (inl q) ih = inl q
+    go false e (inr j) ih = inr (ih j)
+
+no-more : (ns ks : List (List ℕ)) → distinct same ns ≡ true → ((x : List ℕ) → In x ns → In x ks) → length ns ≤ length ks
+no-more [] ks d f = omega arith
+no-more (x ∷ ns) ks d f =
+    let w = and-split (not (has same x ns)) (distinct same ns) d in
+    let away : (y : List ℕ) → In y ns → y ≢ x = λ y i z. true-not-false (in-has same same-eq same-refl x ns (subst (λ (q : List ℕ). In q ns) z i)) (not-true _ (w .0)) in
+    let h = no-more ns (without x ks) (w .1) (λ y i. without-in x y ks (f y (inr i)) (away y i)) in
+    let l = without-length x ks (f x (inl refl)) in
+    omega arith
+
+listed-both : (m : Model) (at : List ℕ) (ns ks : List (List ℕ)) → Lists m at ns → Lists m at ks → length ns ≤ length ks
+listed-both m at ns ks L K =
+    no-more ns ks (L .once)
+    (λ x i. has-in same same-eq same-refl x ks (K .whole x (every-in goodName ns x (L .good) i) (L .shown x (in-has same same-eq same-refl x ns i))))
+
+pub as-many : (m : Model) (at : List ℕ) (ns ks : List (List ℕ)) → Lists m at ns → Lists m at ks → length ns ≡ length ks
+as-many m at ns ks L K = let a = listed-both m at ns ks L K in let b = listed-both m at ks ns K L in omega arith
 
 -- A PART MORE
 module _ (x : List ℕ) where
@@ -303,6 +344,9 @@ module _ (s : List ℕ) (m : Model) (S : Shows s m) (ok : check s ≡ 0) (at : L
   unfolding usedSlots
   used-once = some-once (λ x. isUsed (typeOf s (slotAt (directory s b) x))) 1 (4 * length (directory s b) - 2)
 
+  name-good : (name : List ℕ) → (k : ℕ) × In k (usedSlots s b) × (name ≡ nameOf s (place k)) → goodName name ≡ true
+  name-good name w = let x = in-used (w .0) (w .1) in rw (w .2) (slot-good (w .0) (x .0) (x .1) (x .2))
+
   name-shown : (name : List ℕ) → (k : ℕ) × In k (usedSlots s b) × (name ≡ nameOf s (place k)) → showsNothing (m .at (child at name)) ≡ false
   name-shown name w = let x = in-used (w .0) (w .1) in rw (w .2) (slot-shown (w .0) (x .0) (x .1) (x .2))
 
@@ -311,6 +355,7 @@ module _ (s : List ℕ) (m : Model) (S : Shows s m) (ok : check s ≡ 0) (at : L
   unfolding namesIn
   listed =
       record {
+        good = in-every goodName (map (λ k. nameOf s (place k)) (usedSlots s b)) (λ name i. name-good name (of-map (λ k. nameOf s (place k)) name (usedSlots s b) i));
         once = names-once (λ k. nameOf s (place k)) (usedSlots s b) used-once apart;
         shown = λ name h. name-shown name (of-map (λ k. nameOf s (place k)) name (usedSlots s b) (has-in same same-eq same-refl name (map (λ k. nameOf s (place k)) (usedSlots s b)) h));
         whole = λ name g h.

@@ -1,14 +1,13 @@
 -- ONE STEP, AND TWO IN EITHER ORDER, by the model alone: no image is looked at.
 use Prim.Native.Nat.{ℕ, _+_, _-_, _≤_}
 use mathlib.Core.Path.{_≡_, refl, sym, ap, _∙_, subst}
-use mathlib.Core.Bool.{Bool, true, false, _&&_, false≢true}
+use mathlib.Core.Bool.{true, false, false≢true}
 use mathlib.Core.List.{List, [], _∷_}
 use mathlib.Core.Logic.{_⊎_, inl, inr, ⊎-elim, _≢_}
 use native.Mathlib.Omega.{arith}
 use borrow.Author.Tests.{leb-true}
-use lib.ListN.{length}
 use lib.Dec.{leb}
-use Rattle.layout.specs.Lists.{same, every}
+use Rattle.layout.specs.Lists.{same}
 use Rattle.layout.proofs.Laws.Tests.{and-split, is-false, true-not-false}
 use Rattle.layout.proofs.Laws.Lists.{In, every-in}
 use Rattle.layout.proofs.Laws.Names.{same-refl, same-eq, same-or-not}

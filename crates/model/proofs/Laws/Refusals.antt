@@ -36,13 +36,12 @@ use Rattle.store.proofs.Laws.Serials.{isIn, addressed, serial-path, serial-shal
 use Rattle.store.proofs.Theorems.{change-sound}
 use Rattle.layout.proofs.Laws.Tests.{and-split, is-false, lt-or-ge, require-zero, true-not-false}
 use Rattle.layout.proofs.Laws.Looks.{lookup-file}
-use Rattle.layout.proofs.Laws.Names.{same-refl}
 use Rattle.layout.proofs.Laws.Owners.{free-count}
 use Rattle.layout.proofs.Laws.Sound.{sound}
 use Rattle.volume.proofs.Laws.Effects.{attributes-blocks}
 use Rattle.volume.proofs.Laws.Places.{path-levels}
 use Rattle.volume.proofs.Laws.Room.{room-is}
-use Rattle.model.specs.Model.{File, Node, nothing, file, folder, Model, blocks, becomes, showsNothing, showsFolder, settings, new, holding, written, step, showsFile}
+use Rattle.model.specs.Model.{File, Node, nothing, file, folder, Model, blocks, becomes, showsNothing, showsFolder, settings, new, written, step, showsFile}
 use Rattle.model.specs.Looks.{bytesIn, attributesIn, noFile}
 use Rattle.model.specs.Refines.{asFolder, Shows}
 use Rattle.model.specs.Refusals.{inFolder, newNumber, noFolder, roomNumber, putNumber, refusalIn, hasPlace, placeFor, isBare}
