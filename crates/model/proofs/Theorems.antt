@@ -22,16 +22,21 @@ use Rattle.store.specs.Put.{front, pathOf, heldIn}
 use Rattle.store.specs.Get.{Which, getIn}
 use Rattle.store.specs.Change.{Change, plain, putIn, refusal, after, subject, subjects}
 use Rattle.journal.specs.Journal.{started}
-use Rattle.journal.specs.Run.{Call, State, run}
+use Rattle.journal.specs.Run.{Call, State, changeRefusal, afterChange, run}
 use Rattle.journal.specs.Replay.{standing}
 use Rattle.model.specs.Model.{Node, Model, step, settings, showsNothing}
 use Rattle.model.specs.Looks.{bytesIn, noFile, readIn, readAttributesIn, revisionsIn, settingsIn}
 use Rattle.model.specs.Refusals.{parentOf, noFolder, refusalIn, placeIn, placeFor, isBare}
 use Rattle.model.specs.Listing.{child, Lists, roomFor, listNumber, EntrySays, Counted, goal, leadsOn, staysIn, Comes}
 use Rattle.model.specs.Refines.{Shows, Tree, modelOf}
+use Rattle.model.specs.Orders as orders
+use Rattle.model.specs.Orders.{Clerk, asks}
 use Rattle.model.specs.Runs.{ModelRunTheorem, modelled}
 use Rattle.model.specs.Calls.{EveryCallTheorem}
-use Rattle.layout.proofs.Laws.Lists.{In}
+use Rattle.layout.specs.Lists.{same, has}
+use Rattle.layout.proofs.Laws.Tests.{true-not-false}
+use Rattle.layout.proofs.Laws.Lists.{in-has}
+use Rattle.layout.proofs.Laws.Names.{same-eq, same-refl}
 use Rattle.model.proofs.Laws.Models as models
 use Rattle.model.proofs.Laws.Steps as steps
 use Rattle.model.proofs.Laws.Looks as looks
@@ -68,9 +73,10 @@ module _ (s : List ℕ) (m : Model) (shown : Shows s m) (ok : check s ≡ 0) whe
       → revisionsIn (step m (putIn directory serial time bytes)) directory serial ≡ added (revisionsIn m directory serial) bytes
   put-adds directory serial time bytes r = ap heldIn (steps.put-adds s m shown ok directory serial time bytes r)
 
-  pub revisions-stay : (c : Change) → refusal s c ≡ 0 → (directory serial : List ℕ) → (In (pathOf directory serial) (subjects c) → ⊥)
+  pub revisions-stay : (c : Change) → refusal s c ≡ 0 → (directory serial : List ℕ) → has same (pathOf directory serial) (subjects c) ≡ false
       → revisionsIn (step m c) directory serial ≡ revisionsIn m directory serial
-  revisions-stay c r directory serial away = ap (λ (x : Node). heldIn (settings x)) (models.other-at m c (steps.allowed s m shown ok c r) (pathOf directory serial) away)
+  revisions-stay c r directory serial away = ap (λ (x : Node). heldIn (settings x)) (models.other-at m c (steps.allowed s m shown ok c r) (pathOf directory serial)
+      (λ i. true-not-false (in-has same same-eq same-refl (pathOf directory serial) (subjects c) i) away))
 
   -- 13: whether there is a place, by the names in the folder that the new name comes to; a move within a folder has its own. 18: a folder is empty if it has no
   -- names, and one that is removed has nothing inside.
@@ -112,6 +118,19 @@ module _ (s : List ℕ) (m : Model) (shown : Shows s m) (ok : check s ≡ 0) whe
 
   pub get-model : (directory serial : List ℕ) (which : Which) (buffer : List ℕ) → getIn s directory serial which buffer ≡ settingsIn m directory serial which buffer
   get-model = looks.get-model s m shown ok
+
+-- L13 from an image and a journal, for changes of every kind; and for two creates, writes or deletes in the words of the request: "on different paths, neither
+-- inside the other, given the same times: if both, one right after the other from the same image and journal, are accepted in both orders, then afterwards the
+-- same paths exist with the same bytes, times and other given fields, and the free count is the same". That neither is inside the other is not used.
+pub journal-order : (p : State) (m : Model) → Shows (p .image) m → (c d : Change)
+    → changeRefusal p c ≡ 0 → changeRefusal (afterChange p c) d ≡ 0 → changeRefusal p d ≡ 0 → changeRefusal (afterChange p d) c ≡ 0
+    → subject c ≢ subject d → SameFiles (afterChange (afterChange p c) d .image) (afterChange (afterChange p d) c .image)
+journal-order = corollaries.journal-order
+
+pub clerks : (p : State) (m : Model) → Shows (p .image) m → (c d : Clerk) → orders.pathOf c ≢ orders.pathOf d → isInside (orders.pathOf c) (orders.pathOf d) ≡ false → isInside (orders.pathOf d) (orders.pathOf c) ≡ false
+    → changeRefusal p (asks c) ≡ 0 → changeRefusal (afterChange p (asks c)) (asks d) ≡ 0 → changeRefusal p (asks d) ≡ 0 → changeRefusal (afterChange p (asks d)) (asks c) ≡ 0
+    → SameFiles (afterChange (afterChange p (asks c)) (asks d) .image) (afterChange (afterChange p (asks d)) (asks c) .image)
+clerks = corollaries.clerks
 
 -- Two lists of the names of a folder are as long, so 13 and 18 go by the model alone, but for the blocks of the root.
 pub as-many : (m : Model) (at : List ℕ) (ns ks : List (List ℕ)) → Lists m at ns → Lists m at ks → length ns ≡ length ks

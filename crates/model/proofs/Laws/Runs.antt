@@ -31,7 +31,7 @@ use Rattle.model.proofs.Laws.Entries.{entry-says}
 use Rattle.model.proofs.Laws.Looks.{lookup-model, read-model, look-model, attributes-model, get-model}
 
 -- an accepted change on a state
-accepted : (p : State) (c : Change) → changeRefusal p c ≡ 0 → (check (p .image) ≡ 0) × (refusal (p .image) c ≡ 0) × (afterChange p c .image ≡ after (p .image) c)
+pub accepted : (p : State) (c : Change) → changeRefusal p c ≡ 0 → (check (p .image) ≡ 0) × (refusal (p .image) c ≡ 0) × (afterChange p c .image ≡ after (p .image) c)
 unfolding changeRefusal afterChange
 accepted p c r =
     let a = firstOf-zero (check (p .image)) _ r in

@@ -44,7 +44,8 @@ use Rattle.volume.proofs.Laws.Arrived.{move-come, move-folders}
 use Rattle.volume.proofs.Laws.Orders.{in-or-not}
 use Rattle.store.proofs.Laws.Serials.{there-shown, stored-view}
 use Rattle.store.proofs.Laws.Put.{by-opened, put-serial, put-stored}
-use Rattle.store.proofs.Theorems.{change-sound, change-length, own-file, own-folder, other-files, other-folders, blocks-in-use}
+use Rattle.store.proofs.Laws.Shown.{others, folders}
+use Rattle.store.proofs.Theorems.{change-sound, change-length, own-file, own-folder, blocks-in-use}
 use Rattle.model.specs.Model.{Node, nothing, file, folder, Model, blocks, becomes, step, showsNothing, settings, showsFile}
 use Rattle.model.proofs.Laws.Allows.{onlyFile, notFolder, suits, allows}
 use Rattle.model.specs.Refines.{asFile, asFolder, Shows}
@@ -216,12 +217,12 @@ module _ (s : List ℕ) (m : Model) (S : Shows s m) (ok : check s ≡ 0) (c : Ch
   file-at : (path : List ℕ) → In path (subjects c) ⊎ (In path (subjects c) → ⊥) → fileAt (after s c) path ≡ asFile (step m c .at path)
   file-at path (inl (inl e)) = rw (e, own-at m c allowed) (sym own-node)
   file-at path (inl (inr i)) = rw (come-at m c allowed path i) (come-node path i .0)
-  file-at path (inr out) = rw (other-at m c allowed path out) (other-files s ok c r path out ∙ S .files path)
+  file-at path (inr out) = rw (other-at m c allowed path out) (others s c ok r path out ∙ S .files path)
 
   folder-at : (path : List ℕ) → In path (subjects c) ⊎ (In path (subjects c) → ⊥) → folderAt (after s c) path ≡ asFolder (step m c .at path)
   folder-at path (inl (inl e)) = rw (e, own-at m c allowed) (sym own-folder-node)
   folder-at path (inl (inr i)) = rw (come-at m c allowed path i) (come-node path i .1)
-  folder-at path (inr out) = rw (other-at m c allowed path out) (other-folders s ok c r path out ∙ S .folders path)
+  folder-at path (inr out) = rw (other-at m c allowed path out) (folders s c ok r path out ∙ S .folders path)
 
   -- THE STEP
   pub refines : Shows (after s c) (step m c)
