@@ -85,9 +85,10 @@ set-other : (m : Model) (path : List ℕ) (x : Node) (other : List ℕ) → othe
 unfolding setAt
 set-other m path x other ne = rw (is-false (same other path) (λ t. ne (same-eq other path t)))
 
-set-free : (m : Model) (path : List ℕ) (x : Node) → setAt m path x .free ≡ m .free + blocks (m .at path) - blocks x
+-- no block is lost, and none comes from nowhere
+set-blocks : (m : Model) (path : List ℕ) (x : Node) → blocks x ≤ m .free + blocks (m .at path) → setAt m path x .free + blocks x ≡ m .free + blocks (m .at path)
 unfolding setAt
-set-free m path x = refl
+set-blocks m path x h = omega arith
 
 brought-other : (x : Node) (tos : List (List ℕ)) (m : Model) (path : List ℕ) → (In path tos → ⊥) → brought x tos m .at path ≡ m .at path
 brought-other x [] m path out = refl
@@ -149,10 +150,12 @@ module _ (m : Model) (c : Change) (fits : allows m c ≡ true) where
   unfolding step
   other-at path out = brought-other here (further c) middle path (λ i. out (inr i)) ∙ set-other m (subject c) (becomes c here) path (λ z. out (inl z))
 
-  -- no block is lost and none comes from nowhere
-  pub free-one : further c ≡ [] → step m c .free ≡ m .free + blocks here - blocks (becomes c here)
+  last-one : further c ≡ [] → step m c .free ≡ middle .free
   unfolding step
-  free-one o = rw o (set-free m (subject c) (becomes c here))
+  last-one o = rw o
+
+  pub free-one : further c ≡ [] → step m c .free ≡ m .free + blocks here - blocks (becomes c here)
+  free-one o = omega (arith, last-one o, set-blocks m (subject c) (becomes c here) room, room)
 
   one-path : further c ≡ [] → step m c .free + weight (step m c) (subjects c) ≡ m .free + weight m (subjects c)
   one-path o =
@@ -160,12 +163,12 @@ module _ (m : Model) (c : Change) (fits : allows m c ≡ true) where
       let v : weight m (subjects c) ≡ blocks here + 0 = ap (λ (l : List (List ℕ)). blocks here + weight m l) o in
       omega (arith, free-one o, w, v, room)
 
-  free-two : (M : Moves c) → step m c .free ≡ middle .free + blocks (middle .at (M .to)) - blocks here
-  unfolding step
-  free-two M = rw (M .is) (set-free middle (M .to) here)
-
   to-in : (M : Moves c) → In (M .to) (further c)
   to-in M = rw (M .is) (inl refl)
+
+  last-two : (M : Moves c) → step m c .free ≡ setAt middle (M .to) here .free
+  unfolding step
+  last-two M = rw (M .is)
 
   pub free-moved : Moves c → step m c .free ≡ m .free
   free-moved M =
@@ -173,7 +176,9 @@ module _ (m : Model) (c : Change) (fits : allows m c ≡ true) where
       let n : M .to ≢ subject c = λ z. not-back (subst (λ (q : List ℕ). In q (further c)) z i) in
       let y : blocks (middle .at (M .to)) ≡ 0 = ap blocks (set-other m (subject c) (becomes c here) (M .to) n) ∙ nothing-blocks (m .at (M .to)) (vacant (M .to) i) in
       let g : blocks (becomes c here) ≡ 0 = ap blocks (M .gone here) in
-      omega (arith, free-two M, set-free m (subject c) (becomes c here), g, y)
+      let w = set-blocks m (subject c) (becomes c here) room in
+      let v = set-blocks middle (M .to) here (omega (arith, w, g)) in
+      omega (arith, last-two M, v, w, g, y)
 
   two-paths : (M : Moves c) → step m c .free + weight (step m c) (subjects c) ≡ m .free + weight m (subjects c)
   two-paths M =

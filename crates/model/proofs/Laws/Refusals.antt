@@ -123,12 +123,6 @@ file-of m path z =
     let b = require-zero (shallow (leading (parts path))) 16 (require (showsFile (m .at path)) 10 0) (a .1) in
     require-zero (showsFile (m .at path)) 9 0 (b .1) .0
 
-new-of : (place : Bool) (m : Model) (path : List ℕ) → newNumber place m path ≡ 0 → showsNothing (m .at path) ≡ true
-unfolding newNumber
-new-of place m path z =
-    let a = require-zero (inFolder m path) 9 (require (showsNothing (m .at path)) 11 (require place 13 0)) z in
-    require-zero (showsNothing (m .at path)) 10 (require place 13 0) (a .1) .0
-
 module _ (s : List ℕ) (m : Model) (S : Shows s m) (ok : check s ≡ 0) where
   pub free-shown : length (freeBlocks (next s) (blockCount s)) ≡ m .free
   free-shown = free-count s (sound s ok) ∙ S .free
@@ -158,6 +152,13 @@ module _ (s : List ℕ) (m : Model) (S : Shows s m) (ok : check s ≡ 0) where
           let same : showsFolder (m .at path) ≡ t = folder-shows (m .at path) ∙ ap isShownFolder (sym (S .folders path)) ∙ shown-at t q v u in
           rw (q, v, u, same)
 
+new-of : (place : Bool) (m : Model) (path : List ℕ) → newNumber place m path ≡ 0 → showsNothing (m .at path) ≡ true
+unfolding newNumber
+new-of place m path z =
+    let a = require-zero (inFolder m path) 9 (require (showsNothing (m .at path)) 11 (require place 13 0)) z in
+    require-zero (showsNothing (m .at path)) 10 (require place 13 0) (a .1) .0
+
+module _ (s : List ℕ) (m : Model) (S : Shows s m) (ok : check s ≡ 0) where
   -- the write at a path that shows a file
   pub write-shown : (path : List ℕ) (offset : ℕ) (bytes : List ℕ) (time : ℕ) → noFile m path ≡ 0 → offset ≤ length (bytesIn (m .at path))
       → leb (needed s (entryOf isFile s path) offset (length bytes)) (length (freeBlocks (next s) (blockCount s))) ≡ leb (blocks (becomes (plain (write path offset bytes time)) (m .at path))) (m .free + blocks (m .at path))
@@ -168,7 +169,7 @@ module _ (s : List ℕ) (m : Model) (S : Shows s m) (ok : check s ≡ 0) where
           → leb (needed s (entryOf isFile s path) offset (length bytes)) (length (freeBlocks (next s) (blockCount s))) ≡ leb (blocks (becomes (plain (write path offset bytes time)) (m .at path))) (m .free + blocks (m .at path))
       go (inl B) =
           let b = lookup-file s path (B .looked) .blocks in
-          rw (b, sym (B .long), free-shown) (write-room (m .at path) path offset bytes time (m .free) (file-of m path z) h)
+          rw (b, sym (B .long), free-shown s m S ok) (write-room (m .at path) path offset bytes time (m .free) (file-of m path z) h)
       go (inr N) = absurd (let q : suc (N .number) ≡ 0 = sym (N .none) ∙ z in omega arith)
 
   set-shown : (path bytes : List ℕ) → noFile m path ≡ 0
@@ -189,7 +190,7 @@ module _ (s : List ℕ) (m : Model) (S : Shows s m) (ok : check s ≡ 0) where
   create-number path type user group permissions flags time empty =
       require-same (pathOk path && isFile type) 9 _ _ (λ g.
       require-same (shallow (leading (parts path))) 17 _ _ (λ w.
-      ap (require (eqb flags 0) 26) (place-number path (and-split (pathOk path) (isFile type) g .0) w)))
+      ap (require (eqb flags 0) 26) (place-number s m S ok path (and-split (pathOk path) (isFile type) g .0) w)))
 
   write-number : (path : List ℕ) (offset : ℕ) (bytes : List ℕ) (time : ℕ) (place empty : Bool) → writeRefusal s path offset (length bytes) ≡ refusalIn place empty m (plain (write path offset bytes time))
   unfolding writeRefusal writeAtRefusal refusalIn roomNumber subject views.subject
@@ -213,15 +214,15 @@ module _ (s : List ℕ) (m : Model) (S : Shows s m) (ok : check s ≡ 0) where
       require-same (shallow (parts path)) 17 _ _ (λ w.
       let good = and-split (pathOk path) (isDirectory type && within 1 64 d) g .0 in
       let low = path-levels path good w .0 in
-      ap (λ (k : ℕ). firstOf (require (eqb flags 0) 26 k) (require (leb d (length (freeBlocks (next s) (blockCount s)))) 14 0)) (place-number path good low)
+      ap (λ (k : ℕ). firstOf (require (eqb flags 0) 26 k) (require (leb d (length (freeBlocks (next s) (blockCount s)))) 14 0)) (place-number s m S ok path good low)
       ∙ firstOf-same (require (eqb flags 0) 26 (newNumber (hasPlace s path) m path)) _ _ (λ z.
       let n = nothing-blocks (m .at path) (new-of (hasPlace s path) m path (require-zero (eqb flags 0) 25 _ z .1)) in
       let e : m .free + blocks (m .at path) ≡ m .free = omega arith in
-      rw (free-shown, e))))
+      rw (free-shown s m S ok, e))))
 
   delete-directory-number : (path : List ℕ) (place : Bool) → deleteDirectoryRefusal s path ≡ refusalIn place (isBare s path) m (plain (deleteDirectory path))
   unfolding deleteDirectoryRefusal refusalIn isBare
-  delete-directory-number path place = rw (folder-number path)
+  delete-directory-number path place = rw (folder-number s m S ok path)
 
   set-number : (path bytes : List ℕ) (place empty : Bool) → setAttributesRefusal s path (length bytes) ≡ refusalIn place empty m (plain (setAttributes path bytes))
   unfolding setAttributesRefusal refusalIn roomNumber subject views.subject
@@ -295,7 +296,7 @@ module _ (s : List ℕ) (m : Model) (S : Shows s m) (ok : check s ≡ 0) where
 
     -- the numbers before 14
     pub before-room : (y : Node) → m .at (pathOf directory serial) ≡ y → cond (isThere s directory serial) (formRefusal (stored s directory serial)) (placeRefusal s path) ≡ putNumber (hasPlace s path) m path y
-    before-room y e = rw (there-is, stored-is, place-number path (serial-path directory serial good) (serial-shallow directory serial good), e) (by-node y)
+    before-room y e = rw (there-is, stored-is, place-number s m S ok path (serial-path directory serial good) (serial-shallow directory serial good), e) (by-node y)
       where
         by-node : (z : Node) → cond (showsFile z) (formRefusal (settings z)) (newNumber (hasPlace s path) m path) ≡ putNumber (hasPlace s path) m path z
         by-node nothing = refl
