@@ -76,7 +76,7 @@ function show() {
   chosen = counter.entries.some((entry) => entry.path === chosen) ? chosen : null;
   then = null;
   at("welcome").hidden = true;
-  at("open").textContent = "Open another file";
+  at("open").hidden = false;
   at("file").replaceChildren(named(Words.visible(new TextEncoder().encode(counter.name))));
   at("save").hidden = !counter.changed || Boolean(rescued);
   at("save").textContent = handle && counter.kind === "file" ? "Save" : "Save as a download";
@@ -167,7 +167,7 @@ const LOST = { 1: "lost, its entry was damaged", 2: "lost, its contents could no
 const MENDED = { 3: "kept, its end was mended", 4: "kept, but its attached note is lost", 6: "found again, without its place" };
 function showRescued() {
   const { lost, mended } = rescued;
-  reply(lost.length === 0 ? "good" : "note", lost.length === 0 ? "Everything was rescued." : `${Words.count(lost.length, "entry is", "entries are")} lost.`,
+  reply(lost.length === 0 ? "good" : "note", lost.length === 0 ? "Everything was rescued." : `${Words.count(lost.length, "box or folder is", "boxes or folders are")} lost.`,
     "This is a copy. The file that you opened was not changed. Take files out one by one, or save the copy.");
   for (const { path, code } of [...lost, ...mended].slice(0, 200)) fact(named(Words.place(path)), ": ", LOST[code] ?? MENDED[code] ?? "mended");
   at("do").append(button("Save the rescued copy", pressed(async () => hand(await rescued.file(), rescuedName(counter.name))), "strong"));
@@ -204,7 +204,8 @@ function group(folder, ones) {
 }
 
 function row({ path, name }) {
-  const press = button(named(name), pressed(() => pick(path)));
+  const press = make("button", "", named(name));
+  press.type = "button";
   if (path === chosen) press.setAttribute("aria-current", "true");
   press.dataset.path = path;
   return make("li", "", press);
@@ -229,7 +230,7 @@ async function pick(path) {
   }
   await showBox();
   at("box-title").focus();
-  at("box").scrollIntoView({ block: "nearest" });
+  at("box").scrollIntoView({ block: matchMedia("(max-width: 46rem)").matches ? "start" : "nearest" });
 }
 
 // The volume as it was at the start, on a copy, for comparing.
@@ -260,7 +261,9 @@ async function showBox() {
   title.tabIndex = -1;
   const when = Words.when(entry.modified), folder = Tree.parentOf(path);
   const about = make("p", "pale", folder === "/" ? "" : named(Words.venue(folder)), folder === "/" || !when ? "" : ", ", when ? `last saved ${when}` : "");
-  section.replaceChildren(title, about, sides(now, found), ...noteOf(path, entry), actions(path, now), make("div", "", ""));
+  const room = make("div", "");
+  room.hidden = true;
+  section.replaceChildren(title, about, sides(now, found), ...noteOf(path, entry), actions(path, now), room);
 }
 
 const nowWords = ({ revision }) => (revision > 0 ? `Now, settings number ${revision}` : "Now");
@@ -426,7 +429,7 @@ async function ask(mark) {
   asked = mark;
   at("confirm-title").textContent = morning ? "Back to this morning" : mark === Tree.FIRST_MARK ? "Back to the beginning" : "Back to before this change";
   const differ = tried.differences;
-  at("confirm-words").textContent = `${Words.count(tried.done, "change is", "changes are")} taken back. ${differ.length === 0 ? "No box will look different." : `This will change ${Words.count(differ.length, "entry", "entries")}:`}`;
+  at("confirm-words").textContent = `${Words.count(tried.done, "change is", "changes are")} taken back. ${differ.length === 0 ? "No box will look different." : `This will change ${Words.count(differ.length, "box or folder", "boxes or folders")}:`}`;
   at("confirm-list").replaceChildren(...differ.slice(0, 200).map((change) => make("li", "", line(change, "will", ""), ...beforeAndAfter(change, "Is", "Will be"))));
   if (differ.length > 200) at("confirm-list").append(make("li", "pale", `and ${Words.count(differ.length - 200, "more", "more")}`));
   at("confirm").showModal();
@@ -505,6 +508,7 @@ function listen() {
   at("copy").addEventListener("click", pressed(saveCopy));
   at("search").addEventListener("input", showMatches);
   at("boxes").addEventListener("keydown", moveInList);
+  at("list").addEventListener("click", pressed(async (event) => { const press = event.target.closest("button"); if (press) await pick(press.dataset.path); }));
   at("more").addEventListener("click", pressed(moreChanges));
   at("earlier").addEventListener("click", pressed(() => { sinceStart = true; restartChanges(); }));
   at("go").addEventListener("click", pressed(goBack));

@@ -69,7 +69,7 @@ function visible(bytes, lines = false) {
 const show = (path) => visible(Tree.toBytes(path));
 const showName = (path) => show(Tree.nameOf(path));
 // The venue of a path: the folders above it.
-const venue = (folder) => (folder === "/" ? "No folder" : show(folder.slice(1)).replaceAll("/", " / "));
+const venue = (folder) => (folder === "/" ? "Not in a folder" : show(folder.slice(1)).replaceAll("/", " / "));
 // A box by name, and its folder if it has one: "SN4471 in stage".
 const place = (path) => showName(path) + (Tree.parentOf(path) === "/" ? "" : " in " + venue(Tree.parentOf(path)));
 

@@ -59,7 +59,6 @@ const pause = (ms) => new Promise((resolve) => setTimeout(resolve, ms));
 // A page; what it fetched, complained about and threw is kept.
 class Page {
   fetched = []; complaints = [];
-  #document = 0;
 
   constructor(browser, target, session) {
     this.browser = browser;
@@ -76,12 +75,13 @@ class Page {
 
   send(method, params = {}) { return this.browser.send(method, params, this.session); }
 
+  // Opens the page without a network, unless it comes by one.
   async open(url, before = "") {
     for (const domain of ["Page", "Runtime", "DOM", "Network", "Log", "Accessibility"]) await this.send(`${domain}.enable`);
-    await this.send("Network.emulateNetworkConditions", { offline: true, latency: 0, downloadThroughput: 0, uploadThroughput: 0 });
+    await this.send("Network.emulateNetworkConditions", { offline: url.startsWith("file:"), latency: 0, downloadThroughput: -1, uploadThroughput: -1 });
     if (before) await this.send("Page.addScriptToEvaluateOnNewDocument", { source: before });
     await this.send("Page.navigate", { url });
-    await this.until("document.documentElement.dataset.ready === 'yes'", "the page is ready");
+    await this.until("document.documentElement?.dataset.ready === 'yes'", "the page is ready");
   }
 
   async run(expression) {
@@ -92,7 +92,7 @@ class Page {
 
   async until(expression, what = expression, seconds = 30) {
     for (let left = seconds * 50; left > 0; left--) {
-      if (await this.run(`Boolean(${expression})`)) return;
+      if (await this.run(`document.body !== null && Boolean(${expression})`)) return;
       await pause(20);
     }
     throw new Error(`never: ${what}; the page says: ${await this.run("document.body.innerText.slice(0, 600)")}`);
@@ -111,7 +111,7 @@ class Page {
 
   // Presses the button whose words begin so, as a person does: by the mouse, where it is seen.
   async press(words) {
-    const found = `[...document.querySelectorAll('button')].find((b) => b.getClientRects().length > 0 && b.innerText.startsWith(${JSON.stringify(words)}))`;
+    const found = `[...document.querySelectorAll('button')].find((b) => b.getClientRects().length > 0 && b.textContent.startsWith(${JSON.stringify(words)}))`;
     await this.until(found, `a button ${words}`);
     const { x, y } = await this.run(`(() => { const b = ${found}; b.scrollIntoView({ block: "center" }); const r = b.getBoundingClientRect(); return { x: r.x + r.width / 2, y: r.y + r.height / 2 }; })()`);
     for (const type of ["mousePressed", "mouseReleased"]) await this.send("Input.dispatchMouseEvent", { type, x, y, button: "left", clickCount: 1 });

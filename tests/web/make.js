@@ -47,18 +47,18 @@ async function fleet(library, changes = 60) {
   return { volume, own, bytes: await file(library, volume, own) };
 }
 
-// Names that try to be something else than names, in the root and in a folder of such a name.
-const HOSTILE = ["<img src=x onerror=alert(1)>", "</script><script>alert(2)</script>", "\u202Egnp.exe", "a\x1b[31mred\x07", "new\nline", "\u2066x\u2069", "&lt;b&gt;", "'\"`${1}", "..", "C:\\x", "\u00e9t\u00e9",
+// Names and contents that try to be something else than text, in the root and in a folder of such a name.
+const HOSTILE = ["<img src=x onerror=alert(1)>", "<svg onload=alert(2)>", "\u202Egnp.exe", "a\x1b[31mred\x07", "new\nline", "\u2066x\u2069", "&lt;b&gt;", "'\"`${1}", "..", "C:\\x", "\u00e9t\u00e9",
   "<!--", "javascript:alert(3)", "\ufeffbom", "__proto__", "constructor"];
 async function hostile(library) {
   const volume = await fresh(library, 128, 1 << 17, 8, "<b>bold\u202E</b>");
-  ok(volume.createDirectory("/<i>venue</i>", 0x20, 0, 0, 0, 0, 8, MORNING));
+  ok(volume.createDirectory("/<i>venue", 0x20, 0, 0, 0, 0, 8, MORNING));
   const names = [...HOSTILE.map((name) => Buffer.from(name)), Buffer.from([0xff, 0xfe, 0x80, 0x41])];
   for (const name of names) {
-    for (const folder of ["/", "/<i>venue</i>/"]) {
+    for (const folder of ["/", "/<i>venue/"]) {
       const path = new Uint8Array(Buffer.concat([Buffer.from(folder), name]));
       ok(volume.create(path, 0x60, 0, 0, 0, 0, MORNING));
-      ok(volume.write(path, 0, name, MORNING));
+      ok(volume.write(path, 0, Buffer.concat([name, Buffer.from("</script><script>alert(4)</script>")]), MORNING));
     }
   }
   return { volume, names, bytes: await file(library, volume, note(volume)) };
