@@ -12,16 +12,18 @@ const declared = readDeclared(fs.readFileSync(declaredFile, "utf8"));
 const PARTS = ["image", "journal", "own", "file"], BATCH = 300;
 const chance = random(+seed), { below, oneIn, pick, bytes } = chance;
 
-// The calls in the header's order: name, and kind, part or argument and whether it may be changed, of each parameter.
+// The calls in the header's order: name, fields of the answer, and of each parameter its kind and whether it may be changed.
 function readDeclared(text) {
-  const calls = text.split("\n").filter((line) => line.startsWith("call\t")).map((line) => {
-    const [, name, , ...rest] = line.split("\t"), parameters = [];
+  const lines = text.split("\n").map((line) => line.split("\t")), fields = new Map();
+  for (const [kind, name, ...rest] of lines) if (kind === "struct") fields.set(name, rest.filter((_, i) => i % 2 === 1).map(Bulgefs.method));
+  const calls = lines.filter(([kind]) => kind === "call").map(([, name, answer, ...rest]) => {
+    const parameters = [];
     for (let i = 0; i < rest.length; i += 2) {
       const run = /^(const )?uint(8|32)_t \*$/.test(rest[i]);
       parameters.push({ run, changed: run && !rest[i].startsWith("const "), position: rest[i] === "uint64_t *", uuid: rest[i] === "bulgefs_uuid", name: rest[i + 1] });
       if (run) i += 2;
     }
-    return { name: name.replace(/^bulgefs_/, ""), parameters };
+    return { name: name.replace(/^bulgefs_/, ""), fields: fields.get(answer), parameters };
   });
   return new Map(calls.map((call, index) => [call.name, { ...call, index }]));
 }
@@ -47,7 +49,8 @@ class Recorder {
       else before.push(number8(value));
     });
     const answer = volume[Bulgefs.method(name)](...given);
-    const fields = typeof answer === "object" ? Object.values(answer) : [answer], after = fields.map(number8);
+    assert.deepStrictEqual(typeof answer === "object" ? Object.keys(answer) : undefined, call.fields, name);
+    const fields = call.fields ? Object.values(answer) : [answer], after = fields.map(number8);
     call.parameters.forEach((parameter, i) => {
       if (parameter.changed || parameter.position) after.push(Buffer.from(raw(PARTS.includes(form[i]) ? volume[form[i]] : values[i])));
     });

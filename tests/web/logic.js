@@ -15,8 +15,8 @@ function change(volume, turn) {
   const made = [
     () => volume.create(one(), 0x60, below(3), 0, 0, 0, time), () => volume.write(one(), below(3), bytes(below(900)), time), () => volume.write(one(), 0, "same", 5n),
     () => volume.replace(one(), bytes(below(5000) % 4097), time), () => volume.append(one(), bytes(below(1500)), time), () => volume.shorten(one(), below(100), time),
-    () => volume.delete(one()), () => volume.move(one(), one()), () => volume.createDirectory(pick(["/d0", "/d1", "/d0/d0"]), 0x20, 0, 0, 0, 0, 1 + below(3), time),
-    () => volume.deleteDirectory(pick(["/d0", "/d1", "/d0/d0"])), () => volume.setAttributes(one(), bytes(512 * (1 + below(3)))), () => volume.clearAttributes(one()),
+    () => volume.delete(one()), () => volume.move(one(), one()), () => volume.move(one(), one()), () => volume.createDirectory(pick(["/d0", "/d1", "/d0/d0"]), 0x20, 0, 0, 0, 0, 1 + below(3), time),
+    () => volume.deleteDirectory(pick(["/d0", "/d1", "/d0/d0"])), () => volume.setAttributes(one(), bytes(512 * (1 + below(3)))), () => volume.setAttributes("/f0", bytes(512)), () => volume.clearAttributes(one()),
     () => volume.clearFlags(one()), () => volume.putSettingsIn(folderOf() || "/", pick(["SN1", "SN2"]), bytes(below(60)), time),
   ];
   return pick(made)().number;
@@ -61,11 +61,37 @@ async function readsTree(library) {
   }
 }
 
+// A folder with files, which are deleted, and then the folder too.
+async function folderThatCameAndWent(library) {
+  const volume = await Make.fresh(library, 60, 1 << 16, 1, "gone");
+  Make.ok(volume.createDirectory("/a", 0x20, 0, 0, 0, 0, 2, 1n));
+  Make.ok(volume.createDirectory("/a/b", 0x20, 0, 0, 0, 0, 1, 1n));
+  Make.ok(volume.putSettingsIn("/a/b", "SN1", "x=1", 2n));
+  Make.ok(volume.create("/a/f", 0x60, 0, 0, 0, 0, 3n));
+  Make.ok(volume.delete("/a/b/SN1"));
+  Make.ok(volume.deleteDirectory("/a/b"));
+  Make.ok(volume.delete("/a/f"));
+  Make.ok(volume.deleteDirectory("/a"));
+  return volume;
+}
+
+// A folder at the ninth level: that of /b, hung by hand into the eighth.
+async function ninthLevel(library) {
+  const volume = await Make.fresh(library, 60, 1 << 16, 1, "deep");
+  for (let level = 1; level <= 8; level++) Make.ok(volume.createDirectory("/a".repeat(level), 0x20, 0, 0, 0, 0, 1, 1n));
+  Make.ok(volume.createDirectory("/b", 0x20, 0, 0, 0, 0, 1, 1n));
+  const image = volume.image, { entries } = Tree.scan(Tree.lookAt(image)), [deepest, b] = ["/a".repeat(8), "/b"].map((path) => entries.find((entry) => entry.path === path)), root = 512 * 2;
+  image.copyWithin(512 * deepest.first + 128, root + 128 * b.slot, root + 128 * b.slot + 128);
+  image.fill(0, root + 128 * b.slot, root + 128 * b.slot + 128);
+  new DataView(image.buffer, image.byteOffset).setUint32(512 * b.first + 8, deepest.first);
+  return volume;
+}
+
 // Each step of the history is what the library's undo of that record changes, by path.
 async function readsHistory(library) {
   let seen = 0, moves = 0, empty = 0;
   for (let round = 0; round < 12; round++) {
-    const volume = await randomVolume(library, 90), copy = await library.volume({ image: volume.image.length, journal: volume.journal.length });
+    const volume = round === 0 ? await folderThatCameAndWent(library) : await randomVolume(library, 110), copy = await library.volume({ image: volume.image.length, journal: volume.journal.length });
     copy.image.set(volume.image);
     copy.journal.set(volume.journal);
     const info = volume.journalInfo();
@@ -92,7 +118,7 @@ async function readsHistory(library) {
     }
     assert.strictEqual(copy.journalInfo().records, 0);
   }
-  assert(seen > 200 && moves > 5, `${seen} steps, ${moves} moves, ${empty} without a difference`);
+  assert(seen > 120 && moves > 2, `${seen} steps, ${moves} moves, ${empty} without a difference`);
 }
 
 // The first fault has the number that the library gives, on damage at random.
@@ -111,6 +137,8 @@ async function findsFaults(library) {
       if (number === 6) Tree.brokenChains(volume.image);
     }
   }
+  const deep = await ninthLevel(library);
+  assert.deepStrictEqual([deep.check(), Tree.firstFault(deep.image)], [4, { number: 4, path: "/a".repeat(8) + "/b" }]);
   for (const number of [0, 4, 5, 6]) assert(seen.get(number) > 0, `${number} was never given`);
 }
 
@@ -232,7 +260,9 @@ async function main() {
       assert(Tree.equal(counter.volume.image, volume.image), "the opened one changed");
       const again = await Counter.open(library, [{ name, bytes: await rescued.file() }]);
       assert(again.sound && again.entries.length === 2);
+      assert.strictEqual(Mark.find(again.volume.own), null, "the note of a volume that is no more");
     }
+    assert(Mark.find((await Counter.open(library, [{ name: "d", bytes: all }])).volume.own));
   });
   await judge("a damaged volume with folders", async () => {
     const { volume, own } = await Make.fleet(library, 1), stage = volume.image.slice(), at = Tree.scan(Tree.lookAt(stage)).entries.find((entry) => entry.path === "/stage");

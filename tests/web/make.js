@@ -71,9 +71,9 @@ async function damaged(library) {
     ok(volume.create("/" + name, 0x60, 0, 0, 0, 0, MORNING));
     ok(volume.write("/" + name, 0, text, MORNING));
   }
-  const [first] = [volume.lookInPlace("/SN2003", 0).start / 512];
+  const first = volume.lookInPlace("/SN2003", 0).start / 512, own = note(volume);
   new DataView(volume.image.buffer, volume.image.byteOffset).setUint32(512 + 4 * first, 60000);
-  return { volume, image: volume.image.slice(), bytes: await file(library, volume) };
+  return { volume, image: volume.image.slice(), bytes: await file(library, volume, own) };
 }
 
 // The largest image, 32 MiB, with a file of 1 MB among others.
