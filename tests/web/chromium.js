@@ -90,8 +90,8 @@ class Page {
     return result.value;
   }
 
-  async until(expression, what = expression, seconds = 30) {
-    for (let left = seconds * 50; left > 0; left--) {
+  async until(expression, what = expression) {
+    for (let left = 3000; left > 0; left--) {
       if (await this.run(`document.body !== null && Boolean(${expression})`)) return;
       await pause(20);
     }
@@ -127,7 +127,7 @@ class Page {
 
   async downloaded(name) {
     const file = path.join(this.browser.downloads, name);
-    for (let left = 500; left > 0; left--) {
+    for (let left = 3000; left > 0; left--) {
       if (fs.existsSync(file)) return new Uint8Array(fs.readFileSync(file));
       await pause(20);
     }
