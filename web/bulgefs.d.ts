@@ -1,5 +1,8 @@
 // Types of bulgefs.js. include/bulgefs.h says what each call does and refuses; bulgefs.js says how arguments are lent.
 
+/** In a browser, where bulgefs.js is a script of the page. */
+export as namespace Bulgefs;
+
 /** Bytes that a call only looks at: a string is lent as UTF-8. */
 type Lent = string | Uint8Array;
 /** A number of 64 bits: a BigInt, or a whole number up to 2^53 - 1. */
