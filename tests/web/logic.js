@@ -1,7 +1,6 @@
 // node logic.js BULGEFS.wasm FOLDER: what the page reads in plain JavaScript, against the library; and what it does with a volume. FOLDER holds what `run`
 // made with the tool and the C layer: van.volume, before.img, and morning.volume, a copy of van.volume as it was this morning.
 const fs = require("fs"), path = require("path"), crypto = require("crypto"), assert = require("assert");
-const { spawnSync } = require("child_process");
 const Bulgefs = require("../../web/bulgefs.js"), Tree = require("../../web/tree.js"), Mark = require("../../web/mark.js"), Words = require("../../web/words.js"), Counter = require("../../web/counter.js");
 const Make = require("./make.js");
 const { judge, finish, random } = require("./judge.js");
