@@ -1,5 +1,5 @@
 /*
- * damage TOOL VOLUME ROUNDS: spoils a copy of a sound volume at random, some bytes at a time, and has TOOL check it.  It must end with 0 or 1; its
+ * damage TOOL IMAGE ROUNDS: spoils a copy of a sound image at random, some bytes at a time, and has TOOL check it.  It must end with 0 or 1; its
  * explanation must be of the stage that the library gives; `salvage` of it must refuse or make a sound volume.  The last line is `N passed, M failed`.
  */
 #include "state.h"
@@ -86,7 +86,6 @@ static void one_round(trial *t, int round)
     if (status != 1 || round % 4)
         return;
     unlink("out");
-    unlink("out.journal");
     int made = run(t->salvage);
     judge(t, made == 0 ? run(t->check_out) == 0 : made == 1 && access("out", F_OK) != 0, round, "salvage");
     t->saved += made == 0;

@@ -4,8 +4,8 @@
 
 #include "look.h"
 
-/* What goes: so many steps, so many records, the last of which has the number last; the mark before them. */
-typedef struct { uint32_t steps; size_t records, last; uint32_t mark; } share;
+/* What goes: so many steps, so many of the last records of the list; the mark before them. */
+typedef struct { uint32_t steps; size_t records; uint32_t mark; record_list list; } share;
 
 /* How many records the last steps have. */
 static size_t records_of(const record_list *list, uint32_t steps)
@@ -28,7 +28,7 @@ static int try_records(const store *s, const share *goes)
     free(image.bytes);
     free(journal.bytes);
     free(after.bytes);
-    return number ? refuse_record(s, number, goes->last - done) : DONE;
+    return number ? refuse_record(s, number, goes->list.count - done) : DONE;
 }
 
 /* Takes all that goes back in one call. */
@@ -38,7 +38,7 @@ static int undo(store *s, const share *goes)
     uint32_t number;
     if (status) return status;
     number = bulgefs_undo_to(s->image.bytes, s->image.length, s->journal.bytes, s->journal.length, goes->mark).number;
-    return number ? refuse_pair(s, number) : DONE;
+    return number ? refuse(number, s->path) : DONE;
 }
 
 static int show(void *ctx, const change *one)
@@ -70,8 +70,8 @@ static int do_back(store *s, const share *goes)
 {
     int status = undo(s, goes);
     if (status) return status;
-    steps_cut(s);
-    status = store_commit(s);
+    steps_cut(s, &goes->list, goes->list.count - goes->records);
+    status = store_save(s);
     if (!status) say_taken("took back", goes);
     return status;
 }
@@ -79,18 +79,16 @@ static int do_back(store *s, const share *goes)
 /* wanted 0 is all steps. */
 static int weigh(const store *s, uint32_t wanted, share *goes)
 {
-    record_list list;
-    uint32_t number = steps_list(&s->image, &s->journal, &s->steps, &list);
-    if (number) return refuse_pair(s, number);
-    goes->steps = wanted ? wanted : list.steps;
-    goes->records = goes->steps <= list.steps ? records_of(&list, goes->steps) : 0;
-    goes->last = list.count;
-    goes->mark = goes->records ? list.records[list.count - goes->records].start : list.used;
-    free(list.records);
-    if (!list.steps) return refuse_pair(s, BULGEFS_NOTHING_TO_UNDO);
+    record_list *list = &goes->list;
+    uint32_t number = steps_list(s, list);
+    if (number) return refuse(number, s->path);
+    goes->steps = wanted ? wanted : list->steps;
+    goes->records = goes->steps <= list->steps ? records_of(list, goes->steps) : 0;
+    goes->mark = goes->records ? list->records[list->count - goes->records].start : list->used;
+    if (!list->steps) return refuse(BULGEFS_NOTHING_TO_UNDO, s->path);
     if (goes->records) return DONE;
-    say("%s: refused (%u): it holds just %u %s; nothing was changed", s->journal_path, (unsigned)BULGEFS_NOTHING_TO_UNDO,
-        (unsigned)list.steps, list.steps == 1 ? "step" : "steps");
+    say("%s: refused (%u): the journal holds just %u %s; nothing was changed", s->path, (unsigned)BULGEFS_NOTHING_TO_UNDO,
+        (unsigned)list->steps, list->steps == 1 ? "step" : "steps");
     return REFUSED;
 }
 
@@ -98,15 +96,16 @@ int command_back(int argc, char **argv, const options *o)
 {
     int all = take_flag(&argc, argv, "--all"), dry = take_flag(&argc, argv, "--dry-run"), status;
     uint64_t steps = 1;
-    share goes;
+    share goes = { .steps = 0 };
     store s;
     if (!good_arguments(&argc, argv, 1, all ? 1 : 2)) return usage("back VOLUME [N|--all] [--dry-run]");
     if (argc > 2 && read_number(argv[2], "N", 1, UINT32_MAX, &steps)) return FAILED;
-    status = store_open(&s, argv[1], o->journal, dry ? LOOK : CHANGE);
+    status = store_open(&s, argv[1], dry ? LOOK : CHANGE, o);
     if (status) return status;
     status = need_journal(&s);
     if (!status) status = weigh(&s, all ? 0 : (uint32_t)steps, &goes);
     if (!status) status = dry ? try_back(&s, &goes) : do_back(&s, &goes);
+    free(goes.list.records);
     store_close(&s);
     return status;
 }

@@ -136,7 +136,7 @@ static uint32_t say_journal(const store *s, int json)
         printf(json ? ",\"journal\":null" : "no journal\n");
         return 0;
     }
-    number = steps_list(&s->image, &s->journal, &s->steps, &list);
+    number = steps_list(s, &list);
     if (number != 0) {
         printf(json ? ",\"journal\":{\"number\":%" PRIu32 "}" : "journal: %" PRIu32 ", not well formed\n",
                number);
@@ -158,7 +158,7 @@ int command_check(int argc, char **argv, const options *o)
 
     if (!good_arguments(&argc, argv, 1, 1))
         return usage("check VOLUME");
-    status = store_open(&s, argv[1], o->journal, LOOK);
+    status = store_open(&s, argv[1], LOOK, o);
     if (status != DONE)
         return status;
     number = bulgefs_check(s.image.bytes, s.image.length);

@@ -22,7 +22,7 @@ static int copy_out(const store *s, const char *path, const char *to)
 static int run(const char *volume, const char *path, const char *to, const options *o)
 {
     store s;
-    int status = store_open(&s, volume, o->journal, LOOK);
+    int status = store_open(&s, volume, LOOK, o);
     if (status) return status;
     status = copy_out(&s, path, to);
     store_close(&s);

@@ -51,7 +51,7 @@ static void print_journal(const store *s)
     line("journal");
     if (s->journal.bytes == NULL)
         printf("none\n");
-    else if (steps_list(&s->image, &s->journal, &s->steps, &list) != 0)
+    else if (steps_list(s, &list) != 0)
         printf("not well formed\n");
     else
         printf("%zu bytes, used %" PRIu32 ", %zu records in %" PRIu32 " steps\n", s->journal.length,
@@ -65,7 +65,7 @@ static void json_journal(const store *s)
 
     if (s->journal.bytes == NULL)
         printf(",\"journal\":null");
-    else if (steps_list(&s->image, &s->journal, &s->steps, &list) != 0)
+    else if (steps_list(s, &list) != 0)
         printf(",\"journal\":{\"length\":%zu,\"well_formed\":false}", s->journal.length);
     else
         printf(",\"journal\":{\"length\":%zu,\"well_formed\":true,\"used\":%" PRIu32

@@ -135,19 +135,14 @@ static void json_map(const plan *p)
 
 static int write_svg(const plan *p, const char *path)
 {
-    char *text = NULL;
-    size_t length = 0;
-    FILE *out = open_memstream(&text, &length);
+    memory_text page;
     int status;
 
-    if (out == NULL)
-        return fail_system(path);
-    map_svg(out, p->image, &p->list, p->blocks, 1);
-    if (fclose(out) != 0)
-        status = fail_system(path);
-    else
-        status = write_output(path, (const uint8_t *)text, length);
-    free(text);
+    text_begin(&page);
+    map_svg(page.out, p->image, &p->list, p->blocks, 1);
+    text_end(&page);
+    status = write_output(path, (const uint8_t *)page.text, page.length);
+    free(page.text);
     return status;
 }
 

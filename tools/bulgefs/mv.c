@@ -26,7 +26,7 @@ int command_mv(int argc, char **argv, const options *o)
     store s;
     int status;
     if (!good_arguments(&argc, argv, 3, 3)) return usage("mv VOLUME PATH NEW");
-    status = store_open(&s, argv[1], o->journal, CHANGE);
+    status = store_open(&s, argv[1], CHANGE, o);
     if (status) return status;
     status = new_path(&s, argv[2], argv[3], into);
     if (!status) {

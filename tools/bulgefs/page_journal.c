@@ -184,7 +184,7 @@ void page_journal(FILE *out, const store *s)
     fputs("<section>\n<h2>Journal: what Back would do</h2>\n", out);
     if (s->journal.bytes == NULL) {
         fputs("<p class=\"pale\">There is no journal: nothing can be taken back.</p>\n", out);
-    } else if (steps_list(&s->image, &s->journal, &s->steps, &list) != 0) {
+    } else if (steps_list(s, &list) != 0) {
         fputs("<p><span class=\"tag bad\">refused with 8</span> The journal is not well formed.</p>\n", out);
     } else if (list.count == 0) {
         fputs("<p class=\"pale\">The journal is empty: there is no step to take back.</p>\n", out);

@@ -95,7 +95,7 @@ int command_put(int argc, char **argv, const options *o)
     int status;
     if (!good_arguments(&argc, argv, 3, 3)) return usage("put VOLUME PATH FILE|-");
     if (read_time(&time) || read_input(argv[3], LONGEST, &data)) return FAILED;
-    status = store_open(&s, argv[1], o->journal, CHANGE);
+    status = store_open(&s, argv[1], CHANGE, o);
     if (!status) status = put_all(&s, argv[2], &data, time);
     free(data.bytes);
     return status;

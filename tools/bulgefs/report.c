@@ -21,7 +21,7 @@ static void put_journal_cards(const report *r)
     record_list list = { NULL, 0, 0, 0 };
     const bytes *journal = &r->s->journal;
 
-    if (journal->bytes == NULL || steps_list(&r->s->image, journal, &r->s->steps, &list) != 0)
+    if (journal->bytes == NULL || steps_list(r->s, &list) != 0)
         return;
     put_card(r->out, list.steps, "", list.steps == 1 ? "step to take back" : "steps to take back");
     put_card(r->out, 100 * (uint64_t)list.used / journal->length, "%", "of the journal used");
@@ -132,14 +132,12 @@ static void put_files(const report *r)
 
 static int write_report(const store *s, const char *path, const char *file)
 {
-    char *text = NULL;
-    size_t length = 0;
-    report r = { open_memstream(&text, &length), s, { NULL, 0, 0 }, NULL, { 0, 0, 0, 0, 0, 0 } };
+    report r = { NULL, s, listing_read(&s->image), NULL, { 0, 0, 0, 0, 0, 0 } };
+    memory_text page;
     int status;
 
-    if (r.out == NULL)
-        return fail_system(file);
-    r.list = listing_read(&s->image);
+    text_begin(&page);
+    r.out = page.out;
     r.blocks = owners_read(&s->image, &r.list);
     r.sum = listing_totals(&s->image, &r.list);
     put_heading(&r, path);
@@ -148,13 +146,11 @@ static int write_report(const store *s, const char *path, const char *file)
     put_files(&r);
     page_journal(r.out, s);
     page_end(r.out);
-    if (fclose(r.out) != 0)
-        status = fail_system(file);
-    else
-        status = write_output(file, (const uint8_t *)text, length);
+    text_end(&page);
+    status = write_output(file, (const uint8_t *)page.text, page.length);
     free(r.blocks);
     listing_free(&r.list);
-    free(text);
+    free(page.text);
     return status;
 }
 

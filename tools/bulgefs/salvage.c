@@ -73,13 +73,19 @@ static int refuse_salvage(const char *path, uint32_t number)
     return REFUSED;
 }
 
-static int salvage(const store *from, const char *out, int json)
+/* The length that the journal has, or of a bare image the usual one. */
+static size_t journal_length(const store *from)
+{
+    return from->journal.bytes ? from->journal.length : usual_journal(from->image.length);
+}
+
+static int salvage(const store *from, const char *out, const options *o)
 {
     uint8_t report[BULGEFS_MAX_REPORT] = { 0 };
     bytes image = copy_bytes(&from->image);
     uint32_t number = bulgefs_salvage(image.bytes, image.length, report, sizeof report);
-    int status = number ? refuse_salvage(from->path, number) : store_new(out, NULL, &image, same_journal(from));
-    if (!status) put_report(from, &image, report, json);
+    int status = number ? refuse_salvage(from->path, number) : store_start(out, &image, journal_length(from), o);
+    if (!status) put_report(from, &image, report, o->json);
     free(image.bytes);
     return status;
 }
@@ -89,9 +95,9 @@ int command_salvage(int argc, char **argv, const options *o)
     store from;
     int status;
     if (!good_arguments(&argc, argv, 2, 2)) return usage("salvage VOLUME OUT");
-    status = store_open(&from, argv[1], o->journal, LOOK);
+    status = store_open(&from, argv[1], LOOK, o);
     if (status) return status;
-    status = salvage(&from, argv[2], o->json);
+    status = salvage(&from, argv[2], o);
     store_close(&from);
     return status;
 }

@@ -58,7 +58,7 @@ static int look(const char *volume, const box *b, const options *o)
 {
     revision latest;
     store s;
-    int status = store_open(&s, volume, o->journal, LOOK);
+    int status = store_open(&s, volume, LOOK, o);
     if (status) return status;
     latest = get_latest(&s, b);
     store_close(&s);
@@ -74,7 +74,7 @@ static int get(const char *volume, const box *b, const char *to, const char *whi
     revision r;
     store s;
     int status = which ? read_number(which, "REVISION", 0, UINT32_MAX, &number) : DONE;
-    if (!status) status = store_open(&s, volume, o->journal, LOOK);
+    if (!status) status = store_open(&s, volume, LOOK, o);
     if (status) return status;
     r = which ? get_revision(&s, b, (uint32_t)number) : get_latest(&s, b);
     store_close(&s);
@@ -92,7 +92,7 @@ static int put(const char *volume, const box *b, const char *from, const options
     int status = read_time(&time);
     if (!status) status = read_input(from, BULGEFS_MAX_SETTINGS, &data);
     if (status) return status;
-    status = store_open(&s, volume, o->journal, CHANGE);
+    status = store_open(&s, volume, CHANGE, o);
     if (!status) {
         done = bulgefs_put_settings_in(s.image.bytes, s.image.length, s.journal.bytes, s.journal.length, b->directory, b->directory_length, b->serial,
                                        b->serial_length, data.bytes, data.length, time);
@@ -187,7 +187,7 @@ int command_history(int argc, char **argv, const options *o)
     int status;
     if (!good_arguments(&argc, argv, 2, 2)) return usage("history VOLUME BOX");
     b = box_of(argv[2]);
-    status = store_open(&s, argv[1], o->journal, LOOK);
+    status = store_open(&s, argv[1], LOOK, o);
     if (status) return status;
     latest = get_latest(&s, &b);
     if (latest.got.number) {

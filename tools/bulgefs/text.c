@@ -72,17 +72,15 @@ static void put_markup_byte(FILE *out, char c)
 
 void put_markup(FILE *out, const char *text)
 {
-    char *plain = NULL;
-    size_t size = 0, i;
-    FILE *memory = open_memstream(&plain, &size);
+    memory_text plain;
+    size_t i;
 
-    if (memory == NULL)
-        return;
-    put_path(memory, text);
-    if (fclose(memory) == 0)
-        for (i = 0; i < size; i++)
-            put_markup_byte(out, plain[i]);
-    free(plain);
+    text_begin(&plain);
+    put_path(plain.out, text);
+    text_end(&plain);
+    for (i = 0; i < plain.length; i++)
+        put_markup_byte(out, plain.text[i]);
+    free(plain.text);
 }
 
 void put_time(FILE *out, uint64_t milliseconds)
@@ -132,7 +130,7 @@ void put_count(FILE *out, uint64_t count, const char *one, const char *many)
 
 int open_sound(store *s, const char *path, const options *o)
 {
-    int status = store_open(s, path, o->journal, LOOK);
+    int status = store_open(s, path, LOOK, o);
     uint32_t number;
 
     if (status != DONE)
