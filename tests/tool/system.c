@@ -9,6 +9,7 @@
 #define _GNU_SOURCE
 #include "trace.h"
 
+#include <dirent.h>
 #include <errno.h>
 #include <fcntl.h>
 #include <stdarg.h>
@@ -129,6 +130,21 @@ WRAP(off64_t, lseek64, (int file, off64_t at, int from), (file, at, from))
 WRAP(ssize_t, pread64, (int file, void *to, size_t length, off64_t at), (file, to, length, at))
 WRAP(int, fchmod, (int file, mode_t mode), (file, mode))
 WRAP(int, fchown, (int file, uid_t user, gid_t group), (file, user, group))
+
+WRAP(int, mkdir, (const char *path, mode_t mode), (path, mode))
+WRAP(int, rmdir, (const char *path), (path))
+
+DIR *__real_opendir(const char *);
+DIR *__wrap_opendir(const char *);
+DIR *__wrap_opendir(const char *path)
+{
+    fault now = begin();
+    if (now == STOP_ERROR)
+        return NULL;
+    DIR *open = __real_opendir(path);
+    end(now);
+    return open;
+}
 
 static void add_on_file(int what, int file, uint64_t offset, uint64_t length, const void *data)
 {

@@ -15,8 +15,9 @@ static int look(const char *volume, const char *path, const char *to, const opti
     int status = store_open(&s, volume, LOOK, o);
     if (status) return status;
     filled = bulgefs_read_attributes(s.image.bytes, s.image.length, (const uint8_t *)path, strlen(path), content, sizeof content);
+    status = filled.number ? refuse_path(&s, filled.number, path) : DONE;
     store_close(&s);
-    if (filled.number) return refuse(filled.number, path);
+    if (status) return status;
     if (to && filled.count) return write_output(to, content, filled.count);
     if (to) {
         say("%s has no attributes", path);
@@ -41,7 +42,7 @@ static int set(const char *volume, const char *path, const char *from, const opt
     if (!status) {
         done = bulgefs_set_attributes(s.image.bytes, s.image.length, s.journal.bytes, s.journal.length, (const uint8_t *)path, strlen(path),
                                       data.bytes, length);
-        status = store_finish(&s, done.number ? refuse(done.number, path) : DONE);
+        status = store_finish(&s, done.number ? refuse_path(&s, done.number, path) : DONE);
     }
     free(data.bytes);
     return status;
@@ -54,7 +55,7 @@ static int clear(const char *volume, const char *path, const options *o)
     int status = store_open(&s, volume, CHANGE, o);
     if (status) return status;
     done = bulgefs_clear_attributes(s.image.bytes, s.image.length, s.journal.bytes, s.journal.length, (const uint8_t *)path, strlen(path));
-    return store_finish(&s, done.number ? refuse(done.number, path) : DONE);
+    return store_finish(&s, done.number ? refuse_path(&s, done.number, path) : DONE);
 }
 
 int command_attr(int argc, char **argv, const options *o)

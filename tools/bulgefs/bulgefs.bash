@@ -53,6 +53,8 @@ _bulgefs_options() {
     case $1 in
     format) _bulgefs_words $'--root\n--name\n--uuid\n--journal\n--help' "$2" ;;
     back) _bulgefs_words $'--all\n--dry-run\n--help' "$2" ;;
+    put | get) _bulgefs_words $'-r\n--help' "$2" ;;
+    mkdir) _bulgefs_words $'-p\n--help' "$2" ;;
     ls) _bulgefs_words $'-l\n-R\n--help' "$2" ;;
     map) _bulgefs_words $'--all\n--svg\n--help' "$2" ;;
     '') _bulgefs_words $'--json\n--wait\n--help\n--version' "$2" ;;

@@ -158,7 +158,7 @@ static int info_entry(const store *s, const char *path, int json)
     entry e;
 
     if (view_find(&s->image, path, &e) != 0)
-        return refuse(view_refusal(&s->image, path), path);
+        return refuse_path(s, view_refusal(&s->image, path), path);
     if (json) {
         json_entry(stdout, path, &e);
         printf("\n");

@@ -34,6 +34,8 @@ uint32_t chain_pieces(const bytes *image, uint32_t first, uint32_t blocks);
 typedef struct { char *path; entry entry; } listed;
 typedef struct { listed *items; size_t count, room; } listing;
 listing listing_read(const bytes *image);
+/* The same of the folder at a path. */
+listing listing_below(const bytes *image, const char *path);
 /* The same by view_scan. */
 listing listing_scan(const bytes *image);
 void listing_free(listing *list);
@@ -95,6 +97,12 @@ int take_flag(int *argc, char **argv, const char *flag);
 int take_value(int *argc, char **argv, const char *flag, const char **value);
 /* Whether so many arguments are left and no unknown option; takes "--" out. */
 int good_arguments(int *argc, char **argv, int least, int most);
+
+/* ---- path.c ---- */
+
+/* As refuse, for a path: the words name what is wrong with it. */
+int refuse_path(const store *, uint32_t number, const char *path);
+int refuse_path_in(const bytes *image, uint32_t number, const char *path);
 
 /* ---- svg.c ---- */
 

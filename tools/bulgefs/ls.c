@@ -56,7 +56,7 @@ int command_ls(int argc, char **argv, const options *o)
     if (status != DONE)
         return status;
     if (view_find(&s.image, path, &(entry){ 0 }) != 0) {
-        status = refuse(view_refusal(&s.image, path), path);
+        status = refuse_path(&s, view_refusal(&s.image, path), path);
     } else {
         if (o->json)
             printf("[");

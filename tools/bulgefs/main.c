@@ -27,17 +27,21 @@ static const command commands[] = {
     { "info", command_info, "VOLUME [PATH]", "Says what the volume is and what it holds, or what there is at PATH." },
     { "check", command_check, "VOLUME", "Checks the volume, and says what is wrong and where." },
     { "cat", command_cat, "VOLUME PATH", "Writes a file of the volume to standard output." },
-    { "get", command_get, "VOLUME PATH FILE", "Copies a file of the volume to FILE, which must not exist; - is standard output." },
-    { "put", command_put, "VOLUME PATH FILE|-",
+    { "get", command_get, "[-r] VOLUME PATH FILE",
+      "Copies a file of the volume to FILE, which must not exist; - is standard output.  -r\n"
+      "copies a folder with all that is in it to a new folder, all of it or nothing." },
+    { "put", command_put, "[-r] VOLUME PATH FILE|-",
       "Makes PATH the content of FILE (- is standard input), in one step.  Of a file that\n"
-      "is there only the bytes and the time of the last change become others." },
+      "is there only the bytes and the time of the last change become others; if it has\n"
+      "these bytes already, nothing is changed.  -r brings a folder with all that is in it\n"
+      "to the folder PATH, all of it or nothing; what else is there stays." },
     { "mv", command_mv, "VOLUME PATH NEW",
       "Moves a file to the path NEW, or with its own name into the folder NEW.  All of\n"
       "the file stays: bytes, attributes, times and the other fields." },
     { "rm", command_rm, "VOLUME PATH...", "Deletes files, in one step." },
-    { "mkdir", command_mkdir, "VOLUME PATH [BLOCKS]",
+    { "mkdir", command_mkdir, "[-p] VOLUME PATH [BLOCKS]",
       "Makes a folder of BLOCKS blocks (1 to 64; 4 if it is not said), with room for\n"
-      "4 * BLOCKS - 2 names; it does not grow." },
+      "4 * BLOCKS - 2 names; it does not grow.  -p makes those above it too." },
     { "rmdir", command_rmdir, "VOLUME PATH...", "Deletes empty folders, in one step." },
     { "attr", command_attr, "VOLUME PATH [get FILE|set FILE|clear]",
       "Says how many blocks of attributes a file has; gets them as FILE (- is standard\n"

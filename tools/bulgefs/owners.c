@@ -25,12 +25,17 @@ static int listing_add(void *context, const char *path, const entry *e)
     return 0;
 }
 
-listing listing_read(const bytes *image)
+listing listing_below(const bytes *image, const char *path)
 {
     listing list = { NULL, 0, 0 };
 
-    view_each(image, "/", 1, listing_add, &list);
+    view_each(image, path, 1, listing_add, &list);
     return list;
+}
+
+listing listing_read(const bytes *image)
+{
+    return listing_below(image, "/");
 }
 
 listing listing_scan(const bytes *image)

@@ -12,7 +12,7 @@ static int delete_all(deletion call, int argc, char **argv, const options *o)
     if (status) return status;
     for (int i = 2; i < argc && !status; i++) {
         bulgefs_changed done = call(s.image.bytes, s.image.length, s.journal.bytes, s.journal.length, (const uint8_t *)argv[i], strlen(argv[i]));
-        if (done.number) status = refuse(done.number, argv[i]);
+        if (done.number) status = refuse_path(&s, done.number, argv[i]);
     }
     return store_finish(&s, status);
 }
