@@ -3,6 +3,7 @@
 #include <string.h>
 
 #include "look.h"
+#include "redo.h"
 
 /* What goes: so many steps, so many of the last records of the list; the mark before them. */
 typedef struct { uint32_t steps; size_t records; uint32_t mark; record_list list; } share;
@@ -15,13 +16,21 @@ static size_t records_of(const record_list *list, uint32_t steps)
     return count;
 }
 
-/* Tries on copies that each record is one of this volume. */
-static int try_records(const store *s, const share *goes)
+/* Whether a record goes on with the step of the one before. */
+static int goes_on(const record_list *list, size_t at)
+{
+    return at + 1 < list->count && list->records[at + 1].step == list->records[at].step;
+}
+
+/* Tries on copies that each record is one of this volume, and keeps it to be made again. */
+static int try_records(const store *s, const share *goes, bytes *kept)
 {
     bytes image = copy_bytes(&s->image), journal = copy_bytes(&s->journal), after = copy_bytes(&s->image);
     uint32_t number = BULGEFS_OK;
     size_t done = 0;
     while (done < goes->records && !number) {
+        size_t at = goes->list.count - 1 - done;
+        redo_keep(kept, &image, &journal, &goes->list.records[at], goes_on(&goes->list, at));
         number = undo_record(&image, &journal, &after, NULL, NULL);
         if (!number) done++;
     }
@@ -32,9 +41,9 @@ static int try_records(const store *s, const share *goes)
 }
 
 /* Takes all that goes back in one call. */
-static int undo(store *s, const share *goes)
+static int undo(store *s, const share *goes, bytes *kept)
 {
-    int status = try_records(s, goes);
+    int status = try_records(s, goes, kept);
     uint32_t number;
     if (status) return status;
     number = bulgefs_undo_to(s->image.bytes, s->image.length, s->journal.bytes, s->journal.length, goes->mark).number;
@@ -47,32 +56,37 @@ static int show(void *ctx, const change *one)
     return 0;
 }
 
-static void say_taken(const char *words, const share *gone)
+static void say_taken(const char *words, const share *gone, const char *end)
 {
-    printf("%s %u %s, %zu %s\n", words, (unsigned)gone->steps, gone->steps == 1 ? "step" : "steps",
-           gone->records, gone->records == 1 ? "record" : "records");
+    printf("%s %u %s, %zu %s%s\n", words, (unsigned)gone->steps, gone->steps == 1 ? "step" : "steps",
+           gone->records, gone->records == 1 ? "record" : "records", end);
 }
 
 /* Says what the undo of the records changes. */
 static int try_back(store *s, const share *goes)
 {
-    bytes before = copy_bytes(&s->image);
-    int status = undo(s, goes);
+    bytes before = copy_bytes(&s->image), kept = { NULL, 0 };
+    int status = undo(s, goes, &kept);
     if (!status) {
         changes_each(&before, &s->image, show, stdout);
-        say_taken("would take back", goes);
+        say_taken("would take back", goes, "");
     }
     free(before.bytes);
+    free(kept.bytes);
     return status;
 }
 
 static int do_back(store *s, const share *goes)
 {
-    int status = undo(s, goes);
-    if (status) return status;
-    steps_cut(s, &goes->list, goes->list.count - goes->records);
-    status = store_save(s);
-    if (!status) say_taken("took back", goes);
+    bytes kept = redo_kept(s);
+    int again = 0, status = undo(s, goes, &kept);
+    if (!status) {
+        steps_cut(s, &goes->list, goes->list.count - goes->records);
+        again = redo_write(s, &kept);
+        status = store_save(s);
+    }
+    if (!status) say_taken("took back", goes, again ? "" : "; too long for redo");
+    free(kept.bytes);
     return status;
 }
 

@@ -53,6 +53,7 @@ _bulgefs_options() {
     case $1 in
     format) _bulgefs_words $'--root\n--name\n--uuid\n--journal\n--help' "$2" ;;
     back) _bulgefs_words $'--all\n--dry-run\n--help' "$2" ;;
+    redo) _bulgefs_words $'--all\n--help' "$2" ;;
     put | get) _bulgefs_words $'-r\n--help' "$2" ;;
     mkdir) _bulgefs_words $'-p\n--help' "$2" ;;
     ls) _bulgefs_words $'-l\n-R\n--help' "$2" ;;
@@ -86,7 +87,7 @@ _bulgefs() {
     if [[ $typed == -?* ]]; then
         _bulgefs_options "$command" "$typed"
     elif [[ -z $command ]]; then
-        _bulgefs_words $'format\nimport\nexport\nls\ninfo\ncheck\ncat\nget\nput\nmv\nrm\nmkdir\nrmdir\nattr\nsettings\nhistory\nstart\ngrow\nlog\nback\nsalvage\nmap\nreport\ndiff' "$typed"
+        _bulgefs_words $'format\nimport\nexport\nls\ninfo\ncheck\ncat\nget\nput\nmv\nrm\nmkdir\nrmdir\nattr\nsettings\nhistory\nstart\ngrow\nlog\nback\nredo\nsalvage\nmap\nreport\ndiff' "$typed"
     else
         _bulgefs_argument "$command" "$volume" "$count" "$typed"
     fi

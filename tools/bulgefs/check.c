@@ -16,7 +16,7 @@ static void print_counts(const bytes *image)
 
     printf("sound\n");
     printf("blocks %" PRIu32 ", used %" PRIu32 ", free %" PRIu32 "\n", v.blocks, v.used, v.free);
-    put_count(stdout, sum.directories, "directory", "directories");
+    put_count(stdout, sum.directories, "folder", "folders");
     printf(" below the root, ");
     put_count(stdout, sum.files, "file", "files");
     printf(" of ");

@@ -36,7 +36,7 @@ static void print_volume(const bytes *image, const totals *sum)
            BULGEFS_MAX_FILES(root.blocks));
     put_time(stdout, root.created);
     printf("\n");
-    line("directories");
+    line("folders");
     printf("%" PRIu32 " below the root\n", sum->directories);
     line("files");
     printf("%" PRIu32 " of %" PRIu64 " bytes; %" PRIu32 " with attributes, %" PRIu32
@@ -128,7 +128,7 @@ static void print_entry(const bytes *image, const char *path, const entry *e)
     put_path(stdout, path);
     printf("\n");
     line("type");
-    printf("0x%02x, %s\n", e->type, view_is_directory(e) ? "directory" : "file");
+    printf("0x%02x, %s\n", e->type, view_is_directory(e) ? "folder" : "file");
     line("size");
     put_count(stdout, e->size, "byte", "bytes");
     printf(", ");

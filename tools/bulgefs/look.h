@@ -51,7 +51,8 @@ totals listing_totals(const bytes *image, const listing *list);
 #define NO_OWNER UINT32_MAX
 enum { USE_FREE, USE_HEADER, USE_TABLE, USE_DIRECTORY, USE_FILE, USE_ATTRIBUTES, USE_KINDS };
 typedef struct { int use; uint32_t owner, index; } block_use;
-extern const char *const use_names[USE_KINDS];
+/* Names for JSON, words for people, letters for the map. */
+extern const char *const use_names[USE_KINDS], *const use_words[USE_KINDS];
 extern const char use_letters[USE_KINDS + 1];
 block_use *owners_read(const bytes *image, const listing *list);
 /* The owner's path; "" for header, table and free blocks. */

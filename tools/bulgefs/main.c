@@ -66,6 +66,9 @@ static const command commands[] = {
     { "back", command_back, "VOLUME [N|--all] [--dry-run]",
       "Takes the last N steps back (1 if it is not said), or all.  --dry-run only says\n"
       "which paths would appear (+), vanish (-) or change (*)." },
+    { "redo", command_redo, "VOLUME [N|--all]",
+      "Makes the last N steps again that back took (1 if it is not said), or all, if nothing\n"
+      "else was changed since.  Steps of more than 48 KiB together are not kept for this." },
     { "salvage", command_salvage, "VOLUME OUT",
       "Makes a sound copy OUT, with a journal just started, of what is whole of a damaged\n"
       "volume, and says what became of the rest.  VOLUME is not changed." },

@@ -10,7 +10,7 @@
 
 #define COLUMNS 64u
 
-typedef struct { const bytes *image; listing list; block_use *blocks; uint32_t n; } plan;
+typedef struct { const bytes *image; listing list; block_use *blocks; uint32_t n, number; } plan;
 
 /* Colours are for a terminal that has not said that it wants none. */
 static int wants_colour(void)
@@ -83,7 +83,7 @@ static void print_map(const plan *p, uint32_t width)
     for (use = 0; use < USE_KINDS; use++) {
         printf(use == 0 ? "" : "  ");
         put_letter(use, 0, colour);
-        printf(" %s %" PRIu32, use_names[use], all.counts[use]);
+        printf(" %s %" PRIu32, use_words[use], all.counts[use]);
     }
     printf("\n");
     if (width > 1)
@@ -114,7 +114,8 @@ static void json_map(const plan *p)
     uint32_t first, end;
     int use;
 
-    printf("{\"blocks\":%" PRIu32 ",\"counts\":{", p->n);
+    printf("{\"sound\":%s,\"number\":%" PRIu32 ",\"blocks\":%" PRIu32 ",\"counts\":{", p->number == 0 ? "true" : "false",
+           p->number, p->n);
     for (use = 0; use < USE_KINDS; use++)
         printf("%s\"%s\":%" PRIu32, use == 0 ? "" : ",", use_names[use], all.counts[use]);
     printf("},\"stretches\":[");
@@ -155,10 +156,11 @@ int command_map(int argc, char **argv, const options *o)
 
     if (!take_value(&argc, argv, "--svg", &svg) || !good_arguments(&argc, argv, 1, 1))
         return usage("map VOLUME [--all] [--svg FILE]");
-    status = open_sound(&s, argv[1], o);
+    status = store_open(&s, argv[1], LOOK, o);
     if (status != DONE)
         return status;
     p.image = &s.image;
+    p.number = bulgefs_check(s.image.bytes, s.image.length);
     p.n = view_blocks(&s.image);
     p.list = listing_scan(&s.image);
     p.blocks = owners_read(&s.image, &p.list);
@@ -168,6 +170,8 @@ int command_map(int argc, char **argv, const options *o)
         json_map(&p);
     else
         print_map(&p, all ? 1 : map_width(p.n));
+    if (status == DONE && p.number != 0)
+        status = refuse_because(p.number, argv[1], "shown is what can be read; blocks that no entry leads to are shown as free");
     free(p.blocks);
     listing_free(&p.list);
     store_close(&s);

@@ -7,6 +7,9 @@
 const char *const use_names[USE_KINDS] = {
     "free", "header", "table", "directory", "file", "attributes"
 };
+const char *const use_words[USE_KINDS] = {
+    "free", "header", "table", "folder", "file", "attributes"
+};
 const char use_letters[USE_KINDS + 1] = ".HTDFA";
 
 static int listing_add(void *context, const char *path, const entry *e)

@@ -100,9 +100,11 @@ void page_head(FILE *out, const char *title)
     fputs("</style>\n</head>\n<body>\n<main>\n", out);
 }
 
-void page_end(FILE *out)
+void page_end(FILE *out, int sound)
 {
-    fputs("<footer>Times are UTC. The verdict, the counts of blocks and all entries shown, also in the journal, are the library's answers, which are "
-          "proved; chains, which entries differ, and what is drawn or summed up from all these, are plain code.</footer>\n"
-          "</main>\n</body>\n</html>\n", out);
+    fputs("<footer>Times are UTC. ", out);
+    fputs(sound ? "The verdict, the counts of blocks and all entries shown, also in the journal, are the library's answers, which are "
+                  "proved; chains, which entries differ, and what is drawn or summed up from all these, are plain code."
+                : "The verdict is the library's; all else on this page is plain code.", out);
+    fputs("</footer>\n</main>\n</body>\n</html>\n", out);
 }

@@ -7,7 +7,7 @@
 
 #define SHOWN_ENTRIES 5000u
 
-typedef struct { FILE *out; const store *s; listing list; block_use *blocks; totals sum; } report;
+typedef struct { FILE *out; const store *s; uint32_t number; listing list; block_use *blocks; totals sum; } report;
 
 static void put_card(FILE *out, uint64_t number, const char *unit, const char *words)
 {
@@ -33,11 +33,13 @@ static void put_cards(const report *r)
     bulgefs_volume v = view_volume(&r->s->image).numbers;
 
     fputs("<div class=\"cards\">\n", r->out);
-    put_card(r->out, v.blocks, "", "blocks of 512 bytes");
-    put_card(r->out, v.used, "", "blocks used");
-    put_card(r->out, v.free, "", "blocks free");
+    put_card(r->out, view_blocks(&r->s->image), "", "blocks of 512 bytes");
+    if (r->number == 0) {
+        put_card(r->out, v.used, "", "blocks used");
+        put_card(r->out, v.free, "", "blocks free");
+    }
     put_card(r->out, r->sum.files, "", r->sum.files == 1 ? "file" : "files");
-    put_card(r->out, r->sum.directories, "", r->sum.directories == 1 ? "directory" : "directories");
+    put_card(r->out, r->sum.directories, "", r->sum.directories == 1 ? "folder" : "folders");
     put_card(r->out, r->sum.file_bytes, "", "bytes in files");
     put_journal_cards(r);
     fputs("</div>\n", r->out);
@@ -55,11 +57,35 @@ static void put_heading(const report *r, const char *path)
     page_head(r->out, length == 0 ? path : title);
     fputs("<h1>", r->out);
     put_markup(r->out, length == 0 ? path : title);
-    fputs("</h1>\n<div><span class=\"tag\">sound</span> <span class=\"mono pale\">", r->out);
+    fputs(r->number == 0 ? "</h1>\n<div><span class=\"tag\">sound</span>" : "</h1>\n<div><span class=\"tag bad\">not sound</span>", r->out);
+    fputs(" <span class=\"mono pale\">", r->out);
     put_markup(r->out, path);
-    fputs(" &middot; ", r->out);
-    put_uuid(r->out, &volume);
+    if (r->number == 0) {
+        fputs(" &middot; ", r->out);
+        put_uuid(r->out, &volume);
+    }
     fputs("</span></div>\n", r->out);
+}
+
+/* Of a damaged volume: the library's number, where the fault is, and how far the page can be believed. */
+static void put_fault(const report *r)
+{
+    fault f = explain(&r->s->image);
+
+    fprintf(r->out, "<section>\n<h2>Not sound: %" PRIu32 ", %s</h2>\n", r->number, bulgefs_text(r->number));
+    if (f.stage == r->number) {
+        fputs("<p>", r->out);
+        page_path(r->out, f.path, 0);
+        fputs(" ", r->out);
+        put_markup(r->out, f.rule);
+        fputs("; expected ", r->out);
+        put_markup(r->out, f.expected);
+        fputs(", found ", r->out);
+        put_markup(r->out, f.found);
+        fputs("</p>\n", r->out);
+    }
+    fputs("<p>This page shows what can be read of the damaged volume. Files may be missing, and what is shown may be wrong. "
+          "Blocks that no entry leads to are shown as free.</p>\n</section>\n", r->out);
 }
 
 static void put_blocks(const report *r)
@@ -72,7 +98,7 @@ static void put_blocks(const report *r)
     for (use = 1; use <= USE_KINDS; use++)
         if (all.counts[use % USE_KINDS] > 0)
             fprintf(r->out, "<span class=\"u%d\" style=\"width:%.3f%%\" title=\"%s %" PRIu32 "\"></span>",
-                    use % USE_KINDS, 100.0 * all.counts[use % USE_KINDS] / n, use_names[use % USE_KINDS],
+                    use % USE_KINDS, 100.0 * all.counts[use % USE_KINDS] / n, use_words[use % USE_KINDS],
                     all.counts[use % USE_KINDS]);
     fputs("</div>\n", r->out);
     map_svg(r->out, &r->s->image, &r->list, r->blocks, 0);
@@ -114,7 +140,7 @@ static void put_files(const report *r)
 {
     size_t i;
 
-    fputs("<section>\n<h2>Files and directories</h2>\n", r->out);
+    fputs("<section>\n<h2>Files and folders</h2>\n", r->out);
     if (r->list.count == 0) {
         fputs("<p class=\"pale\">The volume is empty.</p>\n</section>\n", r->out);
         return;
@@ -132,22 +158,28 @@ static void put_files(const report *r)
 
 static int write_report(const store *s, const char *path, const char *file)
 {
-    report r = { NULL, s, listing_read(&s->image), NULL, { 0, 0, 0, 0, 0, 0 } };
+    report r = { NULL, s, bulgefs_check(s->image.bytes, s->image.length), { NULL, 0, 0 }, NULL, { 0, 0, 0, 0, 0, 0 } };
     memory_text page;
     int status;
 
     text_begin(&page);
     r.out = page.out;
+    r.list = r.number == 0 ? listing_read(&s->image) : listing_scan(&s->image);
     r.blocks = owners_read(&s->image, &r.list);
     r.sum = listing_totals(&s->image, &r.list);
     put_heading(&r, path);
+    if (r.number != 0)
+        put_fault(&r);
     put_cards(&r);
     put_blocks(&r);
     put_files(&r);
-    page_journal(r.out, s);
-    page_end(r.out);
+    if (r.number == 0)
+        page_journal(r.out, s);
+    page_end(r.out, r.number == 0);
     text_end(&page);
     status = write_output(file, (const uint8_t *)page.text, page.length);
+    if (status == DONE && r.number != 0)
+        status = refuse_because(r.number, path, "the page shows what can be read");
     free(r.blocks);
     listing_free(&r.list);
     free(page.text);
@@ -161,7 +193,7 @@ int command_report(int argc, char **argv, const options *o)
 
     if (!good_arguments(&argc, argv, 2, 2))
         return usage("report VOLUME FILE.html");
-    status = open_sound(&s, argv[1], o);
+    status = store_open(&s, argv[1], LOOK, o);
     if (status != DONE)
         return status;
     status = write_report(&s, argv[1], argv[2]);

@@ -12,7 +12,7 @@ static const char *fate_words(uint8_t code, int last)
     switch (code) {
     case BULGEFS_ENTRY_LOST:      return "lost: its entry was none of a file, or its name was taken";
     case BULGEFS_FILE_LOST:       return "lost: its chain of blocks was broken or crossed another";
-    case BULGEFS_END_MENDED:      return last ? "mended: the directory's end was put back" : "kept: the end of a chain was mended";
+    case BULGEFS_END_MENDED:      return last ? "mended: the folder's end was put back" : "kept: the end of a chain was mended";
     case BULGEFS_ATTRIBUTES_LOST: return "kept without its attributes: their chain was broken";
     default:                      return "kept";
     }
@@ -69,7 +69,7 @@ static void put_report(const store *from, const bytes *sound, const uint8_t *rep
 static int refuse_salvage(const char *path, uint32_t number)
 {
     if (number != BULGEFS_BAD_SLOT) return refuse(number, path);
-    say("%s: refused (%u): its root holds a directory, and salvage is for volumes without any", path, (unsigned)number);
+    say("%s: refused (%u): its root holds a folder, and salvage is for volumes without any", path, (unsigned)number);
     return REFUSED;
 }
 

@@ -100,9 +100,22 @@ static const char *advice(uint32_t number)
     }
 }
 
+/* The library's words, with folder for directory. */
+static const char *words_for(uint32_t number)
+{
+    switch (number) {
+    case BULGEFS_BAD_SELF:       return "a folder is damaged";
+    case BULGEFS_BAD_SLOT:       return "a slot of a folder is damaged";
+    case BULGEFS_DIRECTORY_FULL: return "no free slot in the folder";
+    case BULGEFS_TOO_DEEP:       return "too many folders in the path";
+    case BULGEFS_NOT_EMPTY:      return "folder is not empty";
+    default:                     return bulgefs_text(number);
+    }
+}
+
 int refuse_because(uint32_t number, const char *what, const char *why)
 {
-    say_refusal(number, "%s: refused (%u): %s%s%s", what, (unsigned)number, bulgefs_text(number), why ? "; " : "", why ? why : "");
+    say_refusal(number, "%s: refused (%u): %s%s%s", what, (unsigned)number, words_for(number), why ? "; " : "", why ? why : "");
     return REFUSED;
 }
 

@@ -30,6 +30,14 @@ static box box_of(const char *text)
     return b;
 }
 
+/* Of bad settings the words say what is wrong with them. */
+static int refuse_box(uint32_t number, const box *b, size_t length)
+{
+    if (number != BULGEFS_BAD_SETTINGS) return refuse(number, b->text);
+    return refuse_because(number, b->text, length > BULGEFS_MAX_SETTINGS ? "settings have at most 200 bytes"
+        : "a box is a serial number of 1 to 16 letters and digits, or a folder and a serial number as /venue/SN4471");
+}
+
 static revision get_latest(const store *s, const box *b)
 {
     revision r;
@@ -48,7 +56,7 @@ static revision get_revision(const store *s, const box *b, uint32_t number)
 
 static int refuse_revision(uint32_t refusal, const box *b, uint32_t number)
 {
-    if (refusal != BULGEFS_NO_REVISION) return refuse(refusal, b->text);
+    if (refusal != BULGEFS_NO_REVISION) return refuse_box(refusal, b, 0);
     say("%s: refused (%u): %s: %" PRIu32 "; `bulgefs history` lists those that stand", b->text, (unsigned)refusal, bulgefs_text(refusal), number);
     return REFUSED;
 }
@@ -62,7 +70,7 @@ static int look(const char *volume, const box *b, const options *o)
     if (status) return status;
     latest = get_latest(&s, b);
     store_close(&s);
-    if (latest.got.number) return refuse(latest.got.number, b->text);
+    if (latest.got.number) return refuse_box(latest.got.number, b, 0);
     printf("%" PRIu32 "\n", latest.got.revision);
     return DONE;
 }
@@ -96,7 +104,7 @@ static int put(const char *volume, const box *b, const char *from, const options
     if (!status) {
         done = bulgefs_put_settings_in(s.image.bytes, s.image.length, s.journal.bytes, s.journal.length, b->directory, b->directory_length, b->serial,
                                        b->serial_length, data.bytes, data.length, time);
-        status = store_finish(&s, done.number ? refuse(done.number, b->text) : DONE);
+        status = store_finish(&s, done.number ? refuse_box(done.number, b, data.length) : DONE);
     }
     if (!status) printf("revision %" PRIu32 "\n", done.revision);
     free(data.bytes);
@@ -192,7 +200,7 @@ int command_history(int argc, char **argv, const options *o)
     latest = get_latest(&s, &b);
     if (latest.got.number) {
         store_close(&s);
-        return refuse(latest.got.number, b.text);
+        return refuse_box(latest.got.number, &b, 0);
     }
     if (o->json) {
         json_box(&b);

@@ -3,7 +3,7 @@
 #include <string.h>
 #include <time.h>
 
-#include "tool.h"
+#include "redo.h"
 
 enum { FIRST_WAIT = 2, LONGEST_WAIT = 50, MOST_IMAGE = BULGEFS_BLOCK_SIZE * BULGEFS_MAX_BLOCKS };   /* waits are milliseconds */
 
@@ -102,6 +102,7 @@ int store_finish(store *s, int status)
 {
     if (!status) {
         steps_add(s);
+        redo_clear(s);
         status = store_save(s);
     }
     store_close(s);

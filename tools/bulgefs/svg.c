@@ -48,7 +48,7 @@ static void put_block_title(const picture *p, uint32_t block)
     const block_use *b = &p->blocks[block];
     const char *path = owner_path(p->list, b);
 
-    fprintf(p->out, "block %" PRIu32 ": %s", block, use_names[b->use]);
+    fprintf(p->out, "block %" PRIu32 ": %s", block, use_words[b->use]);
     if (path[0] == 0)
         return;
     fputs(b->use == USE_ATTRIBUTES ? " of " : " ", p->out);
@@ -84,7 +84,7 @@ static void put_cell_title(const picture *p, const cell *c)
     for (use = 0; use < USE_KINDS; use++) {
         if (c->counts[use] == 0)
             continue;
-        fprintf(p->out, "%s%" PRIu32 " %s", between, c->counts[use], use_names[use]);
+        fprintf(p->out, "%s%" PRIu32 " %s", between, c->counts[use], use_words[use]);
         between = ", ";
     }
     put_owners(p, c);
@@ -128,7 +128,7 @@ static void put_legend(const picture *p, double y)
     int use;
 
     for (use = 0; use < USE_KINDS; use++) {
-        snprintf(text, sizeof text, "%s %" PRIu32, use_names[use], all.counts[use]);
+        snprintf(text, sizeof text, "%s %" PRIu32, use_words[use], all.counts[use]);
         fprintf(p->out, "<rect class=\"u%d\" x=\"%.0f\" y=\"%.2f\" width=\"12\" height=\"12\" rx=\"3\"/>"
                 "<text x=\"%.0f\" y=\"%.2f\">%s</text>\n", use, x, y, x + 18, y + 10, text);
         x += 36 + 7 * (double)strlen(text);

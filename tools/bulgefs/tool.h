@@ -222,6 +222,7 @@ int command_attr(int argc, char **argv, const options *);
 int command_settings(int argc, char **argv, const options *);
 int command_log(int argc, char **argv, const options *);
 int command_back(int argc, char **argv, const options *);
+int command_redo(int argc, char **argv, const options *);
 int command_salvage(int argc, char **argv, const options *);
 
 int command_history(int argc, char **argv, const options *);

@@ -4,8 +4,8 @@
  * and the root's own times are read here in plain C, and that is not.  So are
  * all entries where a whole image is counted, drawn or compared (view_scan); a
  * comparison shows of these only what the library tells too (view_told).  Every
- * number that is followed is held against the image's length first, so that a
- * wrong image gives wrong words and never a read outside the bytes lent.
+ * number that is followed is held against the image's length first, and every
+ * walk has an end, so that a damaged image gives wrong words and nothing worse.
  */
 #include <stdlib.h>
 #include <string.h>
@@ -90,7 +90,7 @@ chain chain_of(const bytes *image, uint32_t first, uint32_t blocks)
 
     c.image = image;
     c.block = first;
-    c.left = blocks;
+    c.left = blocks < view_blocks(image) ? blocks : view_blocks(image);
     return c;
 }
 
@@ -125,6 +125,12 @@ volume_info view_volume(const bytes *image)
     return v;
 }
 
+/* No directory has more blocks than this, whatever a damaged entry says. */
+static uint32_t view_directory_blocks(const entry *e)
+{
+    return e->blocks < BULGEFS_MAX_DIRECTORY_BLOCKS ? e->blocks : BULGEFS_MAX_DIRECTORY_BLOCKS;
+}
+
 entry view_root(const bytes *image)
 {
     uint32_t first = view_table(image) + 1;
@@ -132,7 +138,7 @@ entry view_root(const bytes *image)
 
     e.type = BULGEFS_PLAIN_DIRECTORY;
     e.first = first;
-    e.blocks = view_volume(image).numbers.root_blocks;
+    e.blocks = view_directory_blocks(&e);
     e.size = 0;
     e.name_length = 0;
     e.name[0] = 0;
@@ -199,10 +205,10 @@ static int next_entry(const folder *f, uint32_t slot, entry *e)
 /* The same in plain C: the library checks the whole image for each entry that it tells. */
 static int next_plain(const folder *f, uint32_t slot, entry *e)
 {
-    uint32_t end = BULGEFS_SLOTS_PER_BLOCK * f->self.blocks - 1;
+    uint32_t end = BULGEFS_SLOTS_PER_BLOCK * view_directory_blocks(&f->self);
     size_t offset;
 
-    for (; slot < end; slot++) {
+    for (; slot + 1 < end; slot++) {
         offset = slot_offset(f, slot);
         if (offset == 0)
             return 0;
@@ -263,10 +269,22 @@ typedef struct {
     const bytes *image;
     char path[BULGEFS_MAX_PATH + 1];
     int recursive;
+    uint8_t *seen;             /* of a scan: the first blocks of directories, each of which is visited once */
     int (*next)(const folder *, uint32_t, entry *);
     each_entry each;
     void *context;
 } visit;
+
+/* Whether a directory was not visited before; in a damaged image two entries may lead to one. */
+static int is_new(visit *v, const entry *directory)
+{
+    if (v->seen == NULL)
+        return 1;
+    if (directory->first >= view_blocks(v->image) || v->seen[directory->first])
+        return 0;
+    v->seen[directory->first] = 1;
+    return 1;
+}
 
 static int visit_directory(visit *v, const entry *directory, size_t length, unsigned level)
 {
@@ -274,6 +292,9 @@ static int visit_directory(visit *v, const entry *directory, size_t length, unsi
     uint32_t slot = 1;
     entry e;
     int stop;
+
+    if (!is_new(v, directory))
+        return 0;
 
     while (v->next(&f, slot, &e)) {
         slot = e.slot + 1;
@@ -301,6 +322,7 @@ int view_each(const bytes *image, const char *path, int recursive, each_entry ea
         return BULGEFS_NOT_FOUND;
     v.image = image;
     v.recursive = recursive;
+    v.seen = NULL;
     v.next = next_entry;
     v.each = each;
     v.context = context;
@@ -315,10 +337,11 @@ int view_each(const bytes *image, const char *path, int recursive, each_entry ea
 
 void view_scan(const bytes *image, each_entry each, void *context)
 {
-    visit v = { image, "", 1, next_plain, each, context };
+    visit v = { image, "", 1, take_memory(view_blocks(image)), next_plain, each, context };
     entry root = view_root(image);
 
     visit_directory(&v, &root, 0, 0);
+    free(v.seen);
 }
 
 /* The offset is left out: the library tells none. */
