@@ -41,7 +41,7 @@ _bulgefs_boxes() {
 _bulgefs_argument() {
     local command=$1 volume=$2 count=$3 typed=$4
     case $command:$count in
-    *:0 | import:* | export:* | put:2 | get:2 | salvage:1 | report:1 | diff:1 | attr:3 | settings:3) _bulgefs_files "$typed" ;;
+    *:0 | import:* | export:* | put:2 | get:2 | salvage:1 | extract:1 | report:1 | diff:1 | attr:3 | settings:3) _bulgefs_files "$typed" ;;
     ls:1 | info:1 | cat:1 | get:1 | put:1 | mv:1 | mv:2 | rm:* | mkdir:1 | rmdir:* | attr:1) _bulgefs_paths "$volume" "$typed" ;;
     settings:1 | history:1) _bulgefs_boxes "$volume" "$typed" ;;
     settings:2) _bulgefs_words $'put\nget' "$typed" ;;
@@ -53,6 +53,7 @@ _bulgefs_options() {
     case $1 in
     format) _bulgefs_words $'--root\n--name\n--uuid\n--journal\n--help' "$2" ;;
     back) _bulgefs_words $'--all\n--dry-run\n--help' "$2" ;;
+    extract) _bulgefs_words $'--damaged\n--help' "$2" ;;
     redo) _bulgefs_words $'--all\n--help' "$2" ;;
     put | get) _bulgefs_words $'-r\n--help' "$2" ;;
     mkdir) _bulgefs_words $'-p\n--help' "$2" ;;
@@ -87,7 +88,7 @@ _bulgefs() {
     if [[ $typed == -?* ]]; then
         _bulgefs_options "$command" "$typed"
     elif [[ -z $command ]]; then
-        _bulgefs_words $'format\nimport\nexport\nls\ninfo\ncheck\ncat\nget\nput\nmv\nrm\nmkdir\nrmdir\nattr\nsettings\nhistory\nstart\ngrow\nlog\nback\nredo\nsalvage\nmap\nreport\ndiff' "$typed"
+        _bulgefs_words $'format\nimport\nexport\nls\ninfo\ncheck\ncat\nget\nput\nmv\nrm\nmkdir\nrmdir\nattr\nsettings\nhistory\nstart\ngrow\nlog\nback\nredo\nsalvage\nextract\nmap\nreport\ndiff' "$typed"
     else
         _bulgefs_argument "$command" "$volume" "$count" "$typed"
     fi

@@ -72,6 +72,9 @@ static const command commands[] = {
     { "salvage", command_salvage, "VOLUME OUT",
       "Makes a sound copy OUT, with a journal just started, of what is whole of a damaged\n"
       "volume, and says what became of the rest.  VOLUME is not changed." },
+    { "extract", command_extract, "[--damaged] VOLUME FOLDER",
+      "Copies all files of a volume to a new folder, all of them or nothing; with --damaged\n"
+      "those that are whole of a damaged one, and says what became of the rest." },
     { "map", command_map, "VOLUME [--all] [--svg FILE]",
       "Shows what each block is used for; --all also rows that are free, --svg as a picture." },
     { "report", command_report, "VOLUME FILE.html", "Makes a page about the volume, its blocks and its journal." },
@@ -96,7 +99,7 @@ static void help(void)
     for (int i = 0; i < COMMANDS; i++) printf("  %s %s\n", commands[i].name, commands[i].arguments);
     puts("\n"
          "A path is / and names with / between.  --json is for ls, info, check, history, log,\n"
-         "salvage, map, diff and errors.  --wait says how long to wait for a volume that is in\n"
+         "salvage, extract, map, diff and errors.  --wait says how long to wait for a volume that is in\n"
          "use (10 seconds).  Exit status: 0 done, 1 refused or not sound, 2 wrong use or an\n"
          "error of the system or the tool, 3 in use.");
 }

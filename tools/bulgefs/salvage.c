@@ -2,7 +2,7 @@
 #include <stdlib.h>
 #include <string.h>
 
-#include "look.h"
+#include "salvage.h"
 
 static const char *const fates[] = { "kept", "entry lost", "file lost", "end mended", "attributes lost" };
 enum { FATES = sizeof fates / sizeof *fates };
@@ -52,17 +52,14 @@ static unsigned put_slots(const bytes *damaged, const bytes *sound, const uint8_
     return count;
 }
 
-static void put_report(const store *from, const bytes *sound, const uint8_t *report, int json)
+void salvage_tell(const store *from, const salvaged *made, int json)
 {
     uint32_t number = bulgefs_check(from->image.bytes, from->image.length);
     unsigned count;
     if (json) printf("{\"check\":%u,\"slots\":[", (unsigned)number);
-    count = put_slots(&from->image, sound, report, json);
-    if (json) {
-        puts("]}");
-        return;
-    }
-    if (!count) puts(number ? "all files were kept; table and counts were put right" : "the volume was sound; it was copied");
+    count = put_slots(&from->image, &made->image, made->report, json);
+    if (json) puts("]}");
+    else if (!count) puts(number ? "no entry was changed; table and counts were put right" : "the volume was sound; it was copied");
 }
 
 /* Of salvage 5 is not a damaged slot: FORMAT, section 16. */
@@ -73,31 +70,41 @@ static int refuse_salvage(const char *path, uint32_t number)
     return REFUSED;
 }
 
+/* A sound volume with folders needs no salvage. */
+int salvage_copy(const store *from, salvaged *made)
+{
+    uint32_t number = bulgefs_check(from->image.bytes, from->image.length);
+    made->image = copy_bytes(&from->image);
+    made->report_length = BULGEFS_MAX_REPORT;
+    made->report = take_memory(made->report_length);
+    if (number) number = bulgefs_salvage(made->image.bytes, made->image.length, made->report, made->report_length);
+    return number ? refuse_salvage(from->path, number) : DONE;
+}
+
+void salvage_free(salvaged *made)
+{
+    free(made->image.bytes);
+    free(made->report);
+}
+
 /* The length that the journal has, or of a bare image the usual one. */
 static size_t journal_length(const store *from)
 {
     return from->journal.bytes ? from->journal.length : usual_journal(from->image.length);
 }
 
-static int salvage(const store *from, const char *out, const options *o)
-{
-    uint8_t report[BULGEFS_MAX_REPORT] = { 0 };
-    bytes image = copy_bytes(&from->image);
-    uint32_t number = bulgefs_salvage(image.bytes, image.length, report, sizeof report);
-    int status = number ? refuse_salvage(from->path, number) : store_start(out, &image, journal_length(from), o);
-    if (!status) put_report(from, &image, report, o->json);
-    free(image.bytes);
-    return status;
-}
-
 int command_salvage(int argc, char **argv, const options *o)
 {
+    salvaged made;
     store from;
     int status;
     if (!good_arguments(&argc, argv, 2, 2)) return usage("salvage VOLUME OUT");
     status = store_open(&from, argv[1], LOOK, o);
     if (status) return status;
-    status = salvage(&from, argv[2], o);
+    status = salvage_copy(&from, &made);
+    if (!status) status = store_start(argv[2], &made.image, journal_length(&from), o);
+    if (!status) salvage_tell(&from, &made, o->json);
+    salvage_free(&made);
     store_close(&from);
     return status;
 }

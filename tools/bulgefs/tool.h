@@ -224,6 +224,7 @@ int command_log(int argc, char **argv, const options *);
 int command_back(int argc, char **argv, const options *);
 int command_redo(int argc, char **argv, const options *);
 int command_salvage(int argc, char **argv, const options *);
+int command_extract(int argc, char **argv, const options *);
 
 int command_history(int argc, char **argv, const options *);
 int command_ls(int argc, char **argv, const options *);
