@@ -8,12 +8,10 @@ void page_number(FILE *out, uint64_t number)
 {
     char text[32];
     size_t length, i;
-
     snprintf(text, sizeof text, "%" PRIu64, number);
     length = strlen(text);
     for (i = 0; i < length; i++) {
-        if (i != 0 && (length - i) % 3 == 0)
-            fputc(',', out);
+        if (i != 0 && (length - i) % 3 == 0) fputc(',', out);
         fputc(text[i], out);
     }
 }
@@ -22,11 +20,8 @@ void page_path(FILE *out, const char *path, int directory)
 {
     char above[BULGEFS_MAX_PATH + 2];
     const char *name = strrchr(path, '/');
-
-    if (name == NULL || (size_t)(name - path) + 2 > sizeof above)
-        name = path;
-    else
-        name++;
+    if (name == NULL || (size_t)(name - path) + 2 > sizeof above) name = path;
+    else name++;
     memcpy(above, path, (size_t)(name - path));
     above[name - path] = 0;
     fputs("<span class=\"path\"><span class=\"pale\">", out);
