@@ -1,7 +1,7 @@
 /*
  * cuts TOOL VOLUME K PLACE ARGUMENT...: takes down every operation of TOOL ARGUMENT... in the current folder, then makes the disk as a cut of power after
- * each of them may leave it, recovers by `check`, and compares with the states before and after the command.  With K above 0 the command is stopped at
- * its K-th operation, and the cuts are those of the recovery that follows.  The last line is `N passed, M failed`.
+ * each of them may leave it, looks by `check`, and compares what the files mean with the states before and after the command.  With K above 0 the command is
+ * stopped at its K-th system call, and the cuts are those of the recovery that follows, by a command that is refused.  The last line is `N passed, M failed`.
  *
  * The disk: what was synced stays.  Of the writes to a file since its last fsync any may be there or not, whole, half or as zeros.  Names made, moved
  * and removed since the folder's last fsync may be there up to any of them, in order.
@@ -34,7 +34,7 @@ typedef struct {
 } named;
 
 typedef struct {
-    char *command[MOST_ARGUMENTS], *check[4];
+    char *command[MOST_ARGUMENTS], *check[4], *recovery[5];
     state before, after;
     operation operations[MOST_OPERATIONS];
     inode inodes[MOST_INODES];
@@ -207,6 +207,7 @@ static state disk(const trial *t, int cut, int keep, int way)
         if (names[i].inode < 0)
             continue;
         s.files[s.count] = content(t, names[i].inode, cut, way);
+        settle(&s.files[s.count]);
         memcpy(s.files[s.count++].name, names[i].name, TRACE_NAME);
     }
     return s;
@@ -298,7 +299,7 @@ static void take_down(trial *t, const char *k, const char *place)
     } else {
         run_traced(t->command, k, place, STOPPED);
         t->first = taken_down();
-        run_traced(t->check, NULL, NULL, 0);
+        run_traced(t->recovery, NULL, NULL, 1);
     }
     load_trace(t);
     t->after = read_state();
@@ -321,6 +322,10 @@ int main(int argc, char **argv)
     t.check[0] = argv[1];
     t.check[1] = "check";
     t.check[2] = argv[2];
+    t.recovery[0] = argv[1];
+    t.recovery[1] = "rm";
+    t.recovery[2] = argv[2];
+    t.recovery[3] = "/no such file";
     t.before = read_state();
     start_inodes(&t);
     take_down(&t, argv[3], argv[4]);

@@ -1,6 +1,7 @@
 /*
- * damage TOOL VOLUME ROUNDS: spoils a copy of a sound volume at random, some bytes at a time, and has TOOL check it.  It must end with 0 or 1; its
- * explanation must be of the stage that the library gives; `salvage` of it must refuse or make a sound volume.  The last line is `N passed, M failed`.
+ * damage TOOL IMAGE ROUNDS: spoils a copy of a sound image at random, some bytes at a time, and has TOOL check it.  It must end with 0 or 1; its
+ * explanation must be of the stage that the library gives; `map` and `report` must show it and give the same status; `salvage` of it must refuse or make a
+ * sound volume.  The last line is `N passed, M failed`.
  */
 #include "state.h"
 
@@ -10,7 +11,7 @@
 #include <unistd.h>
 
 typedef struct {
-    char *check[4], *salvage[5], *check_out[4];
+    char *check[4], *salvage[5], *check_out[4], *map[4], *report[5];
     kept_file sound;
     uint64_t seed;
     int passed, failed, stages[8], saved;
@@ -83,10 +84,13 @@ static void one_round(trial *t, int round)
     judge(t, !said("no explanation"), round, "the explanation is not of the library's stage");
     if (status == 1)
         count_stage(t);
+    judge(t, run(t->map) == status, round, "map gave another status");
+    unlink("page");
+    if (round % 4 == 0)
+        judge(t, run(t->report) == status && access("page", F_OK) == 0, round, "report gave another status, or no page");
     if (status != 1 || round % 4)
         return;
     unlink("out");
-    unlink("out.journal");
     int made = run(t->salvage);
     judge(t, made == 0 ? run(t->check_out) == 0 : made == 1 && access("out", F_OK) != 0, round, "salvage");
     t->saved += made == 0;
@@ -98,10 +102,13 @@ int main(int argc, char **argv)
     if (argc != 4)
         return 2;
     char *check[] = { argv[1], "check", argv[2], NULL }, *salvage[] = { argv[1], "salvage", argv[2], "out", NULL };
-    char *check_out[] = { argv[1], "check", "out", NULL };
+    char *check_out[] = { argv[1], "check", "out", NULL }, *map[] = { argv[1], "map", argv[2], NULL };
+    char *report[] = { argv[1], "report", argv[2], "page", NULL };
     memcpy(t.check, check, sizeof check);
     memcpy(t.salvage, salvage, sizeof salvage);
     memcpy(t.check_out, check_out, sizeof check_out);
+    memcpy(t.map, map, sizeof map);
+    memcpy(t.report, report, sizeof report);
     read_file(&t.sound, argv[2]);
     for (int i = 0; i < atoi(argv[3]); i++)
         one_round(&t, i);

@@ -1,8 +1,8 @@
 /*
- * faults TOOL VOLUME TWICE ARGUMENT...: runs TOOL ARGUMENT... in the current folder again and again and stops it at each of its operations, before the
- * first, after half of each and after each, or has the operation fail as on a full disk.  `check` then recovers, and all files must be as before the
- * command or as after it, byte for byte.  If TWICE is 1, the recovery is stopped too, at each of its operations, and must come to the same when it is
- * made again.  The last line is `N passed, M failed`.
+ * faults TOOL VOLUME TWICE ARGUMENT...: runs TOOL ARGUMENT... in the current folder again and again and stops it at each of its system calls, before the
+ * first, after half of each and after each, or has the call fail as on a full disk, or an allocation.  `check` then looks at the volume, a command that is
+ * refused recovers it, and all files must mean what they meant before the command or after it, byte for byte.  If TWICE is 1, the recovery is stopped
+ * too, at each of its calls, and must come to the same when it is made again.  The last line is `N passed, M failed`.
  */
 #include "state.h"
 
@@ -10,13 +10,13 @@
 #include <stdlib.h>
 #include <string.h>
 
-static char *const places[] = { "before", "half of", "after", "by an error of" };
-static char *const values[] = { "before", "half", "after", "error" };
-enum { BEFORE, HALF, AFTER, ERROR, MOST_ARGUMENTS = 16, MOST_SEEN = 4096 };
+static char *const places[] = { "before", "half of", "after", "by an error of", "without memory in" };
+static char *const values[] = { "before", "half", "after", "error", "memory" };
+enum { BEFORE, HALF, AFTER, ERROR, MEMORY, MOST_ARGUMENTS = 16, MOST_SEEN = 4096 };
 
 typedef struct {
     char *command[MOST_ARGUMENTS];
-    char *check[4];
+    char *check[4], *recovery[5];
     state before, after;
     int twice, passed, failed;
     uint64_t seen[MOST_SEEN]; /* the states that were recovered, and what came of each */
@@ -51,8 +51,8 @@ static int run_plain(char **argv)
     return run_with(argv, none);
 }
 
-/* How many operations there are; the program has then done all of them. */
-static int count(char **argv)
+/* How many calls there are, and allocations; the program has then done all of them. */
+static int count(char **argv, int *allocations)
 {
     const char *pairs[] = { "BULGEFS_FAULT", "count", NULL };
     run_with(argv, pairs);
@@ -60,7 +60,7 @@ static int count(char **argv)
     char line[256];
     int number = -1;
     while (said && fgets(line, sizeof line, said))
-        sscanf(line, "operations %d", &number);
+        sscanf(line, "operations %d, allocations %d", &number, allocations);
     if (said)
         fclose(said);
     if (number < 0)
@@ -68,20 +68,27 @@ static int count(char **argv)
     return number;
 }
 
-/* Recovers by the tool and says what came of it: 0 the state before, 1 the state after, -1 neither. */
-static int recover(trial *t)
+/* What the files mean: 0 the state before, 1 the state after, -1 neither. */
+static int meaning(const trial *t, const char *what, int status, int wanted)
 {
-    int status = run_plain(t->check);
     state now = read_state();
     int volume = find(&now, t->check[2]) != NULL;
-    int is = status != (volume ? 0 : 2) ? -1 : same_state(&now, &t->before) ? 0 : same_state(&now, &t->after) ? 1 : -1;
+    int is = status != (volume ? wanted : 2) ? -1 : same_state(&now, &t->before) ? 0 : same_state(&now, &t->after) ? 1 : -1;
     if (is < 0) {
-        fprintf(stderr, "  check gave status %d\n", status);
+        fprintf(stderr, "  %s gave status %d\n", what, status);
         tell_difference("before", &now, &t->before);
         tell_difference("after", &now, &t->after);
     }
     free_state(&now);
     return is;
+}
+
+/* Looks, and then recovers: both must come to the same. */
+static int recover(trial *t)
+{
+    int seen = meaning(t, "check", run_plain(t->check), 0);
+    int is = meaning(t, "the recovery", run_plain(t->recovery), 1);
+    return seen == is ? is : -1;
 }
 
 /* The same; of a state that was recovered once already the outcome is known. */
@@ -112,12 +119,13 @@ static int is_state(const state *wanted)
 /* The recovery itself is stopped, wherever it changes something. */
 static void stop_recovery(trial *t, const state *stopped, int k, int place, int is)
 {
+    int allocations;
     put_state(stopped);
-    int most = count(t->check);
+    int most = count(t->recovery, &allocations);
     for (int j = 1; j <= most; j++)
         for (int at = j == 1 ? BEFORE : HALF; at <= AFTER; at++) {
             put_state(stopped);
-            judge(t, run_to(t->check, j, at) == STOPPED, "the recovery was not stopped", k, place, j);
+            judge(t, run_to(t->recovery, j, at) == STOPPED, "the recovery was not stopped", k, place, j);
             judge(t, recovered(t) == is, "the second recovery came to something else", k, place, j);
         }
 }
@@ -137,16 +145,16 @@ static void stop(trial *t, int k, int place)
     free_state(&stopped);
 }
 
-/* An operation fails and the command goes on: it ends with 2, or with 0 and the state after. */
-static void fail(trial *t, int k)
+/* A call or an allocation fails and the command goes on: it ends with 2, or with 0 and the state after. */
+static void fail(trial *t, int k, int place)
 {
     put_state(&t->before);
-    int status = run_to(t->command, k, ERROR);
-    judge(t, status == 0 || status == 2, "it gave another status", k, ERROR, 0);
+    int status = run_to(t->command, k, place);
+    judge(t, status == 0 || status == 2, "it gave another status", k, place, 0);
     int known = t->seen_count, is = recovered(t);
-    judge(t, is >= (status == 0), is < 0 ? "lost" : "it said that it was done", k, ERROR, 0);
+    judge(t, is >= (status == 0), is < 0 ? "lost" : "it said that it was done", k, place, 0);
     if (is == 0 && known < t->seen_count)
-        judge(t, run_plain(t->command) == 0 && is_state(&t->after), "the command cannot be made again", k, ERROR, 0);
+        judge(t, run_plain(t->command) == 0 && is_state(&t->after), "the command cannot be made again", k, place, 0);
 }
 
 int main(int argc, char **argv)
@@ -159,9 +167,13 @@ int main(int argc, char **argv)
     t.check[0] = argv[1];
     t.check[1] = "check";
     t.check[2] = argv[2];
+    t.recovery[0] = argv[1];
+    t.recovery[1] = "rm";
+    t.recovery[2] = argv[2];
+    t.recovery[3] = "/no such file";
     t.twice = argv[3][0] == '1';
     t.before = read_state();
-    int most = count(t.command);
+    int allocations = 0, most = count(t.command, &allocations);
     t.after = read_state();
     judge(&t, !same_state(&t.before, &t.after), "it changes nothing", 0, BEFORE, 0);
     for (int k = 1; k <= most; k++)
@@ -169,8 +181,10 @@ int main(int argc, char **argv)
             stop(&t, k, place);
     judge(&t, t.is_after == 1, "the last operation does not leave the state after", most, AFTER, 0);
     for (int k = 1; k <= most; k++)
-        fail(&t, k);
+        fail(&t, k, ERROR);
+    for (int k = 1; k <= allocations; k++)
+        fail(&t, k, MEMORY);
     put_state(&t.after);
-    printf("%d operations, %d passed, %d failed\n", most, t.passed, t.failed);
+    printf("%d calls, %d allocations, %d passed, %d failed\n", most, allocations, t.passed, t.failed);
     return t.failed != 0;
 }

@@ -1,16 +1,14 @@
 /* lock r|w FILE COMMAND...: holds the lock of FILE, for reading or for writing, while the command runs, and ends with its status. */
 #include <fcntl.h>
 #include <stdio.h>
+#include <sys/file.h>
 #include <sys/wait.h>
 #include <unistd.h>
 
 int main(int argc, char **argv)
 {
-    int status, file = argc < 4 ? -1 : open(argv[2], O_RDWR | O_CREAT, 0666);
-    struct flock whole = { .l_type = F_WRLCK, .l_whence = SEEK_SET };
-    if (argc > 1 && argv[1][0] == 'r')
-        whole.l_type = F_RDLCK;
-    if (file < 0 || fcntl(file, F_SETLK, &whole) != 0) {
+    int status, file = argc < 4 ? -1 : open(argv[2], O_RDWR | O_CLOEXEC);
+    if (file < 0 || flock(file, argv[1][0] == 'r' ? LOCK_SH : LOCK_EX) != 0) {
         perror("lock");
         return 125;
     }

@@ -1,4 +1,5 @@
 #include "state.h"
+#include "bulgefs.h"
 
 #include <dirent.h>
 #include <fcntl.h>
@@ -35,6 +36,21 @@ void read_file(kept_file *f, const char *name)
     if (fread(f->bytes, 1, f->length, in) != f->length)
         give_up(name);
     fclose(in);
+    settle(f);
+}
+
+void settle(kept_file *f)
+{
+    f->recovered = room(f->length);
+    if (f->length)
+        memcpy(f->recovered, f->bytes, f->length);
+    f->home = f->recovered;
+    f->home_length = f->length;
+    if (bulgefs_file_recover(f->recovered, f->length).number != 0)
+        return;
+    bulgefs_file_places p = bulgefs_file_parts(f->recovered, f->length);
+    f->home = f->recovered + p.image_start;
+    f->home_length = (size_t)p.image_length + p.journal_length + p.own_length;
 }
 
 void write_file(const kept_file *f)
@@ -46,8 +62,8 @@ void write_file(const kept_file *f)
 
 static int is_part(const char *name)
 {
-    size_t length = strlen(name);
-    return name[0] != '.' && !(length > 5 && strcmp(name + length - 5, ".lock") == 0);
+    const char *end = strstr(name, ".bulgefs-new");
+    return name[0] != '.' && !end;
 }
 
 state read_state(void)
@@ -70,7 +86,7 @@ state read_state(void)
 void free_state(state *s)
 {
     for (int i = 0; i < s->count; i++)
-        free(s->files[i].bytes);
+        free(s->files[i].bytes), free(s->files[i].recovered);
     s->count = 0;
 }
 
@@ -88,7 +104,7 @@ int same_state(const state *a, const state *b)
         return 0;
     for (int i = 0; i < a->count; i++) {
         const kept_file *f = &a->files[i], *g = find(b, f->name);
-        if (!g || f->length != g->length || memcmp(f->bytes, g->bytes, f->length) != 0)
+        if (!g || f->home_length != g->home_length || memcmp(f->home, g->home, f->home_length) != 0)
             return 0;
     }
     return 1;
@@ -114,7 +130,7 @@ void tell_difference(const char *with, const state *is, const state *other)
         const kept_file *f = &is->files[i], *g = find(other, f->name);
         if (!g)
             fprintf(stderr, " %s should not be there;", f->name);
-        else if (f->length != g->length || memcmp(f->bytes, g->bytes, f->length) != 0)
+        else if (f->home_length != g->home_length || memcmp(f->home, g->home, f->home_length) != 0)
             fprintf(stderr, " %s differs (%zu bytes, %zu wanted);", f->name, f->length, g->length);
     }
     for (int i = 0; i < other->count; i++)

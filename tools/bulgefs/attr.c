@@ -12,11 +12,12 @@ static int look(const char *volume, const char *path, const char *to, const opti
     uint8_t content[MOST];
     bulgefs_filled filled;
     store s;
-    int status = store_open(&s, volume, o->journal, LOOK);
+    int status = store_open(&s, volume, LOOK, o);
     if (status) return status;
     filled = bulgefs_read_attributes(s.image.bytes, s.image.length, (const uint8_t *)path, strlen(path), content, sizeof content);
+    status = filled.number ? refuse_path(&s, filled.number, path) : DONE;
     store_close(&s);
-    if (filled.number) return refuse(filled.number, path);
+    if (status) return status;
     if (to && filled.count) return write_output(to, content, filled.count);
     if (to) {
         say("%s has no attributes", path);
@@ -37,11 +38,11 @@ static int set(const char *volume, const char *path, const char *from, const opt
     length = (data.length + BULGEFS_BLOCK_SIZE - 1) / BULGEFS_BLOCK_SIZE * BULGEFS_BLOCK_SIZE;
     data.bytes = take_more(data.bytes, length);
     memset(data.bytes + data.length, 0, length - data.length);
-    status = store_open(&s, volume, o->journal, CHANGE);
+    status = store_open(&s, volume, CHANGE, o);
     if (!status) {
         done = bulgefs_set_attributes(s.image.bytes, s.image.length, s.journal.bytes, s.journal.length, (const uint8_t *)path, strlen(path),
                                       data.bytes, length);
-        status = store_finish(&s, done.number ? refuse(done.number, path) : DONE);
+        status = store_finish(&s, done.number ? refuse_path(&s, done.number, path) : DONE);
     }
     free(data.bytes);
     return status;
@@ -51,10 +52,10 @@ static int clear(const char *volume, const char *path, const options *o)
 {
     bulgefs_changed done;
     store s;
-    int status = store_open(&s, volume, o->journal, CHANGE);
+    int status = store_open(&s, volume, CHANGE, o);
     if (status) return status;
     done = bulgefs_clear_attributes(s.image.bytes, s.image.length, s.journal.bytes, s.journal.length, (const uint8_t *)path, strlen(path));
-    return store_finish(&s, done.number ? refuse(done.number, path) : DONE);
+    return store_finish(&s, done.number ? refuse_path(&s, done.number, path) : DONE);
 }
 
 int command_attr(int argc, char **argv, const options *o)

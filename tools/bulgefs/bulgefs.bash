@@ -22,7 +22,7 @@ _bulgefs_paths() {
         path=$folder/${name##*/}
         [[ $name == */ ]] && name=${name%/} && path=$folder/${name##*/}/
         [[ $path == "$typed"* ]] && names+=("$(printf '%q' "$path")")
-    done < <(bulgefs ls "$volume" "${folder:-/}" 2>/dev/null)
+    done < <(bulgefs ls --wait 0 "$volume" "${folder:-/}" 2>/dev/null)
     compopt -o nospace 2>/dev/null
     COMPREPLY=("${names[@]}")
 }
@@ -33,7 +33,7 @@ _bulgefs_boxes() {
     [[ $2 == /* ]] && _bulgefs_paths "$1" "$2" && return
     while IFS= read -r name; do
         [[ $name =~ ^[A-Za-z0-9]{1,16}$ ]] && names+=$name$'\n'
-    done < <(bulgefs ls "$1" 2>/dev/null)
+    done < <(bulgefs ls --wait 0 "$1" 2>/dev/null)
     _bulgefs_words "$names" "$2"
 }
 
@@ -41,7 +41,7 @@ _bulgefs_boxes() {
 _bulgefs_argument() {
     local command=$1 volume=$2 count=$3 typed=$4
     case $command:$count in
-    *:0 | put:2 | get:2 | salvage:1 | report:1 | diff:1 | attr:3 | settings:3) _bulgefs_files "$typed" ;;
+    *:0 | import:* | export:* | put:2 | get:2 | salvage:1 | extract:1 | report:1 | diff:1 | attr:3 | settings:3) _bulgefs_files "$typed" ;;
     ls:1 | info:1 | cat:1 | get:1 | put:1 | mv:1 | mv:2 | rm:* | mkdir:1 | rmdir:* | attr:1) _bulgefs_paths "$volume" "$typed" ;;
     settings:1 | history:1) _bulgefs_boxes "$volume" "$typed" ;;
     settings:2) _bulgefs_words $'put\nget' "$typed" ;;
@@ -52,12 +52,15 @@ _bulgefs_argument() {
 _bulgefs_options() {
     case $1 in
     format) _bulgefs_words $'--root\n--name\n--uuid\n--journal\n--help' "$2" ;;
-    start) _bulgefs_words $'--journal\n--help' "$2" ;;
     back) _bulgefs_words $'--all\n--dry-run\n--help' "$2" ;;
+    extract) _bulgefs_words $'--damaged\n--help' "$2" ;;
+    redo) _bulgefs_words $'--all\n--help' "$2" ;;
+    put | get) _bulgefs_words $'-r\n--help' "$2" ;;
+    mkdir) _bulgefs_words $'-p\n--help' "$2" ;;
     ls) _bulgefs_words $'-l\n-R\n--help' "$2" ;;
     map) _bulgefs_words $'--all\n--svg\n--help' "$2" ;;
-    '') _bulgefs_words $'-j\n--json\n--help\n--version' "$2" ;;
-    *) _bulgefs_words --help "$2" ;;
+    '') _bulgefs_words $'--json\n--wait\n--help\n--version' "$2" ;;
+    *) _bulgefs_words $'--json\n--wait\n--help' "$2" ;;
     esac
 }
 
@@ -66,7 +69,7 @@ _bulgefs() {
     COMPREPLY=()
     for ((i = 1; i < COMP_CWORD; i++)); do
         case ${COMP_WORDS[i]} in
-        -j | --root | --name | --uuid | --journal | --svg) i=$((i + 1)) ;;
+        --wait | --root | --name | --uuid | --journal | --svg) i=$((i + 1)) ;;
         -?*) ;;
         *)
             if [[ -z $command ]]; then
@@ -79,13 +82,13 @@ _bulgefs() {
         esac
     done
     case $before in
-    -j | --svg) _bulgefs_files "$typed" && return ;;
-    --root | --name | --uuid | --journal) return ;;
+    --svg) _bulgefs_files "$typed" && return ;;
+    --wait | --root | --name | --uuid | --journal) return ;;
     esac
     if [[ $typed == -?* ]]; then
         _bulgefs_options "$command" "$typed"
     elif [[ -z $command ]]; then
-        _bulgefs_words $'format\nls\ninfo\ncheck\ncat\nget\nput\nmv\nrm\nmkdir\nrmdir\nattr\nsettings\nhistory\nstart\nlog\nback\nsalvage\nmap\nreport\ndiff' "$typed"
+        _bulgefs_words $'format\nimport\nexport\nls\ninfo\ncheck\ncat\nget\nput\nmv\nrm\nmkdir\nrmdir\nattr\nsettings\nhistory\nstart\ngrow\nlog\nback\nredo\nsalvage\nextract\nmap\nreport\ndiff' "$typed"
     else
         _bulgefs_argument "$command" "$volume" "$count" "$typed"
     fi

@@ -13,10 +13,9 @@ static void print_counts(const bytes *image)
     listing list = listing_scan(image);
     totals sum = listing_totals(image, &list);
     bulgefs_volume v = view_volume(image).numbers;
-
     printf("sound\n");
     printf("blocks %" PRIu32 ", used %" PRIu32 ", free %" PRIu32 "\n", v.blocks, v.used, v.free);
-    put_count(stdout, sum.directories, "directory", "directories");
+    put_count(stdout, sum.directories, "folder", "folders");
     printf(" below the root, ");
     put_count(stdout, sum.files, "file", "files");
     printf(" of ");
@@ -30,7 +29,6 @@ static void json_counts(const bytes *image)
     listing list = listing_scan(image);
     totals sum = listing_totals(image, &list);
     bulgefs_volume v = view_volume(image).numbers;
-
     printf(",\"blocks\":%" PRIu32 ",\"used\":%" PRIu32 ",\"free\":%" PRIu32, v.blocks, v.used, v.free);
     printf(",\"directories\":%" PRIu32 ",\"files\":%" PRIu32 ",\"bytes\":%" PRIu64
            ",\"with_attributes\":%" PRIu32, sum.directories, sum.files, sum.file_bytes,
@@ -40,8 +38,7 @@ static void json_counts(const bytes *image)
 
 static void print_text(const char *name, const char *text)
 {
-    if (text[0] == 0)
-        return;
+    if (text[0] == 0) return;
     printf("  %-9s ", name);
     put_path(stdout, text);
     putchar('\n');
@@ -51,10 +48,8 @@ static void print_fault(const fault *f)
 {
     printf("  %-9s %" PRIu32 ", %s\n", "stage", f->stage, stage_name(f->stage));
     print_text("path", f->path);
-    if (f->slot >= 0)
-        printf("  %-9s %ld\n", "slot", f->slot);
-    if (f->block >= 0)
-        printf("  %-9s %ld\n", "block", f->block);
+    if (f->slot >= 0) printf("  %-9s %ld\n", "slot", f->slot);
+    if (f->block >= 0) printf("  %-9s %ld\n", "block", f->block);
     print_text("rule", f->rule);
     print_text("expected", f->expected);
     print_text("found", f->found);
@@ -81,10 +76,8 @@ static void json_fault(const fault *f, uint32_t number)
         json_text(stdout, stage_name(f->stage));
         printf(",\"path\":");
         json_text(stdout, f->path);
-        if (f->slot >= 0)
-            printf(",\"slot\":%ld", f->slot);
-        if (f->block >= 0)
-            printf(",\"block\":%ld", f->block);
+        if (f->slot >= 0) printf(",\"slot\":%ld", f->slot);
+        if (f->block >= 0) printf(",\"block\":%ld", f->block);
         printf(",\"rule\":");
         json_text(stdout, f->rule);
         printf(",\"expected\":");
@@ -98,7 +91,6 @@ static void json_fault(const fault *f, uint32_t number)
 static void say_image(const bytes *image, uint32_t number)
 {
     fault f;
-
     if (number == 0) {
         print_counts(image);
         return;
@@ -106,16 +98,13 @@ static void say_image(const bytes *image, uint32_t number)
     f = explain(image);
     printf("not sound: %" PRIu32 ", %s\n", number, bulgefs_text(number));
     printf("  (%s)\n", not_proved);
-    if (f.stage == number)
-        print_fault(&f);
-    else
-        print_other_stage(&f, number);
+    if (f.stage == number) print_fault(&f);
+    else print_other_stage(&f, number);
 }
 
 static void json_image(const bytes *image, uint32_t number)
 {
     fault f;
-
     printf("{\"sound\":%s,\"number\":%" PRIu32 ",\"text\":", number == 0 ? "true" : "false", number);
     json_text(stdout, bulgefs_text(number));
     if (number == 0) {
@@ -131,12 +120,11 @@ static uint32_t say_journal(const store *s, int json)
 {
     record_list list = { NULL, 0, 0, 0 };
     uint32_t number;
-
     if (s->journal.bytes == NULL) {
         printf(json ? ",\"journal\":null" : "no journal\n");
         return 0;
     }
-    number = steps_list(&s->image, &s->journal, &s->steps, &list);
+    number = steps_list(s, &list);
     if (number != 0) {
         printf(json ? ",\"journal\":{\"number\":%" PRIu32 "}" : "journal: %" PRIu32 ", not well formed\n",
                number);
@@ -155,21 +143,14 @@ int command_check(int argc, char **argv, const options *o)
     store s;
     uint32_t number, journal = 0;
     int status;
-
-    if (!good_arguments(&argc, argv, 1, 1))
-        return usage("check VOLUME");
-    status = store_open(&s, argv[1], o->journal, LOOK);
-    if (status != DONE)
-        return status;
+    if (!good_arguments(&argc, argv, 1, 1)) return usage("check VOLUME");
+    status = store_open(&s, argv[1], LOOK, o);
+    if (status != DONE) return status;
     number = bulgefs_check(s.image.bytes, s.image.length);
-    if (o->json)
-        json_image(&s.image, number);
-    else
-        say_image(&s.image, number);
-    if (number == 0)
-        journal = say_journal(&s, o->json);
-    if (o->json)
-        printf("}\n");
+    if (o->json) json_image(&s.image, number);
+    else say_image(&s.image, number);
+    if (number == 0) journal = say_journal(&s, o->json);
+    if (o->json) printf("}\n");
     store_close(&s);
     return number == 0 && journal == 0 ? DONE : REFUSED;
 }

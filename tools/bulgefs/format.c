@@ -96,7 +96,7 @@ int command_format(int argc, char **argv, const options *o)
     int status = read_plan(&argc, argv, &p);
     if (status) return status;
     status = make(&p, argv[1], &image);
-    if (!status) status = store_new(argv[1], o->journal, &image, (size_t)p.journal);
+    if (!status) status = store_start(argv[1], &image, (size_t)p.journal, o);
     free(image.bytes);
     return status;
 }

@@ -17,7 +17,6 @@ static void print_volume(const bytes *image, const totals *sum)
     const uint8_t *name;
     size_t length = volume_name(&volume, &name);
     entry root = view_root(image);
-
     line("name");
     put_text(stdout, name, length);
     printf("\n");
@@ -36,7 +35,7 @@ static void print_volume(const bytes *image, const totals *sum)
            BULGEFS_MAX_FILES(root.blocks));
     put_time(stdout, root.created);
     printf("\n");
-    line("directories");
+    line("folders");
     printf("%" PRIu32 " below the root\n", sum->directories);
     line("files");
     printf("%" PRIu32 " of %" PRIu64 " bytes; %" PRIu32 " with attributes, %" PRIu32
@@ -47,12 +46,9 @@ static void print_volume(const bytes *image, const totals *sum)
 static void print_journal(const store *s)
 {
     record_list list = { NULL, 0, 0, 0 };
-
     line("journal");
-    if (s->journal.bytes == NULL)
-        printf("none\n");
-    else if (steps_list(&s->image, &s->journal, &s->steps, &list) != 0)
-        printf("not well formed\n");
+    if (s->journal.bytes == NULL) printf("none\n");
+    else if (steps_list(s, &list) != 0) printf("not well formed\n");
     else
         printf("%zu bytes, used %" PRIu32 ", %zu records in %" PRIu32 " steps\n", s->journal.length,
                list.used, list.count, list.steps);
@@ -62,11 +58,8 @@ static void print_journal(const store *s)
 static void json_journal(const store *s)
 {
     record_list list = { NULL, 0, 0, 0 };
-
-    if (s->journal.bytes == NULL)
-        printf(",\"journal\":null");
-    else if (steps_list(&s->image, &s->journal, &s->steps, &list) != 0)
-        printf(",\"journal\":{\"length\":%zu,\"well_formed\":false}", s->journal.length);
+    if (s->journal.bytes == NULL) printf(",\"journal\":null");
+    else if (steps_list(s, &list) != 0) printf(",\"journal\":{\"length\":%zu,\"well_formed\":false}", s->journal.length);
     else
         printf(",\"journal\":{\"length\":%zu,\"well_formed\":true,\"used\":%" PRIu32
                ",\"records\":%zu,\"steps\":%" PRIu32 "}", s->journal.length, list.used, list.count,
@@ -81,7 +74,6 @@ static void json_volume(const store *s, const totals *sum)
     const uint8_t *name;
     size_t length = volume_name(&volume, &name);
     entry root = view_root(image);
-
     printf("{\"name\":");
     json_string(stdout, name, length);
     printf(",\"uuid\":\"");
@@ -104,21 +96,17 @@ static void print_chain(const char *name, const bytes *image, uint32_t first, ui
 {
     chain c = chain_of(image, first, count);
     uint32_t block, start = 0, last = 0;
-
-    if (count == 0)
-        return;
+    if (count == 0) return;
     line(name);
     while (chain_step(&c, &block)) {
         if (start != 0 && block == last + 1) {
             last = block;
             continue;
         }
-        if (start != 0)
-            printf(start == last ? "%" PRIu32 " " : "%" PRIu32 "-%" PRIu32 " ", start, last);
+        if (start != 0) printf(start == last ? "%" PRIu32 " " : "%" PRIu32 "-%" PRIu32 " ", start, last);
         start = last = block;
     }
-    if (start != 0)
-        printf(start == last ? "%" PRIu32 : "%" PRIu32 "-%" PRIu32, start, last);
+    if (start != 0) printf(start == last ? "%" PRIu32 : "%" PRIu32 "-%" PRIu32, start, last);
     printf("\n");
 }
 
@@ -128,7 +116,7 @@ static void print_entry(const bytes *image, const char *path, const entry *e)
     put_path(stdout, path);
     printf("\n");
     line("type");
-    printf("0x%02x, %s\n", e->type, view_is_directory(e) ? "directory" : "file");
+    printf("0x%02x, %s\n", e->type, view_is_directory(e) ? "folder" : "file");
     line("size");
     put_count(stdout, e->size, "byte", "bytes");
     printf(", ");
@@ -156,9 +144,7 @@ static void print_entry(const bytes *image, const char *path, const entry *e)
 static int info_entry(const store *s, const char *path, int json)
 {
     entry e;
-
-    if (view_find(&s->image, path, &e) != 0)
-        return refuse(view_refusal(&s->image, path), path);
+    if (view_find(&s->image, path, &e) != 0) return refuse_path(s, view_refusal(&s->image, path), path);
     if (json) {
         json_entry(stdout, path, &e);
         printf("\n");
@@ -172,7 +158,6 @@ static int info_volume(const store *s, int json)
 {
     listing list = listing_read(&s->image);
     totals sum = listing_totals(&s->image, &list);
-
     if (json) {
         json_volume(s, &sum);
     } else {
@@ -187,12 +172,9 @@ int command_info(int argc, char **argv, const options *o)
 {
     store s;
     int status;
-
-    if (!good_arguments(&argc, argv, 1, 2))
-        return usage("info VOLUME [PATH]");
+    if (!good_arguments(&argc, argv, 1, 2)) return usage("info VOLUME [PATH]");
     status = open_sound(&s, argv[1], o);
-    if (status != DONE)
-        return status;
+    if (status != DONE) return status;
     status = argc > 2 ? info_entry(&s, argv[2], o->json) : info_volume(&s, o->json);
     store_close(&s);
     return status;

@@ -8,12 +8,9 @@
 
 static void json_character(FILE *out, const uint8_t *p, size_t size, uint32_t code)
 {
-    if (code == '"' || code == '\\')
-        fprintf(out, "\\%c", (int)code);
-    else if (code < 0x10000 && text_is_control(code))
-        fprintf(out, "\\u%04" PRIx32, code);
-    else
-        fwrite(p, 1, size, out);
+    if (code == '"' || code == '\\') fprintf(out, "\\%c", (int)code);
+    else if (code < 0x10000 && text_is_control(code)) fprintf(out, "\\u%04" PRIx32, code);
+    else fwrite(p, 1, size, out);
 }
 
 /* A byte of no UTF-8 character becomes the lone surrogate U+DC00 + byte, so that none is lost. */
@@ -21,14 +18,11 @@ void json_string(FILE *out, const uint8_t *text, size_t length)
 {
     size_t at = 0, size;
     uint32_t code = 0;
-
     fputc('"', out);
     while (at < length) {
         size = text_character(text + at, length - at, &code);
-        if (size == 0)
-            fprintf(out, "\\udc%02x", text[at]);
-        else
-            json_character(out, text + at, size, code);
+        if (size == 0) fprintf(out, "\\udc%02x", text[at]);
+        else json_character(out, text + at, size, code);
         at += size == 0 ? 1 : size;
     }
     fputc('"', out);

@@ -4,8 +4,7 @@
 
 #include "look.h"
 
-/* What a record changed, as lines or as JSON; NULL if that cannot be told. */
-typedef struct { char *text; size_t length; } told;
+/* What a record changed, as lines or as JSON, is a text; NULL if that cannot be told. */
 typedef struct { FILE *out; int json, count; } teller;
 
 static int tell(void *ctx, const change *one)
@@ -26,18 +25,19 @@ static int tell(void *ctx, const change *one)
  * Takes copies back record by record and tells what each changed.  Gives 0, or
  * the refusal at which records are left that are not of this volume.
  */
-static uint32_t tell_all(const store *s, size_t *left, told *texts, int json)
+static uint32_t tell_all(const store *s, size_t *left, char **texts, int json)
 {
     bytes image = copy_bytes(&s->image), journal = copy_bytes(&s->journal), after = copy_bytes(&s->image);
     uint32_t number = BULGEFS_OK;
     while (*left && !number) {
-        told made = { NULL, 0 };
-        teller t = { open_memstream(&made.text, &made.length), json, 0 };
-        if (!t.out) break;
+        memory_text made;
+        teller t = { NULL, json, 0 };
+        text_begin(&made);
+        t.out = made.out;
         number = undo_record(&image, &journal, &after, tell, &t);
-        fclose(t.out);
+        text_end(&made);
         if (number) free(made.text);
-        else texts[--*left] = made;
+        else texts[--*left] = made.text;
     }
     free(image.bytes);
     free(journal.bytes);
@@ -58,7 +58,7 @@ static void put_blocks(const bytes *journal, const record *one, int json)
     }
 }
 
-static void put_lines(const store *s, const record_list *list, const told *texts)
+static void put_lines(const store *s, const record_list *list, char *const *texts)
 {
     uint32_t step = 0;
     for (size_t i = 0; i < list->count; i++) {
@@ -68,13 +68,13 @@ static void put_lines(const store *s, const record_list *list, const told *texts
         printf("  record %zu: %u bytes, %s ", i + 1, (unsigned)one->length, one->blocks == 1 ? "block" : "blocks");
         put_blocks(&s->journal, one, 0);
         fputc('\n', stdout);
-        fputs(texts[i].text ? texts[i].text : "    ? not of this volume\n", stdout);
+        fputs(texts[i] ? texts[i] : "    ? not of this volume\n", stdout);
     }
     printf("%u %s, %zu %s; %u of %zu bytes used\n", (unsigned)list->steps, list->steps == 1 ? "step" : "steps",
            list->count, list->count == 1 ? "record" : "records", (unsigned)list->used, s->journal.length);
 }
 
-static void put_json(const store *s, const record_list *list, const told *texts)
+static void put_json(const store *s, const record_list *list, char *const *texts)
 {
     printf("{\"used\":%u,\"length\":%zu,\"steps\":%u,\"records\":[", (unsigned)list->used, s->journal.length, (unsigned)list->steps);
     for (size_t i = 0; i < list->count; i++) {
@@ -82,7 +82,7 @@ static void put_json(const store *s, const record_list *list, const told *texts)
         printf("%s{\"step\":%u,\"record\":%zu,\"start\":%u,\"length\":%u,\"blocks\":[", i ? "," : "",
                (unsigned)one->step, i + 1, (unsigned)one->start, (unsigned)one->length);
         put_blocks(&s->journal, one, 1);
-        if (texts[i].text) printf("],\"changes\":[%s]}", texts[i].text);
+        if (texts[i]) printf("],\"changes\":[%s]}", texts[i]);
         else fputs("],\"changes\":null}", stdout);
     }
     puts("]}");
@@ -91,16 +91,16 @@ static void put_json(const store *s, const record_list *list, const told *texts)
 static int show(const store *s, int json)
 {
     record_list list;
-    uint32_t number = steps_list(&s->image, &s->journal, &s->steps, &list);
+    uint32_t number = steps_list(s, &list);
     size_t left;
-    told *texts;
-    if (number) return refuse_pair(s, number);
+    char **texts;
+    if (number) return refuse(number, s->path);
     texts = take_memory((list.count + 1) * sizeof *texts);
     left = list.count;
     number = tell_all(s, &left, texts, json);
     if (json) put_json(s, &list, texts);
     else put_lines(s, &list, texts);
-    for (size_t i = 0; i < list.count; i++) free(texts[i].text);
+    for (size_t i = 0; i < list.count; i++) free(texts[i]);
     free(texts);
     free(list.records);
     return number ? refuse_record(s, number, left) : DONE;
@@ -111,7 +111,7 @@ int command_log(int argc, char **argv, const options *o)
     store s;
     int status;
     if (!good_arguments(&argc, argv, 1, 1)) return usage("log VOLUME");
-    status = store_open(&s, argv[1], o->journal, LOOK);
+    status = store_open(&s, argv[1], LOOK, o);
     if (status) return status;
     status = need_journal(&s);
     if (!status) status = show(&s, o->json);

@@ -34,6 +34,8 @@ uint32_t chain_pieces(const bytes *image, uint32_t first, uint32_t blocks);
 typedef struct { char *path; entry entry; } listed;
 typedef struct { listed *items; size_t count, room; } listing;
 listing listing_read(const bytes *image);
+/* The same of the folder at a path. */
+listing listing_below(const bytes *image, const char *path);
 /* The same by view_scan. */
 listing listing_scan(const bytes *image);
 void listing_free(listing *list);
@@ -49,7 +51,8 @@ totals listing_totals(const bytes *image, const listing *list);
 #define NO_OWNER UINT32_MAX
 enum { USE_FREE, USE_HEADER, USE_TABLE, USE_DIRECTORY, USE_FILE, USE_ATTRIBUTES, USE_KINDS };
 typedef struct { int use; uint32_t owner, index; } block_use;
-extern const char *const use_names[USE_KINDS];
+/* Names for JSON, words for people, letters for the map. */
+extern const char *const use_names[USE_KINDS], *const use_words[USE_KINDS];
 extern const char use_letters[USE_KINDS + 1];
 block_use *owners_read(const bytes *image, const listing *list);
 /* The owner's path; "" for header, table and free blocks. */
@@ -95,6 +98,12 @@ int take_flag(int *argc, char **argv, const char *flag);
 int take_value(int *argc, char **argv, const char *flag, const char **value);
 /* Whether so many arguments are left and no unknown option; takes "--" out. */
 int good_arguments(int *argc, char **argv, int least, int most);
+
+/* ---- path.c ---- */
+
+/* As refuse, for a path: the words name what is wrong with it. */
+int refuse_path(const store *, uint32_t number, const char *path);
+int refuse_path_in(const bytes *image, uint32_t number, const char *path);
 
 /* ---- svg.c ---- */
 

@@ -26,13 +26,13 @@ int command_mv(int argc, char **argv, const options *o)
     store s;
     int status;
     if (!good_arguments(&argc, argv, 3, 3)) return usage("mv VOLUME PATH NEW");
-    status = store_open(&s, argv[1], o->journal, CHANGE);
+    status = store_open(&s, argv[1], CHANGE, o);
     if (status) return status;
     status = new_path(&s, argv[2], argv[3], into);
     if (!status) {
         bulgefs_created moved = bulgefs_move(s.image.bytes, s.image.length, s.journal.bytes, s.journal.length,
                                              (const uint8_t *)argv[2], strlen(argv[2]), (const uint8_t *)into, strlen(into));
-        if (moved.number) status = refuse(moved.number, moved.number == BULGEFS_NOT_FOUND ? argv[2] : into);
+        if (moved.number) status = refuse_path(&s, moved.number, moved.number == BULGEFS_NOT_FOUND ? argv[2] : into);
     }
     return store_finish(&s, status);
 }

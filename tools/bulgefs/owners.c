@@ -7,13 +7,15 @@
 const char *const use_names[USE_KINDS] = {
     "free", "header", "table", "directory", "file", "attributes"
 };
+const char *const use_words[USE_KINDS] = {
+    "free", "header", "table", "folder", "file", "attributes"
+};
 const char use_letters[USE_KINDS + 1] = ".HTDFA";
 
 static int listing_add(void *context, const char *path, const entry *e)
 {
     listing *list = context;
     listed *item;
-
     if (list->count == list->room) {
         list->room = list->room == 0 ? 64 : 2 * list->room;
         list->items = take_more(list->items, list->room * sizeof *list->items);
@@ -25,18 +27,21 @@ static int listing_add(void *context, const char *path, const entry *e)
     return 0;
 }
 
-listing listing_read(const bytes *image)
+listing listing_below(const bytes *image, const char *path)
 {
     listing list = { NULL, 0, 0 };
-
-    view_each(image, "/", 1, listing_add, &list);
+    view_each(image, path, 1, listing_add, &list);
     return list;
+}
+
+listing listing_read(const bytes *image)
+{
+    return listing_below(image, "/");
 }
 
 listing listing_scan(const bytes *image)
 {
     listing list = { NULL, 0, 0 };
-
     view_scan(image, listing_add, &list);
     return list;
 }
@@ -44,9 +49,7 @@ listing listing_scan(const bytes *image)
 void listing_free(listing *list)
 {
     size_t i;
-
-    for (i = 0; i < list->count; i++)
-        free(list->items[i].path);
+    for (i = 0; i < list->count; i++) free(list->items[i].path);
     free(list->items);
     list->items = NULL;
     list->count = list->room = 0;
@@ -56,7 +59,6 @@ totals listing_totals(const bytes *image, const listing *list)
 {
     totals sum = { 0, 0, 0, 0, 0, 0 };
     size_t i;
-
     for (i = 0; i < list->count; i++) {
         const entry *e = &list->items[i].entry;
         if (!view_is_file(e)) {
@@ -77,9 +79,7 @@ static void owners_chain(block_use *blocks, const bytes *image, uint32_t first, 
 {
     chain c = chain_of(image, first, count);
     uint32_t block;
-
-    for (as.index = 0; chain_step(&c, &block); as.index++)
-        blocks[block] = as;
+    for (as.index = 0; chain_step(&c, &block); as.index++) blocks[block] = as;
 }
 
 block_use *owners_read(const bytes *image, const listing *list)
@@ -89,7 +89,6 @@ block_use *owners_read(const bytes *image, const listing *list)
     block_use as = { USE_DIRECTORY, NO_OWNER, 0 };
     entry root = view_root(image);
     size_t i;
-
     for (b = 0; b < n; b++) {
         blocks[b].use = b == 0 ? USE_HEADER : b <= t ? USE_TABLE : USE_FREE;
         blocks[b].owner = NO_OWNER;
@@ -109,8 +108,7 @@ block_use *owners_read(const bytes *image, const listing *list)
 
 const char *owner_path(const listing *list, const block_use *b)
 {
-    if (b->owner < list->count)
-        return list->items[b->owner].path;
+    if (b->owner < list->count) return list->items[b->owner].path;
     return b->use == USE_DIRECTORY ? "/" : "";
 }
 
@@ -119,7 +117,6 @@ cell cell_of(const block_use *blocks, uint32_t n, uint32_t first, uint32_t width
     cell c;
     uint32_t b;
     int use;
-
     memset(&c, 0, sizeof c);
     c.first = first;
     for (b = first; b < n && b - first < width; b++) {
@@ -127,7 +124,6 @@ cell cell_of(const block_use *blocks, uint32_t n, uint32_t first, uint32_t width
         c.blocks++;
     }
     for (use = 1; use < USE_KINDS; use++)
-        if (c.counts[use] > 0 && (c.main_use == USE_FREE || c.counts[use] > c.counts[c.main_use]))
-            c.main_use = use;
+        if (c.counts[use] > 0 && (c.main_use == USE_FREE || c.counts[use] > c.counts[c.main_use])) c.main_use = use;
     return c;
 }

@@ -8,12 +8,10 @@ void page_number(FILE *out, uint64_t number)
 {
     char text[32];
     size_t length, i;
-
     snprintf(text, sizeof text, "%" PRIu64, number);
     length = strlen(text);
     for (i = 0; i < length; i++) {
-        if (i != 0 && (length - i) % 3 == 0)
-            fputc(',', out);
+        if (i != 0 && (length - i) % 3 == 0) fputc(',', out);
         fputc(text[i], out);
     }
 }
@@ -22,11 +20,8 @@ void page_path(FILE *out, const char *path, int directory)
 {
     char above[BULGEFS_MAX_PATH + 2];
     const char *name = strrchr(path, '/');
-
-    if (name == NULL || (size_t)(name - path) + 2 > sizeof above)
-        name = path;
-    else
-        name++;
+    if (name == NULL || (size_t)(name - path) + 2 > sizeof above) name = path;
+    else name++;
     memcpy(above, path, (size_t)(name - path));
     above[name - path] = 0;
     fputs("<span class=\"path\"><span class=\"pale\">", out);
@@ -100,9 +95,11 @@ void page_head(FILE *out, const char *title)
     fputs("</style>\n</head>\n<body>\n<main>\n", out);
 }
 
-void page_end(FILE *out)
+void page_end(FILE *out, int sound)
 {
-    fputs("<footer>Times are UTC. The verdict, the counts of blocks and all entries shown, also in the journal, are the library's answers, which are "
-          "proved; chains, which entries differ, and what is drawn or summed up from all these, are plain code.</footer>\n"
-          "</main>\n</body>\n</html>\n", out);
+    fputs("<footer>Times are UTC. ", out);
+    fputs(sound ? "The verdict, the counts of blocks and all entries shown, also in the journal, are the library's answers, which are "
+                  "proved; chains, which entries differ, and what is drawn or summed up from all these, are plain code."
+                : "The verdict is the library's; all else on this page is plain code.", out);
+    fputs("</footer>\n</main>\n</body>\n</html>\n", out);
 }

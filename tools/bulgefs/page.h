@@ -9,7 +9,8 @@ void page_number(FILE *out, uint64_t number);
 /* A path, its directories paler than its name. */
 void page_path(FILE *out, const char *path, int directory);
 void page_head(FILE *out, const char *title);
-void page_end(FILE *out);
+/* The foot says what of the page is proved, if the volume is sound. */
+void page_end(FILE *out, int sound);
 /* The journal as a line of steps, the one that Back takes first on top. */
 void page_journal(FILE *out, const store *s);
 

@@ -2,9 +2,9 @@
 #include <stdlib.h>
 #include <string.h>
 
-#include "look.h"
+#include "tree.h"
 
-enum { ITEM_HEAD = 18, LONGEST = BULGEFS_BLOCK_SIZE * BULGEFS_MAX_BLOCKS };
+enum { ITEM_HEAD = 18 };
 
 typedef struct { store *s; const uint8_t *path; size_t path_length; uint64_t time; const bytes *data; } job;
 
@@ -65,11 +65,27 @@ static uint32_t replace_long(const job *j, uint32_t size)
     return number ? number : write_data(j);
 }
 
-static uint32_t put(const job *j)
+/* Whether a file of so many bytes holds the data already. */
+static int is_same(const job *j, uint32_t size)
+{
+    bulgefs_filled filled;
+    uint8_t *now;
+    int same;
+    if (size != j->data->length) return 0;
+    now = take_memory(size);
+    filled = bulgefs_read(j->s->image.bytes, j->s->image.length, j->path, j->path_length, 0, now, size);
+    same = !filled.number && filled.count == size && !memcmp(now, j->data->bytes, size);
+    free(now);
+    return same;
+}
+
+static uint32_t put(const job *j, int *unchanged)
 {
     bytes *image = &j->s->image, *journal = &j->s->journal;
     bulgefs_found found = bulgefs_lookup(image->bytes, image->length, j->path, j->path_length);
     uint32_t number = found.number;
+    *unchanged = !number && is_same(j, found.size);
+    if (*unchanged) return BULGEFS_OK;
     if (number == BULGEFS_NOT_FOUND) {
         number = create(j);
         return number || !j->data->length ? number : write_data(j);
@@ -80,23 +96,35 @@ static uint32_t put(const job *j)
                            j->data->bytes, j->data->length, j->time).number;
 }
 
-static int put_all(store *s, const char *path, const bytes *data, uint64_t time)
+int put_bytes(store *s, const char *path, const bytes *data, uint64_t time, int *unchanged)
 {
     job j = { s, (const uint8_t *)path, strlen(path), time, data };
-    uint32_t number = data->length > LONGEST ? BULGEFS_VOLUME_FULL : j.path_length > BULGEFS_MAX_PATH ? BULGEFS_BAD_ARGUMENT : put(&j);
-    return store_finish(s, number ? refuse(number, path) : DONE);
+    uint32_t number = j.path_length > BULGEFS_MAX_PATH ? BULGEFS_BAD_ARGUMENT : data->length > LONGEST_FILE ? BULGEFS_VOLUME_FULL : put(&j, unchanged);
+    return number ? refuse_path(s, number, path) : DONE;
+}
+
+/* A change is made only if there is one. */
+static int finish(store *s, int status, int unchanged)
+{
+    if (status || !unchanged) return store_finish(s, status);
+    store_close(s);
+    puts("unchanged");
+    return DONE;
 }
 
 int command_put(int argc, char **argv, const options *o)
 {
-    bytes data;
+    int tree = take_flag(&argc, argv, "-r"), unchanged = 0, status;
+    bytes data = { NULL, 0 };
     uint64_t time;
     store s;
-    int status;
-    if (!good_arguments(&argc, argv, 3, 3)) return usage("put VOLUME PATH FILE|-");
-    if (read_time(&time) || read_input(argv[3], LONGEST, &data)) return FAILED;
-    status = store_open(&s, argv[1], o->journal, CHANGE);
-    if (!status) status = put_all(&s, argv[2], &data, time);
+    if (!good_arguments(&argc, argv, 3, 3)) return usage("put [-r] VOLUME PATH FILE|-");
+    if (read_time(&time) || (!tree && read_input(argv[3], LONGEST_FILE, &data))) return FAILED;
+    status = store_open(&s, argv[1], CHANGE, o);
+    if (!status) {
+        status = tree ? put_tree(&s, argv[2], argv[3], time, &unchanged) : put_bytes(&s, argv[2], &data, time, &unchanged);
+        status = finish(&s, status, unchanged);
+    }
     free(data.bytes);
     return status;
 }

@@ -1,298 +1,181 @@
 /*
- * redo.c - a change of several files, written down before it is made.
+ * redo.c - makes steps again that were taken back.
  *
- * A redo file: the 8 bytes of MAGIC; the length of the whole (8 bytes); for each
- * file its length before and after (8 bytes each, all ones for a file that is
- * not there); the length of the journal's path (4) and the path; then pieces,
- * each with the file's index (4), offset (4), length (4) and bytes; last two
- * checksums (8 each) over all that stands before them.  Numbers are big-endian.
+ * `back` keeps, in own behind the steps: "BulgeRed", a checksum of image and
+ * journal, the length of what follows, then for each record that it took back,
+ * the last one first: the record with the bytes that its blocks had before the
+ * undo, whether the next record to be made is of the same step, and its length.
+ * The bytes are put into image and journal here in plain C.  So the library then
+ * takes the steps back on copies: the pair of before must come, byte for byte.
  */
-#include <errno.h>
-#include <fcntl.h>
 #include <stdlib.h>
 #include <string.h>
-#include <sys/stat.h>
-#include <unistd.h>
 
-#include "tool.h"
+#include "look.h"
+#include "redo.h"
 
-static const char MAGIC[] = "BulgeRe1";
+enum { SUM_AT = 8, LENGTH_AT = 16, KEPT_AT = 20, TRAILER = 8, SAVED_BLOCK = 516 };
+static const char MARK[] = "BulgeRed";
 
-enum { BLOCK = 512, LENGTHS_AT = 16, PATH_AT = LENGTHS_AT + 16 * FILES, PIECE_HEAD = 12, SUMS = 16 };
-#define NOT_THERE UINT64_MAX
-
-static void put_long(uint8_t *to, uint64_t number)
+void redo_keep(bytes *kept, const bytes *image, const bytes *journal, const record *one, int goes_on)
 {
-    put_number(to, (uint32_t)(number >> 32));
-    put_number(to + 4, (uint32_t)number);
+    uint8_t *to;
+    kept->bytes = take_more(kept->bytes, kept->length + one->length + TRAILER);
+    to = kept->bytes + kept->length;
+    memcpy(to, journal->bytes + one->start, one->length);
+    for (uint32_t i = 0; i < one->blocks; i++) {
+        uint8_t *block = to + 4 + SAVED_BLOCK * (size_t)i;
+        memcpy(block + 4, image->bytes + (size_t)number_at(block) * BULGEFS_BLOCK_SIZE, BULGEFS_BLOCK_SIZE);
+    }
+    put_number(to + one->length, (uint32_t)goes_on);
+    put_number(to + one->length + 4, one->length);
+    kept->length += one->length + TRAILER;
 }
 
-/* FNV-1a over the bytes, from the first to the last or the other way. */
-static uint64_t checksum(const uint8_t *from, size_t length, int backwards)
+static uint64_t add_sum(uint64_t sum, const bytes *part)
 {
-    uint64_t sum = 14695981039346656037u;
-    for (size_t i = 0; i < length; i++) {
-        sum ^= from[backwards ? length - 1 - i : i];
-        sum *= 1099511628211u;
-    }
+    for (size_t i = 0; i < part->length; i++) sum = (sum ^ part->bytes[i]) * 1099511628211u;
     return sum;
 }
 
-/* ---- making ---- */
-
-typedef struct { bytes made; size_t room; } buffer;
-
-static uint8_t *grow(buffer *to, size_t length)
+static void put_sum(const store *s, uint8_t *to)
 {
-    if (to->room - to->made.length < length) {
-        to->room = 2 * to->room + length;
-        to->made.bytes = take_more(to->made.bytes, to->room);
-    }
-    to->made.length += length;
-    return to->made.bytes + to->made.length - length;
+    uint64_t sum = add_sum(add_sum(14695981039346656037u, &s->image), &s->journal);
+    put_number(to, (uint32_t)(sum >> 32));
+    put_number(to + 4, (uint32_t)sum);
 }
 
-static void add_piece(buffer *to, uint32_t file, size_t offset, const uint8_t *from, size_t length)
+/* What was kept for this very pair; length 0 if nothing was. */
+bytes redo_kept(const store *s)
 {
-    uint8_t *piece = grow(to, PIECE_HEAD + length);
-    put_number(piece, file);
-    put_number(piece + 4, (uint32_t)offset);
-    put_number(piece + 8, (uint32_t)length);
-    memcpy(piece + PIECE_HEAD, from, length);
+    const uint8_t *at = s->own.length > STEPS_ROOM + KEPT_AT ? s->own.bytes + STEPS_ROOM : NULL;
+    bytes kept = { NULL, 0 };
+    uint8_t sum[8];
+    if (!at || memcmp(at, MARK, 8) || number_at(at + LENGTH_AT) > s->own.length - STEPS_ROOM - KEPT_AT) return kept;
+    put_sum(s, sum);
+    if (memcmp(at + SUM_AT, sum, 8)) return kept;
+    kept.length = number_at(at + LENGTH_AT);
+    kept.bytes = take_more(NULL, kept.length);
+    memcpy(kept.bytes, at + KEPT_AT, kept.length);
+    return kept;
 }
 
-static size_t least(size_t a, size_t b)
+/* Own bytes of another program have no mark of steps. */
+static int has_room(const store *s, size_t length)
 {
-    return a < b ? a : b;
+    return s->own.length >= STEPS_ROOM + KEPT_AT + length && !memcmp(s->own.bytes, "BulgeSte", 8);
 }
 
-/* If a block is not what it will be once the file has its new length: bytes behind the old length are then 0. */
-static int differs(const version *file, size_t offset)
+void redo_clear(store *s)
 {
-    static const uint8_t zeros[BLOCK];
-    size_t old = file->before.length > offset ? least(BLOCK, file->before.length - offset) : 0;
-    size_t length = least(BLOCK, file->after.length - offset);
-    size_t common = least(old, length);
-    if (common && memcmp(file->before.bytes + offset, file->after.bytes + offset, common)) return 1;
-    return length > common && memcmp(zeros, file->after.bytes + offset + common, length - common);
+    if (has_room(s, 0)) memset(s->own.bytes + STEPS_ROOM, 0, s->own.length - STEPS_ROOM);
 }
 
-/* Blocks that differ and stand side by side are one piece. */
-static void add_pieces(buffer *to, uint32_t index, const version *file)
+int redo_write(store *s, const bytes *kept)
 {
-    size_t offset = 0, start = 0, length = file->after.bytes ? file->after.length : 0;
-    int open = 0;
-    for (; offset < length; offset += BLOCK) {
-        int now = differs(file, offset);
-        if (open && !now) add_piece(to, index, start, file->after.bytes + start, offset - start);
-        if (now && !open) start = offset;
-        open = now;
-    }
-    if (open) add_piece(to, index, start, file->after.bytes + start, length - start);
-}
-
-static uint64_t length_of(const bytes *file)
-{
-    return file->bytes ? file->length : NOT_THERE;
-}
-
-bytes redo_make(const version files[FILES], const char *journal_path)
-{
-    buffer to = { { NULL, 0 }, 0 };
-    size_t path_length = strlen(journal_path), start = PATH_AT + 4 + path_length;
-    int changed = 0;
-    uint8_t *head = grow(&to, start), *sums;
-    memcpy(head, MAGIC, 8);
-    for (int i = 0; i < FILES; i++) {
-        put_long(head + LENGTHS_AT + 16 * i, length_of(&files[i].before));
-        put_long(head + LENGTHS_AT + 16 * i + 8, length_of(&files[i].after));
-        if (length_of(&files[i].before) != length_of(&files[i].after)) changed = 1;
-    }
-    put_number(head + PATH_AT, (uint32_t)path_length);
-    memcpy(head + PATH_AT + 4, journal_path, path_length);
-    for (uint32_t i = 0; i < FILES; i++) add_pieces(&to, i, &files[i]);
-    if (to.made.length == start && !changed) {
-        to.made.length = 0;
-        return to.made;
-    }
-    sums = grow(&to, SUMS);
-    put_long(to.made.bytes + 8, to.made.length);
-    put_long(sums, checksum(to.made.bytes, to.made.length - SUMS, 0));
-    put_long(sums + 8, checksum(to.made.bytes, to.made.length - SUMS, 1));
-    return to.made;
-}
-
-/* ---- reading ---- */
-
-static int pieces_fit(const bytes *redo, size_t at)
-{
-    size_t end = redo->length - SUMS;
-    while (at < end) {
-        uint64_t offset, length, file_length;
-        if (end - at < PIECE_HEAD || number_at(redo->bytes + at) >= FILES) return 0;
-        file_length = time_at(redo->bytes + LENGTHS_AT + 16 * number_at(redo->bytes + at) + 8);
-        offset = number_at(redo->bytes + at + 4);
-        length = number_at(redo->bytes + at + 8);
-        if (file_length == NOT_THERE || offset + length > file_length) return 0;
-        if (length > end - at - PIECE_HEAD) return 0;
-        at += PIECE_HEAD + (size_t)length;
-    }
+    uint8_t *at = s->own.bytes + STEPS_ROOM;
+    redo_clear(s);
+    if (!has_room(s, kept->length)) return 0;
+    memcpy(at, MARK, 8);
+    put_sum(s, at + SUM_AT);
+    put_number(at + LENGTH_AT, (uint32_t)kept->length);
+    if (kept->length) memcpy(at + KEPT_AT, kept->bytes, kept->length);
     return 1;
 }
 
-static int is_whole(const bytes *redo)
+/* Puts a record into the journal, with the bytes that its blocks have, and the kept ones into the image. */
+static int make_record(store *s, const uint8_t *kept, uint32_t length)
 {
-    size_t end = redo->length - SUMS;
-    if (redo->length < PATH_AT + 4 + SUMS || memcmp(redo->bytes, MAGIC, 8)) return 0;
-    if (time_at(redo->bytes + 8) != redo->length) return 0;
-    if (time_at(redo->bytes + end) != checksum(redo->bytes, end, 0)) return 0;
-    if (time_at(redo->bytes + end + 8) != checksum(redo->bytes, end, 1)) return 0;
-    if (number_at(redo->bytes + PATH_AT) > end - PATH_AT - 4) return 0;
-    return pieces_fit(redo, PATH_AT + 4 + number_at(redo->bytes + PATH_AT));
-}
-
-char *redo_journal_path(const bytes *redo)
-{
-    uint32_t length;
-    char *path;
-    if (!is_whole(redo)) return NULL;
-    length = number_at(redo->bytes + PATH_AT);
-    path = take_memory(length + 1);
-    memcpy(path, redo->bytes + PATH_AT + 4, length);
-    return path;
-}
-
-/* ---- applying ---- */
-
-/* An operation on a piece of a file. */
-typedef int (*each_piece)(int file, const uint8_t *from, uint32_t length, uint32_t offset);
-
-/* How many bytes of the file from offset on can be read: all, or those up to the file's end. */
-static size_t read_piece(int file, uint8_t *into, size_t length, uint32_t offset)
-{
-    size_t done = 0;
-    while (done < length) {
-        ssize_t count = pread(file, into + done, length - done, (off_t)(offset + done));
-        if (count < 0 && errno == EINTR) continue;
-        if (count <= 0) break;
-        done += (size_t)count;
+    uint32_t used = s->was.used, blocks = (length - 4) / SAVED_BLOCK;
+    uint8_t *to = s->journal.bytes + used;
+    if (length > s->journal.length - used) return refuse(BULGEFS_JOURNAL_FULL, s->path);
+    memcpy(to, kept, length);
+    for (uint32_t i = 0; i < blocks; i++) {
+        uint8_t *block = to + 4 + SAVED_BLOCK * (size_t)i, *now;
+        if (number_at(block) >= s->image.length / BULGEFS_BLOCK_SIZE) return refuse(BULGEFS_BAD_JOURNAL, s->path);
+        now = s->image.bytes + (size_t)number_at(block) * BULGEFS_BLOCK_SIZE;
+        memcpy(block + 4, now, BULGEFS_BLOCK_SIZE);
+        memcpy(now, kept + 4 + SAVED_BLOCK * (size_t)i + 4, BULGEFS_BLOCK_SIZE);
     }
-    return done;
-}
-
-/* Writes from the first byte that differs to the last: what a full disk refused needs no room when it is taken back. */
-static int write_piece(int file, const uint8_t *from, uint32_t length, uint32_t offset)
-{
-    uint8_t *now = take_memory(length);
-    size_t first = 0, end = length, known = read_piece(file, now, length, offset);
-    while (first < known && now[first] == from[first]) first++;
-    while (end > first && end <= known && now[end - 1] == from[end - 1]) end--;
-    free(now);
-    return end > first ? sys_pwrite(file, from + first, end - first, (uint64_t)offset + first) : 0;
-}
-
-/* Behind the file's end there is nothing to reserve yet. */
-static int reserve_piece(int file, const uint8_t *from, uint32_t length, uint32_t offset)
-{
-    struct stat status;
-    (void)from;
-    if (fstat(file, &status)) return -1;
-    return (uint64_t)offset + length > (uint64_t)status.st_size ? 0 : sys_reserve(file, offset, length);
-}
-
-static int for_pieces(const bytes *redo, uint32_t index, int file, each_piece call)
-{
-    size_t at = PATH_AT + 4 + number_at(redo->bytes + PATH_AT);
-    while (at < redo->length - SUMS) {
-        const uint8_t *piece = redo->bytes + at;
-        uint32_t length = number_at(piece + 8);
-        if (number_at(piece) == index && call(file, piece + PIECE_HEAD, length, number_at(piece + 4))) return -1;
-        at += PIECE_HEAD + length;
-    }
-    return 0;
-}
-
-/* The file for writing, made if it is not there; its name is then on the disk too. */
-static int open_or_make(const char *path)
-{
-    int file = open(path, O_RDWR | O_CLOEXEC | O_NONBLOCK);
-    if (file >= 0 || errno != ENOENT) return file;
-    file = sys_open_new(path);
-    if (file < 0 || !sys_fsync_folder(path)) return file;
-    close(file);
-    return -1;
-}
-
-/* After a cut of power a file may have any length from the one before to the one after; with another it is not the file that was to change. */
-static int right_length(const char *path, uint64_t now, uint64_t before, uint64_t after)
-{
-    uint64_t from = before == NOT_THERE ? 0 : before;
-    if (now >= (from < after ? from : after) && now <= (from < after ? after : from)) return 1;
-    say("%s has %llu bytes and is not the file that an unfinished change is for", path, (unsigned long long)now);
-    return 0;
-}
-
-static int apply_open(const bytes *redo, uint32_t index, const char *path, int file)
-{
-    uint64_t before = time_at(redo->bytes + LENGTHS_AT + 16 * index);
-    uint64_t after = time_at(redo->bytes + LENGTHS_AT + 16 * index + 8);
-    struct stat status;
-    if (fstat(file, &status)) return fail_system(path);
-    if (!right_length(path, (uint64_t)status.st_size, before, after)) return FAILED;
-    if ((uint64_t)status.st_size != after && sys_truncate(file, after)) return fail_system(path);
-    if ((uint64_t)status.st_size < after && sys_reserve(file, 0, after)) return fail_system(path);
-    if (for_pieces(redo, index, file, write_piece) || sys_fsync(file)) return fail_system(path);
+    s->was.used = used + length;
+    put_number(s->journal.bytes + 1, s->was.used);
     return DONE;
 }
 
-static int has_pieces(const bytes *redo, uint32_t index)
+/* The length of the last kept record, or 0 if there is none of a good length. */
+static uint32_t last_length(const bytes *kept)
 {
-    size_t at = PATH_AT + 4 + number_at(redo->bytes + PATH_AT);
-    while (at < redo->length - SUMS) {
-        if (number_at(redo->bytes + at) == index) return 1;
-        at += PIECE_HEAD + number_at(redo->bytes + at + 8);
+    uint32_t length = kept->length < TRAILER ? 0 : number_at(kept->bytes + kept->length - 4);
+    return length < 4 || length > kept->length - TRAILER || (length - 4) % SAVED_BLOCK ? 0 : length;
+}
+
+static int none_left(const store *s)
+{
+    say("%s: refused: so many steps were not taken back just before, or they were too long to be kept; nothing was changed", s->path);
+    return REFUSED;
+}
+
+/* Makes the step that was taken back last; counts its records. */
+static int make_step(store *s, bytes *kept, size_t *records)
+{
+    uint32_t goes_on = 1, number;
+    int status = DONE;
+    while (goes_on && !status) {
+        uint32_t length = last_length(kept);
+        if (!length) return none_left(s);
+        goes_on = number_at(kept->bytes + kept->length - TRAILER);
+        kept->length -= TRAILER + length;
+        status = make_record(s, kept->bytes + kept->length, length);
+        ++*records;
     }
-    return 0;
+    if (status) return status;
+    number = s->was.records;
+    steps_add(s);
+    s->was = bulgefs_journal_info(s->image.bytes, s->image.length, s->journal.bytes, s->journal.length);
+    return s->was.number || s->was.records <= number ? refuse(BULGEFS_BAD_JOURNAL, s->path) : DONE;
 }
 
-static int reserve_file(const bytes *redo, uint32_t index, const char *path)
+/* Whether the library finds the image sound, and takes the steps back to the pair of before. */
+static int can_go_back(const store *s, const bytes *image, const bytes *journal, uint32_t mark)
 {
-    int file, result;
-    if (time_at(redo->bytes + LENGTHS_AT + 16 * index) == NOT_THERE || !has_pieces(redo, index)) return DONE;
-    file = open(path, O_RDWR | O_CLOEXEC | O_NONBLOCK);
-    if (file < 0) return fail_system(path);
-    result = for_pieces(redo, index, file, reserve_piece) ? fail_system(path) : DONE;
-    close(file);
-    return result;
+    bytes x = copy_bytes(&s->image), y = copy_bytes(&s->journal);
+    int good = !bulgefs_check(x.bytes, x.length) && !bulgefs_undo_to(x.bytes, x.length, y.bytes, y.length, mark).number
+        && !memcmp(x.bytes, image->bytes, x.length) && !memcmp(y.bytes, journal->bytes, y.length);
+    free(x.bytes);
+    free(y.bytes);
+    if (!good) say("%s: what was kept to be made again does not fit; nothing was changed", s->path);
+    return good;
 }
 
-int redo_reserve(const bytes *redo, const char *const paths[FILES])
+static int make(store *s, uint64_t steps)
 {
-    int result = DONE;
-    for (uint32_t i = 0; i < FILES && !result; i++) result = reserve_file(redo, i, paths[i]);
-    return result;
+    bytes kept = redo_kept(s), image = copy_bytes(&s->image), journal = copy_bytes(&s->journal);
+    uint32_t mark = s->was.used;
+    uint64_t done = 0;
+    size_t records = 0;
+    int status = DONE;
+    do status = make_step(s, &kept, &records);
+    while (!status && ++done != steps && (steps || kept.length));
+    if (!status && !can_go_back(s, &image, &journal, mark)) status = REFUSED;
+    if (!status) redo_write(s, &kept);
+    if (!status) status = store_save(s);
+    if (!status) printf("made %llu %s again, %zu %s\n", (unsigned long long)done, done == 1 ? "step" : "steps", records, records == 1 ? "record" : "records");
+    free(kept.bytes);
+    free(image.bytes);
+    free(journal.bytes);
+    return status;
 }
 
-static int apply_file(const bytes *redo, uint32_t index, const char *path)
+int command_redo(int argc, char **argv, const options *o)
 {
-    uint64_t before = time_at(redo->bytes + LENGTHS_AT + 16 * index);
-    uint64_t after = time_at(redo->bytes + LENGTHS_AT + 16 * index + 8);
-    int file, result;
-    if (before == after && !has_pieces(redo, index)) return DONE;
-    if (after == NOT_THERE) {
-        if (sys_exists(path) && (sys_unlink(path) || sys_fsync_folder(path))) return fail_system(path);
-        return DONE;
-    }
-    file = open_or_make(path);
-    if (file < 0) return fail_system(path);
-    result = apply_open(redo, index, path, file);
-    if (close(file) && !result) result = fail_system(path);
-    return result;
-}
-
-int redo_apply(const bytes *redo, const char *const paths[FILES])
-{
-    int result = DONE;
-    for (uint32_t i = 0; i < FILES && !result; i++) result = apply_file(redo, i, paths[i]);
-    return result;
+    int all = take_flag(&argc, argv, "--all"), status;
+    uint64_t steps = 1;
+    store s;
+    if (!good_arguments(&argc, argv, 1, all ? 1 : 2)) return usage("redo VOLUME [N|--all]");
+    if (argc > 2 && read_number(argv[2], "N", 1, UINT32_MAX, &steps)) return FAILED;
+    status = store_open(&s, argv[1], CHANGE, o);
+    if (status) return status;
+    status = s.was.number ? refuse(s.was.number, s.path) : make(&s, all ? 0 : steps);
+    store_close(&s);
+    return status;
 }

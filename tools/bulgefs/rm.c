@@ -8,11 +8,11 @@ typedef bulgefs_changed (*deletion)(uint8_t *, size_t, uint8_t *, size_t, const 
 static int delete_all(deletion call, int argc, char **argv, const options *o)
 {
     store s;
-    int status = store_open(&s, argv[1], o->journal, CHANGE);
+    int status = store_open(&s, argv[1], CHANGE, o);
     if (status) return status;
     for (int i = 2; i < argc && !status; i++) {
         bulgefs_changed done = call(s.image.bytes, s.image.length, s.journal.bytes, s.journal.length, (const uint8_t *)argv[i], strlen(argv[i]));
-        if (done.number) status = refuse(done.number, argv[i]);
+        if (done.number) status = refuse_path(&s, done.number, argv[i]);
     }
     return store_finish(&s, status);
 }

@@ -2,7 +2,7 @@
 #include <stdlib.h>
 #include <string.h>
 
-#include "look.h"
+#include "salvage.h"
 
 static const char *const fates[] = { "kept", "entry lost", "file lost", "end mended", "attributes lost" };
 enum { FATES = sizeof fates / sizeof *fates };
@@ -12,7 +12,7 @@ static const char *fate_words(uint8_t code, int last)
     switch (code) {
     case BULGEFS_ENTRY_LOST:      return "lost: its entry was none of a file, or its name was taken";
     case BULGEFS_FILE_LOST:       return "lost: its chain of blocks was broken or crossed another";
-    case BULGEFS_END_MENDED:      return last ? "mended: the directory's end was put back" : "kept: the end of a chain was mended";
+    case BULGEFS_END_MENDED:      return last ? "mended: the folder's end was put back" : "kept: the end of a chain was mended";
     case BULGEFS_ATTRIBUTES_LOST: return "kept without its attributes: their chain was broken";
     default:                      return "kept";
     }
@@ -52,46 +52,59 @@ static unsigned put_slots(const bytes *damaged, const bytes *sound, const uint8_
     return count;
 }
 
-static void put_report(const store *from, const bytes *sound, const uint8_t *report, int json)
+void salvage_tell(const store *from, const salvaged *made, int json)
 {
     uint32_t number = bulgefs_check(from->image.bytes, from->image.length);
     unsigned count;
     if (json) printf("{\"check\":%u,\"slots\":[", (unsigned)number);
-    count = put_slots(&from->image, sound, report, json);
-    if (json) {
-        puts("]}");
-        return;
-    }
-    if (!count) puts(number ? "all files were kept; table and counts were put right" : "the volume was sound; it was copied");
+    count = put_slots(&from->image, &made->image, made->report, json);
+    if (json) puts("]}");
+    else if (!count) puts(number ? "no entry was changed; table and counts were put right" : "the volume was sound; it was copied");
 }
 
 /* Of salvage 5 is not a damaged slot: FORMAT, section 16. */
 static int refuse_salvage(const char *path, uint32_t number)
 {
     if (number != BULGEFS_BAD_SLOT) return refuse(number, path);
-    say("%s: refused (%u): its root holds a directory, and salvage is for volumes without any", path, (unsigned)number);
+    say("%s: refused (%u): its root holds a folder, and salvage is for volumes without any", path, (unsigned)number);
     return REFUSED;
 }
 
-static int salvage(const store *from, const char *out, int json)
+/* A sound volume with folders needs no salvage. */
+int salvage_copy(const store *from, salvaged *made)
 {
-    uint8_t report[BULGEFS_MAX_REPORT] = { 0 };
-    bytes image = copy_bytes(&from->image);
-    uint32_t number = bulgefs_salvage(image.bytes, image.length, report, sizeof report);
-    int status = number ? refuse_salvage(from->path, number) : store_new(out, NULL, &image, same_journal(from));
-    if (!status) put_report(from, &image, report, json);
-    free(image.bytes);
-    return status;
+    uint32_t number = bulgefs_check(from->image.bytes, from->image.length);
+    made->image = copy_bytes(&from->image);
+    made->report_length = BULGEFS_MAX_REPORT;
+    made->report = take_memory(made->report_length);
+    if (number) number = bulgefs_salvage(made->image.bytes, made->image.length, made->report, made->report_length);
+    return number ? refuse_salvage(from->path, number) : DONE;
+}
+
+void salvage_free(salvaged *made)
+{
+    free(made->image.bytes);
+    free(made->report);
+}
+
+/* The length that the journal has, or of a bare image the usual one. */
+static size_t journal_length(const store *from)
+{
+    return from->journal.bytes ? from->journal.length : usual_journal(from->image.length);
 }
 
 int command_salvage(int argc, char **argv, const options *o)
 {
+    salvaged made;
     store from;
     int status;
     if (!good_arguments(&argc, argv, 2, 2)) return usage("salvage VOLUME OUT");
-    status = store_open(&from, argv[1], o->journal, LOOK);
+    status = store_open(&from, argv[1], LOOK, o);
     if (status) return status;
-    status = salvage(&from, argv[2], o->json);
+    status = salvage_copy(&from, &made);
+    if (!status) status = store_start(argv[2], &made.image, journal_length(&from), o);
+    if (!status) salvage_tell(&from, &made, o->json);
+    salvage_free(&made);
     store_close(&from);
     return status;
 }

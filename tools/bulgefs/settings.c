@@ -30,6 +30,14 @@ static box box_of(const char *text)
     return b;
 }
 
+/* Of bad settings the words say what is wrong with them. */
+static int refuse_box(uint32_t number, const box *b, size_t length)
+{
+    if (number != BULGEFS_BAD_SETTINGS) return refuse(number, b->text);
+    return refuse_because(number, b->text, length > BULGEFS_MAX_SETTINGS ? "settings have at most 200 bytes"
+        : "a box is a serial number of 1 to 16 letters and digits, or a folder and a serial number as /venue/SN4471");
+}
+
 static revision get_latest(const store *s, const box *b)
 {
     revision r;
@@ -48,7 +56,7 @@ static revision get_revision(const store *s, const box *b, uint32_t number)
 
 static int refuse_revision(uint32_t refusal, const box *b, uint32_t number)
 {
-    if (refusal != BULGEFS_NO_REVISION) return refuse(refusal, b->text);
+    if (refusal != BULGEFS_NO_REVISION) return refuse_box(refusal, b, 0);
     say("%s: refused (%u): %s: %" PRIu32 "; `bulgefs history` lists those that stand", b->text, (unsigned)refusal, bulgefs_text(refusal), number);
     return REFUSED;
 }
@@ -58,11 +66,11 @@ static int look(const char *volume, const box *b, const options *o)
 {
     revision latest;
     store s;
-    int status = store_open(&s, volume, o->journal, LOOK);
+    int status = store_open(&s, volume, LOOK, o);
     if (status) return status;
     latest = get_latest(&s, b);
     store_close(&s);
-    if (latest.got.number) return refuse(latest.got.number, b->text);
+    if (latest.got.number) return refuse_box(latest.got.number, b, 0);
     printf("%" PRIu32 "\n", latest.got.revision);
     return DONE;
 }
@@ -74,7 +82,7 @@ static int get(const char *volume, const box *b, const char *to, const char *whi
     revision r;
     store s;
     int status = which ? read_number(which, "REVISION", 0, UINT32_MAX, &number) : DONE;
-    if (!status) status = store_open(&s, volume, o->journal, LOOK);
+    if (!status) status = store_open(&s, volume, LOOK, o);
     if (status) return status;
     r = which ? get_revision(&s, b, (uint32_t)number) : get_latest(&s, b);
     store_close(&s);
@@ -92,11 +100,11 @@ static int put(const char *volume, const box *b, const char *from, const options
     int status = read_time(&time);
     if (!status) status = read_input(from, BULGEFS_MAX_SETTINGS, &data);
     if (status) return status;
-    status = store_open(&s, volume, o->journal, CHANGE);
+    status = store_open(&s, volume, CHANGE, o);
     if (!status) {
         done = bulgefs_put_settings_in(s.image.bytes, s.image.length, s.journal.bytes, s.journal.length, b->directory, b->directory_length, b->serial,
                                        b->serial_length, data.bytes, data.length, time);
-        status = store_finish(&s, done.number ? refuse(done.number, b->text) : DONE);
+        status = store_finish(&s, done.number ? refuse_box(done.number, b, data.length) : DONE);
     }
     if (!status) printf("revision %" PRIu32 "\n", done.revision);
     free(data.bytes);
@@ -187,12 +195,12 @@ int command_history(int argc, char **argv, const options *o)
     int status;
     if (!good_arguments(&argc, argv, 2, 2)) return usage("history VOLUME BOX");
     b = box_of(argv[2]);
-    status = store_open(&s, argv[1], o->journal, LOOK);
+    status = store_open(&s, argv[1], LOOK, o);
     if (status) return status;
     latest = get_latest(&s, &b);
     if (latest.got.number) {
         store_close(&s);
-        return refuse(latest.got.number, b.text);
+        return refuse_box(latest.got.number, &b, 0);
     }
     if (o->json) {
         json_box(&b);

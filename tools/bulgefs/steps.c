@@ -4,7 +4,8 @@
 
 #include "tool.h"
 
-enum { RECORD_HEAD = 4, SAVED_BLOCK = 516 };
+enum { RECORD_HEAD = 4, SAVED_BLOCK = 516, COUNT_AT = 8, USED_AT = 12, BITS_AT = 16 };
+static const char MARK[] = "BulgeSte";
 
 /*
  * The records in order.  The library says that the journal is well formed, how
@@ -22,86 +23,72 @@ static void list_records(const bytes *journal, bulgefs_journal info, record_list
     }
 }
 
-/* If the numbers rise and each is where a record begins or the last one ends. */
-static int steps_fit(const bytes *steps, const record_list *list)
+/* How many records there are bits for: none in bytes of another program, which neither begin with the mark nor are all 0. */
+static size_t bits(const bytes *own)
 {
-    size_t at = 0, count = steps->length / 4;
-    if (!steps->bytes || steps->length % 4) return 0;
-    for (size_t i = 0; i < count; i++) {
-        uint32_t number = number_at(steps->bytes + 4 * i);
-        while (at < list->count && list->records[at].start < number) at++;
-        if (number != (at < list->count ? list->records[at].start : list->used)) return 0;
-        if (i && number <= number_at(steps->bytes + 4 * (i - 1))) return 0;
+    size_t length = own->length < STEPS_ROOM ? own->length : STEPS_ROOM;
+    if (length < 512) return 0;
+    for (size_t i = 0; memcmp(own->bytes, MARK, 8) && i < own->length; i++) {
+        if (own->bytes[i]) return 0;
     }
-    return 1;
+    return 8 * (length - BITS_AT);
 }
 
-/* A record begins a step unless it lies within two of the numbers. */
-static void number_steps(const bytes *steps, record_list *list)
+static int goes_on(const bytes *own, size_t record)
 {
-    size_t next = 0, count = steps_fit(steps, list) ? steps->length / 4 : 0;
-    for (size_t i = 0; i < list->count; i++) {
-        int begins = next == 0 || next == count;
-        if (next < count && number_at(steps->bytes + 4 * next) == list->records[i].start) {
-            begins = 1;
-            next++;
-        }
-        if (begins) list->steps++;
-        list->records[i].step = list->steps;
-    }
+    return record < bits(own) && own->bytes[BITS_AT + record / 8] >> record % 8 & 1;
 }
 
-uint32_t steps_list(const bytes *image, const bytes *journal, const bytes *steps, record_list *list)
+/* How many records the bits tell of: none if the journal has no such record, or it ends elsewhere. */
+static size_t told(const bytes *own, const record_list *list)
 {
-    bulgefs_journal info = bulgefs_journal_info(image->bytes, image->length, journal->bytes, journal->length);
+    size_t count = bits(own) ? number_at(own->bytes + COUNT_AT) : 0;
+    if (!count || count > list->count) return 0;
+    return number_at(own->bytes + USED_AT) == (count < list->count ? list->records[count].start : list->used) ? count : 0;
+}
+
+uint32_t steps_list(const store *s, record_list *list)
+{
+    bulgefs_journal info = bulgefs_journal_info(s->image.bytes, s->image.length, s->journal.bytes, s->journal.length);
+    size_t known;
     memset(list, 0, sizeof *list);
     if (info.number) return info.number;
-    list_records(journal, info, list);
-    number_steps(steps, list);
+    list_records(&s->journal, info, list);
+    known = told(&s->own, list);
+    for (size_t i = 0; i < list->count; i++) {
+        if (i == 0 || i >= known || !goes_on(&s->own, i)) list->steps++;
+        list->records[i].step = list->steps;
+    }
     return BULGEFS_OK;
 }
 
-static void add_number(bytes *steps, uint32_t number)
+/* Writes the steps of a list, of which the records from first on are one. */
+static void write_steps(bytes *own, const record_list *list, size_t first)
 {
-    steps->bytes = take_more(steps->bytes, steps->length + 4);
-    put_number(steps->bytes + steps->length, number);
-    steps->length += 4;
-}
-
-static uint32_t last_number(const bytes *steps)
-{
-    return steps->length ? number_at(steps->bytes + steps->length - 4) : 0;
-}
-
-/* The used length of the journal, which a change or an undo was just made with. */
-static uint32_t used_length(const bytes *image, const bytes *journal)
-{
-    return bulgefs_journal_info(image->bytes, image->length, journal->bytes, journal->length).used;
-}
-
-static void add_step(store *s, const record_list *list, uint32_t after)
-{
-    if (!steps_fit(&s->steps, list)) s->steps.length = 0;
-    /* Records that another program added since are steps of their own. */
-    for (size_t i = 0; i < list->count && s->steps.length; i++) {
-        if (list->records[i].start > last_number(&s->steps)) add_number(&s->steps, list->records[i].start);
+    size_t room = bits(own);
+    if (!room) return;
+    memset(own->bytes, 0, BITS_AT + room / 8);
+    memcpy(own->bytes, MARK, 8);
+    put_number(own->bytes + COUNT_AT, (uint32_t)list->count);
+    put_number(own->bytes + USED_AT, list->used);
+    for (size_t i = 1; i < list->count && i < room; i++) {
+        int on = i > first || (i < first && list->records[i].step == list->records[i - 1].step);
+        if (on) own->bytes[BITS_AT + i / 8] |= (uint8_t)(1 << i % 8);
     }
-    if (last_number(&s->steps) != list->used) add_number(&s->steps, list->used);
-    add_number(&s->steps, after);
 }
 
 void steps_add(store *s)
 {
-    uint32_t after = used_length(&s->image, &s->journal);
     record_list list;
-    if (steps_list(&s->old_image, &s->old_journal, &s->steps, &list)) return;
-    if (after > list.used) add_step(s, &list, after);
+    if (steps_list(s, &list)) return;
+    write_steps(&s->own, &list, s->was.records);
     free(list.records);
 }
 
-void steps_cut(store *s)
+void steps_cut(store *s, const record_list *before, size_t count)
 {
-    uint32_t used = used_length(&s->image, &s->journal);
-    while (s->steps.length >= 4 && last_number(&s->steps) > used) s->steps.length -= 4;
-    if (s->steps.length <= 4) s->steps.length = 0;
+    record_list left = *before;
+    left.used = count < before->count ? before->records[count].start : before->used;
+    left.count = count;
+    write_steps(&s->own, &left, count);
 }

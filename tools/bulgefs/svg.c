@@ -19,9 +19,7 @@ typedef struct {
 uint32_t map_width(uint32_t n)
 {
     uint32_t width = 1;
-
-    while ((n + width - 1) / width > MAX_CELLS)
-        width *= 2;
+    while ((n + width - 1) / width > MAX_CELLS) width *= 2;
     return width;
 }
 
@@ -47,10 +45,8 @@ static void put_block_title(const picture *p, uint32_t block)
 {
     const block_use *b = &p->blocks[block];
     const char *path = owner_path(p->list, b);
-
-    fprintf(p->out, "block %" PRIu32 ": %s", block, use_names[b->use]);
-    if (path[0] == 0)
-        return;
+    fprintf(p->out, "block %" PRIu32 ": %s", block, use_words[b->use]);
+    if (path[0] == 0) return;
     fputs(b->use == USE_ATTRIBUTES ? " of " : " ", p->out);
     put_markup(p->out, path);
     fprintf(p->out, ", block %" PRIu32, b->index + 1);
@@ -60,10 +56,8 @@ static void put_block_title(const picture *p, uint32_t block)
 static void put_owners(const picture *p, const cell *c)
 {
     uint32_t b, last = NO_OWNER, named = 0;
-
     for (b = c->first; b < c->first + c->blocks; b++) {
-        if (p->blocks[b].owner == NO_OWNER || p->blocks[b].owner == last)
-            continue;
+        if (p->blocks[b].owner == NO_OWNER || p->blocks[b].owner == last) continue;
         last = p->blocks[b].owner;
         if (named == NAMED_OWNERS) {
             fputs(", and more", p->out);
@@ -79,12 +73,10 @@ static void put_cell_title(const picture *p, const cell *c)
 {
     const char *between = "";
     int use;
-
     fprintf(p->out, "blocks %" PRIu32 " to %" PRIu32 ": ", c->first, c->first + c->blocks - 1);
     for (use = 0; use < USE_KINDS; use++) {
-        if (c->counts[use] == 0)
-            continue;
-        fprintf(p->out, "%s%" PRIu32 " %s", between, c->counts[use], use_names[use]);
+        if (c->counts[use] == 0) continue;
+        fprintf(p->out, "%s%" PRIu32 " %s", between, c->counts[use], use_words[use]);
         between = ", ";
     }
     put_owners(p, c);
@@ -95,29 +87,24 @@ static void put_cell(const picture *p, uint32_t index, double pitch)
     cell c = cell_of(p->blocks, p->n, index * p->width, p->width);
     double size = pitch - (pitch > 20 ? 3 : 1.5);
     int second = p->width == 1 && c.main_use == USE_FILE && p->blocks[c.first].owner % 2 == 1;
-
     fprintf(p->out, "<rect class=\"u%d%s\" x=\"%.2f\" y=\"%.2f\" width=\"%.2f\" height=\"%.2f\" rx=\"%d\"",
             c.main_use, second ? "b" : "", LEFT + pitch * (index % p->columns),
             pitch * (index / p->columns), size, size, pitch > 20 ? 4 : 2);
     if (c.main_use != USE_FREE && c.counts[USE_FREE] > 0)
         fprintf(p->out, " fill-opacity=\"%.2f\"", 1 - 0.65 * c.counts[USE_FREE] / c.blocks);
     fputs("><title>", p->out);
-    if (p->width == 1)
-        put_block_title(p, c.first);
-    else
-        put_cell_title(p, &c);
+    if (p->width == 1) put_block_title(p, c.first);
+    else put_cell_title(p, &c);
     fputs("</title></rect>\n", p->out);
 }
 
 static void put_rows(const picture *p, double pitch)
 {
     uint32_t row, i;
-
     for (row = 0; row < p->rows; row += p->rows > 24 ? 4 : 1)
         fprintf(p->out, "<text x=\"%u\" y=\"%.2f\" text-anchor=\"end\">%" PRIu32 "</text>\n", LEFT - 10,
                 pitch * row + pitch / 2 + 3, row * p->columns * p->width);
-    for (i = 0; i < p->cells; i++)
-        put_cell(p, i, pitch);
+    for (i = 0; i < p->cells; i++) put_cell(p, i, pitch);
 }
 
 static void put_legend(const picture *p, double y)
@@ -126,9 +113,8 @@ static void put_legend(const picture *p, double y)
     double x = LEFT;
     char text[64];
     int use;
-
     for (use = 0; use < USE_KINDS; use++) {
-        snprintf(text, sizeof text, "%s %" PRIu32, use_names[use], all.counts[use]);
+        snprintf(text, sizeof text, "%s %" PRIu32, use_words[use], all.counts[use]);
         fprintf(p->out, "<rect class=\"u%d\" x=\"%.0f\" y=\"%.2f\" width=\"12\" height=\"12\" rx=\"3\"/>"
                 "<text x=\"%.0f\" y=\"%.2f\">%s</text>\n", use, x, y, x + 18, y + 10, text);
         x += 36 + 7 * (double)strlen(text);
@@ -145,7 +131,6 @@ void map_svg(FILE *out, const bytes *image, const listing *list, const block_use
     picture p = { out, list, blocks, view_blocks(image), 1, 0, 0, 0 };
     const double top = with_style ? 44 : 4;
     double pitch, height;
-
     p.width = map_width(p.n);
     p.cells = (p.n + p.width - 1) / p.width;
     p.columns = p.cells > 512 ? 64 : 32;

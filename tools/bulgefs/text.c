@@ -14,17 +14,13 @@ size_t text_character(const uint8_t *p, size_t length, uint32_t *code)
     static const uint32_t least[5] = { 0, 0, 0x80, 0x800, 0x10000 };
     size_t i, size = p[0] < 0x80 ? 1 : p[0] < 0xC0 ? 0 : p[0] < 0xE0 ? 2
                    : p[0] < 0xF0 ? 3 : p[0] < 0xF8 ? 4 : 0;
-
-    if (size == 0 || size > length)
-        return 0;
+    if (size == 0 || size > length) return 0;
     *code = size == 1 ? p[0] : p[0] & (0xFFu >> (size + 1));
     for (i = 1; i < size; i++) {
-        if ((p[i] & 0xC0) != 0x80)
-            return 0;
+        if ((p[i] & 0xC0) != 0x80) return 0;
         *code = *code << 6 | (p[i] & 0x3Fu);
     }
-    if (*code < least[size] || *code > 0x10FFFF || (*code >= 0xD800 && *code <= 0xDFFF))
-        return 0;
+    if (*code < least[size] || *code > 0x10FFFF || (*code >= 0xD800 && *code <= 0xDFFF)) return 0;
     return size;
 }
 
@@ -39,7 +35,6 @@ void put_text(FILE *out, const uint8_t *text, size_t length)
 {
     size_t at = 0, size, i;
     uint32_t code = 0;
-
     while (at < length) {
         size = text_character(text + at, length - at, &code);
         if (text[at] == '\\') {
@@ -47,8 +42,7 @@ void put_text(FILE *out, const uint8_t *text, size_t length)
         } else if (size != 0 && !text_is_control(code)) {
             fwrite(text + at, 1, size, out);
         } else {
-            for (i = 0; i < size || i == 0; i++)
-                fprintf(out, "\\x%02x", text[at + i]);
+            for (i = 0; i < size || i == 0; i++) fprintf(out, "\\x%02x", text[at + i]);
         }
         at += size == 0 ? 1 : size;
     }
@@ -72,17 +66,13 @@ static void put_markup_byte(FILE *out, char c)
 
 void put_markup(FILE *out, const char *text)
 {
-    char *plain = NULL;
-    size_t size = 0, i;
-    FILE *memory = open_memstream(&plain, &size);
-
-    if (memory == NULL)
-        return;
-    put_path(memory, text);
-    if (fclose(memory) == 0)
-        for (i = 0; i < size; i++)
-            put_markup_byte(out, plain[i]);
-    free(plain);
+    memory_text plain;
+    size_t i;
+    text_begin(&plain);
+    put_path(plain.out, text);
+    text_end(&plain);
+    for (i = 0; i < plain.length; i++) put_markup_byte(out, plain.text[i]);
+    free(plain.text);
 }
 
 void put_time(FILE *out, uint64_t milliseconds)
@@ -90,38 +80,30 @@ void put_time(FILE *out, uint64_t milliseconds)
     time_t seconds = (time_t)(milliseconds / 1000);
     struct tm parts;
     char text[32];
-
     if (milliseconds > LAST_TIME || gmtime_r(&seconds, &parts) == NULL
         || strftime(text, sizeof text, "%Y-%m-%d %H:%M:%S", &parts) == 0)
         fprintf(out, "%" PRIu64 " ms", milliseconds);
-    else
-        fprintf(out, "%s.%03uZ", text, (unsigned)(milliseconds % 1000));
+    else fprintf(out, "%s.%03uZ", text, (unsigned)(milliseconds % 1000));
 }
 
 void put_permissions(FILE *out, uint8_t permissions)
 {
     static const char letters[9] = "xsrwrwrw";
     int bit;
-
-    for (bit = 0; bit < 8; bit++)
-        fputc(permissions & (0x80u >> bit) ? letters[bit] : '-', out);
+    for (bit = 0; bit < 8; bit++) fputc(permissions & (0x80u >> bit) ? letters[bit] : '-', out);
 }
 
 void put_uuid(FILE *out, const volume_info *volume)
 {
     size_t i;
-
-    for (i = 0; i < 16; i++)
-        fprintf(out, i == 4 || i == 6 || i == 8 || i == 10 ? "-%02x" : "%02x", volume->labels[i]);
+    for (i = 0; i < 16; i++) fprintf(out, i == 4 || i == 6 || i == 8 || i == 10 ? "-%02x" : "%02x", volume->labels[i]);
 }
 
 size_t volume_name(const volume_info *volume, const uint8_t **name)
 {
     size_t length = 0;
-
     *name = volume->labels + 16;
-    while (length < BULGEFS_VOLUME_NAME_SIZE && (*name)[length] != 0)
-        length++;
+    while (length < BULGEFS_VOLUME_NAME_SIZE && (*name)[length] != 0) length++;
     return length;
 }
 
@@ -132,14 +114,11 @@ void put_count(FILE *out, uint64_t count, const char *one, const char *many)
 
 int open_sound(store *s, const char *path, const options *o)
 {
-    int status = store_open(s, path, o->journal, LOOK);
+    int status = store_open(s, path, LOOK, o);
     uint32_t number;
-
-    if (status != DONE)
-        return status;
+    if (status != DONE) return status;
     number = bulgefs_check(s->image.bytes, s->image.length);
-    if (number == 0)
-        return DONE;
+    if (number == 0) return DONE;
     store_close(s);
     return refuse(number, path);
 }
@@ -147,15 +126,13 @@ int open_sound(store *s, const char *path, const options *o)
 /* Takes the argument at i away. */
 static void take_argument(int *argc, char **argv, int i)
 {
-    for (*argc -= 1; i < *argc; i++)
-        argv[i] = argv[i + 1];
+    for (*argc -= 1; i < *argc; i++) argv[i] = argv[i + 1];
     argv[*argc] = NULL;
 }
 
 int take_flag(int *argc, char **argv, const char *flag)
 {
     int i, given = 0;
-
     for (i = 1; i < *argc && strcmp(argv[i], "--") != 0; ) {
         if (strcmp(argv[i], flag) == 0) {
             take_argument(argc, argv, i);
@@ -170,12 +147,9 @@ int take_flag(int *argc, char **argv, const char *flag)
 int take_value(int *argc, char **argv, const char *flag, const char **value)
 {
     int i;
-
     for (i = 1; i < *argc && strcmp(argv[i], "--") != 0; i++) {
-        if (strcmp(argv[i], flag) != 0)
-            continue;
-        if (i + 1 >= *argc)
-            return 0;
+        if (strcmp(argv[i], flag) != 0) continue;
+        if (i + 1 >= *argc) return 0;
         *value = argv[i + 1];
         take_argument(argc, argv, i);
         take_argument(argc, argv, i);
@@ -187,14 +161,12 @@ int take_value(int *argc, char **argv, const char *flag, const char **value)
 int good_arguments(int *argc, char **argv, int least, int most)
 {
     int i;
-
     for (i = 1; i < *argc; i++) {
         if (strcmp(argv[i], "--") == 0) {
             take_argument(argc, argv, i);
             break;
         }
-        if (argv[i][0] == '-' && argv[i][1] != 0)
-            return 0;
+        if (argv[i][0] == '-' && argv[i][1] != 0) return 0;
     }
     return *argc - 1 >= least && *argc - 1 <= most;
 }

@@ -11,31 +11,34 @@
 #include <stdint.h>
 #include <stdio.h>
 
-#include "bulgefs.h"
+#include "bulgefs_file.h"
 
 /* Exit statuses. */
-enum { DONE = 0, REFUSED = 1, FAILED = 2 };
+enum { DONE = 0, REFUSED = 1, FAILED = 2, IN_USE = 3 };
 
-/* A run of bytes in memory.  A file that does not exist has bytes NULL. */
+/* A run of bytes in memory.  What does not exist has bytes NULL. */
 typedef struct { uint8_t *bytes; size_t length; } bytes;
 
-/* What stands in front of the command. */
-typedef struct { const char *journal; int json; } options;
+/* What every command takes: JSON, and how many seconds to wait for a volume that is in use. */
+typedef struct { int json; uint64_t wait; } options;
 
 /* ---- say.c: words, numbers, time and memory ---- */
 
 /* The library's words and number, after what was tried; gives REFUSED. */
 int refuse(uint32_t number, const char *what);
+/* The same with words of the tool's own behind them. */
+int refuse_because(uint32_t number, const char *what, const char *why);
 /* The words of errno, after what was tried; gives FAILED. */
 int fail_system(const char *what);
 /* How a command is used, its name first; gives FAILED. */
 int usage(const char *words);
-/* Words of the tool's own, in the form of printf, after "bulgefs: ". */
+/* Words of the tool's own, in the form of printf; written at once, as JSON if say_json was called. */
 void say(const char *form, ...)
 #if defined(__GNUC__)
     __attribute__((format(printf, 1, 2)))
 #endif
     ;
+void say_json(void);
 /* A decimal number from low to high; 0, or FAILED with words that name it. */
 int read_number(const char *text, const char *name, uint64_t low, uint64_t high, uint64_t *number);
 /* Now in milliseconds since 1970 began (UTC), or the number in BULGEFS_TIME. */
@@ -45,106 +48,80 @@ void *take_memory(size_t length);
 /* More memory, as realloc; ends the tool with FAILED if there is none. */
 void *take_more(void *old, size_t length);
 bytes copy_bytes(const bytes *from);
+/* Two texts as one, in memory of its own. */
+char *joined(const char *first, const char *second);
+/* A text that is written as to a file; ends the tool with FAILED if there is no memory.  Free text after its end. */
+typedef struct { FILE *out; char *text; size_t length; } memory_text;
+void text_begin(memory_text *);
+void text_end(memory_text *);
 /* Big-endian numbers. */
 uint32_t number_at(const uint8_t *from);
 uint64_t time_at(const uint8_t *from);
 void put_number(uint8_t *to, uint32_t number);
 
-/* ---- sys.c: every operation that changes a file ---- */
+/* ---- files.c: files that are no volumes ---- */
 
-/* As the system's own: 0 or a descriptor, and -1 with errno. Writes are whole. */
-int sys_open_new(const char *path);                /* must not exist */
-int sys_write(int file, const void *from, size_t length);
-int sys_pwrite(int file, const void *from, size_t length, uint64_t offset);
-int sys_truncate(int file, uint64_t length);
-int sys_reserve(int file, uint64_t offset, uint64_t length);   /* room on the disk; no byte changes within the file */
-int sys_fsync(int file);
-int sys_rename(const char *from, const char *to);
-int sys_unlink(const char *path);
-int sys_fsync_folder(const char *path);            /* the folder that holds path */
-/* Prints the count of operations, if it is wanted (BULGEFS_FAULTS). */
-void sys_finish(void);
-
-/* These change nothing. */
-int sys_exists(const char *path);
-/*
- * A whole plain file, at most limit bytes; longer ones give limit + 1.  A
- * missing one is bytes NULL if missing_too, otherwise FAILED.
- */
-int read_file(const char *path, size_t limit, int missing_too, bytes *into);
-/* As read_file, and "-" is standard input. */
+/* A whole plain file, at most limit bytes; longer ones give limit + 1. */
+int read_file(const char *path, size_t limit, bytes *into);
+/* The same, and "-" is standard input. */
 int read_input(const char *path, size_t limit, bytes *into);
 /* A new file of these bytes, or standard output for "-".  Never over an existing file. */
 int write_output(const char *path, const uint8_t *from, size_t length);
 
-/* ---- redo.c: a change of several files, written down before it is made ---- */
+/* ---- store.c: a volume: image, journal and steps in one volume file ---- */
 
-enum { FILES = 3 };
-typedef struct { bytes before, after; } version;
-/*
- * The content of a redo file that takes the files from before to after, and
- * names the journal's path ("" is VOLUME.journal).  Length 0 if nothing changes.
- */
-bytes redo_make(const version files[FILES], const char *journal_path);
-/* The journal's path in a redo file; NULL if the file is not whole. */
-char *redo_journal_path(const bytes *redo);
-/* Makes sure that the files can be written and have room on the disk; no byte changes. */
-int redo_reserve(const bytes *redo, const char *const paths[FILES]);
-/* Makes the files what the redo file says.  Made again it does the same. */
-int redo_apply(const bytes *redo, const char *const paths[FILES]);
-
-/* ---- store.c: volume, journal and steps as one ---- */
-
-typedef enum { LOOK, CHANGE, START } store_mode;
+typedef enum { LOOK, CHANGE } store_mode;
 
 typedef struct {
-    char *path, *journal_path, *steps_path, *redo_path, *redo_new_path, *lock_path;
-    char *redo_journal;                /* the journal's path in a redo file */
-    bytes image, journal, steps;       /* what the files shall be */
-    bytes old_image, old_journal, old_steps;
-    int lock;
-    store_mode mode;
+    const char *path;
+    bytes image, journal, own;         /* what the volume is, or shall be */
+    bulgefs_journal was;               /* of a change: the journal when the volume was opened */
+    bulgefs_volume_file file;
 } store;
 
 /*
- * Takes the lock, recovers, reads the three files.  journal NULL is VOLUME.journal.
- * LOOK: shared lock; a missing journal has bytes NULL.  CHANGE: a journal must be
- * there.  START: as CHANGE, and the journal may be missing.  On an exit status
- * other than 0 nothing is left open.
+ * Opens a volume file, and waits while it is in use.  LOOK: a file that is no
+ * volume file is taken as a bare image, whose journal and own have bytes NULL;
+ * nothing is written.  CHANGE: only a volume file.  On an exit status other than 0
+ * nothing is left open.
  */
-int store_open(store *, const char *path, const char *journal, store_mode mode);
-/* A volume that is not there yet: all of its files must be missing. */
-int store_create(store *, const char *path, const char *journal);
-/* Makes the files what the memory is, all of them or none.  Then only close it. */
-int store_commit(store *);
-/* Words for a journal that is not there, which a look may do without; 0 or FAILED. */
+int store_open(store *, const char *path, store_mode mode, const options *);
+/* Words for a bare image, where a journal is needed; 0 or REFUSED. */
 int need_journal(const store *);
-/* Ends a change: if its status is 0, what it did becomes one step on the files. */
+/* Saves image, journal and own, all or none.  Then only close it. */
+int store_save(store *);
+/* Ends a change: if its status is 0, what it did becomes one step and is saved. */
 int store_finish(store *, int status);
 void store_close(store *);
-/* A volume that is not there yet, of this image, with a journal just started. */
-int store_new(const char *path, const char *journal, const bytes *image, size_t journal_length);
-/* The length that the journal has, if a journal may have it, or else the usual one. */
-size_t same_journal(const store *);
+/* A volume that is not there yet; the journal's length is a multiple of 512. */
+int store_new(const char *path, const bytes *image, const bytes *journal, const options *);
+/* The same with a journal just started, of at least so many bytes. */
+int store_start(const char *path, const bytes *image, size_t journal_length, const options *);
+/* Words for what the file layer answered: 0 and another status. */
+int store_status(bulgefs_volume_result, const char *path);
+/* Whether to try again what found a volume in use; waits a little.  *tries counts from 0. */
+int store_again(bulgefs_volume_result, const options *, unsigned *tries);
 /* The length of a journal with room for a change of the whole image, twice, and 1 MiB more. */
-uint32_t usual_journal(size_t image_length);
+size_t usual_journal(size_t image_length);
 
 /* ---- steps.c: which records are one step ---- */
 
 /*
- * VOLUME.steps holds 4-byte numbers: the journal's used length before each step
- * of this tool, and after the last one.  A record outside of these is a step of
- * its own; so is every record if the numbers do not fit the journal.
+ * The first bytes of own: "BulgeSte", how many records they tell of, the journal's
+ * used length behind these, then a bit for each record: 1 if it goes on with the
+ * step of the record before.  Each record is a step where these do not fit the
+ * journal, or where own is another program's.
  */
+enum { STEPS_ROOM = 16384, OWN_ROOM = 65536 };
 typedef struct { uint32_t start, length, blocks, step; } record;   /* step counts from 1 */
 typedef struct { record *records; size_t count; uint32_t used, steps; } record_list;
 
 /* The records, oldest first; 0, or the refusal of bulgefs_journal_info.  Free records after use. */
-uint32_t steps_list(const bytes *image, const bytes *journal, const bytes *steps, record_list *);
-/* Adds what the journal got since the store was opened as one step. */
+uint32_t steps_list(const store *, record_list *);
+/* Makes what the journal got since the store was opened one step. */
 void steps_add(store *);
-/* Cuts the steps that end above the journal's used length. */
-void steps_cut(store *);
+/* Keeps the steps of the first count records of a list, which are all that the journal now has. */
+void steps_cut(store *, const record_list *before, size_t count);
 
 /* ---- changes.c: which paths differ between two sound images ---- */
 
@@ -184,8 +161,6 @@ enum { NOT_OF_VOLUME = 255 };
 uint32_t undo_record(bytes *image, bytes *journal, const bytes *after, each_change, void *ctx);
 /* Words for either, for the record of this number (from 1); gives REFUSED. */
 int refuse_record(const store *, uint32_t number, size_t record);
-/* Words for a refusal of the pair: the journal for 8 and above, otherwise the volume; gives REFUSED. */
-int refuse_pair(const store *, uint32_t number);
 
 /* ---- view.c: a sound image as the library tells it, its chains in plain C ---- */
 
@@ -232,6 +207,9 @@ void json_text(FILE *, const char *);
 /* ---- commands: argv[0] is the command's name, argv[1] the volume ---- */
 
 int command_format(int argc, char **argv, const options *);
+int command_import(int argc, char **argv, const options *);
+int command_export(int argc, char **argv, const options *);
+int command_grow(int argc, char **argv, const options *);
 int command_start(int argc, char **argv, const options *);
 int command_put(int argc, char **argv, const options *);
 int command_get(int argc, char **argv, const options *);
@@ -244,7 +222,9 @@ int command_attr(int argc, char **argv, const options *);
 int command_settings(int argc, char **argv, const options *);
 int command_log(int argc, char **argv, const options *);
 int command_back(int argc, char **argv, const options *);
+int command_redo(int argc, char **argv, const options *);
 int command_salvage(int argc, char **argv, const options *);
+int command_extract(int argc, char **argv, const options *);
 
 int command_history(int argc, char **argv, const options *);
 int command_ls(int argc, char **argv, const options *);

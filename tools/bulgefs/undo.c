@@ -52,13 +52,8 @@ uint32_t undo_record(bytes *image, bytes *journal, const bytes *after, each_chan
 
 int refuse_record(const store *s, uint32_t number, size_t record)
 {
-    if (number != NOT_OF_VOLUME) return refuse(number, s->journal_path);
-    say("%s: refused: record %zu is not of %s, so this is the journal of another volume or time; nothing was changed",
-        s->journal_path, record, s->path);
+    if (number != NOT_OF_VOLUME) return refuse(number, s->path);
+    say("%s: refused: record %zu of the journal is not of this image, so the two are of different volumes or times; nothing was changed",
+        s->path, record);
     return REFUSED;
-}
-
-int refuse_pair(const store *s, uint32_t number)
-{
-    return refuse(number, number < BULGEFS_BAD_JOURNAL ? s->path : s->journal_path);
 }

@@ -4,8 +4,8 @@
  * and the root's own times are read here in plain C, and that is not.  So are
  * all entries where a whole image is counted, drawn or compared (view_scan); a
  * comparison shows of these only what the library tells too (view_told).  Every
- * number that is followed is held against the image's length first, so that a
- * wrong image gives wrong words and never a read outside the bytes lent.
+ * number that is followed is held against the image's length first, and every
+ * walk has an end, so that a damaged image gives wrong words and nothing worse.
  */
 #include <stdlib.h>
 #include <string.h>
@@ -18,9 +18,7 @@
 uint32_t view_number(const bytes *image, size_t at)
 {
     const uint8_t *p;
-
-    if (image->length < 4 || at > image->length - 4)
-        return 0;
+    if (image->length < 4 || at > image->length - 4) return 0;
     p = image->bytes + at;
     return (uint32_t)p[0] << 24 | (uint32_t)p[1] << 16 | (uint32_t)p[2] << 8 | p[3];
 }
@@ -59,12 +57,10 @@ entry view_slot(const bytes *image, size_t offset, uint32_t slot)
 {
     entry e;
     const uint8_t *p;
-
     memset(&e, 0, sizeof e);
     e.slot = slot;
     e.offset = offset;
-    if (image->length < SLOT || offset > image->length - SLOT)
-        return e;
+    if (image->length < SLOT || offset > image->length - SLOT) return e;
     p = image->bytes + offset;
     e.type = p[0];
     e.user = p[1];
@@ -78,8 +74,7 @@ entry view_slot(const bytes *image, size_t offset, uint32_t slot)
     e.attribute_block = view_number(image, offset + 32);
     e.attribute_size = view_number(image, offset + 36);
     e.flags = view_number(image, offset + 40);
-    while (e.name_length < BULGEFS_MAX_NAME && p[NAME_AT + e.name_length] != 0)
-        e.name_length++;
+    while (e.name_length < BULGEFS_MAX_NAME && p[NAME_AT + e.name_length] != 0) e.name_length++;
     memcpy(e.name, p + NAME_AT, e.name_length);
     return e;
 }
@@ -87,17 +82,15 @@ entry view_slot(const bytes *image, size_t offset, uint32_t slot)
 chain chain_of(const bytes *image, uint32_t first, uint32_t blocks)
 {
     chain c;
-
     c.image = image;
     c.block = first;
-    c.left = blocks;
+    c.left = blocks < view_blocks(image) ? blocks : view_blocks(image);
     return c;
 }
 
 int chain_step(chain *c, uint32_t *block)
 {
-    if (c->left == 0 || c->block <= view_table(c->image) || c->block >= view_blocks(c->image))
-        return 0;
+    if (c->left == 0 || c->block <= view_table(c->image) || c->block >= view_blocks(c->image)) return 0;
     *block = c->block;
     c->left--;
     c->block = view_next(c->image, c->block);
@@ -108,7 +101,6 @@ uint32_t chain_pieces(const bytes *image, uint32_t first, uint32_t blocks)
 {
     chain c = chain_of(image, first, blocks);
     uint32_t block, last = 0, pieces = 0;
-
     while (chain_step(&c, &block)) {
         pieces += pieces == 0 || block != last + 1;
         last = block;
@@ -119,20 +111,24 @@ uint32_t chain_pieces(const bytes *image, uint32_t first, uint32_t blocks)
 volume_info view_volume(const bytes *image)
 {
     volume_info v;
-
     memset(&v, 0, sizeof v);
     v.numbers = bulgefs_info(image->bytes, image->length, v.labels, sizeof v.labels);
     return v;
+}
+
+/* No directory has more blocks than this, whatever a damaged entry says. */
+static uint32_t view_directory_blocks(const entry *e)
+{
+    return e->blocks < BULGEFS_MAX_DIRECTORY_BLOCKS ? e->blocks : BULGEFS_MAX_DIRECTORY_BLOCKS;
 }
 
 entry view_root(const bytes *image)
 {
     uint32_t first = view_table(image) + 1;
     entry e = view_slot(image, BULGEFS_BLOCK_SIZE * (size_t)first, 0);
-
     e.type = BULGEFS_PLAIN_DIRECTORY;
     e.first = first;
-    e.blocks = view_volume(image).numbers.root_blocks;
+    e.blocks = view_directory_blocks(&e);
     e.size = 0;
     e.name_length = 0;
     e.name[0] = 0;
@@ -147,10 +143,8 @@ static size_t slot_offset(const folder *f, uint32_t slot)
 {
     chain c = chain_of(f->image, f->self.first, f->self.blocks);
     uint32_t block = 0, i;
-
     for (i = 0; i <= slot / 4; i++)
-        if (!chain_step(&c, &block))
-            return 0;
+        if (!chain_step(&c, &block)) return 0;
     return BULGEFS_BLOCK_SIZE * (size_t)block + SLOT * (size_t)(slot % 4);
 }
 
@@ -165,10 +159,8 @@ static int ask_entry(const bytes *image, const char *path, size_t length, uint32
     const uint8_t *directory = (const uint8_t *)(length == 0 ? "/" : path);
     bulgefs_slot s = bulgefs_entry(image->bytes, image->length, directory, length == 0 ? 1 : length,
                                    slot, name, BULGEFS_MAX_NAME);
-
     memset(e, 0, sizeof *e);
-    if (s.slot == 0)
-        return 0;
+    if (s.slot == 0) return 0;
     e->slot = s.slot;
     e->type = s.type;
     e->user = s.user;
@@ -190,8 +182,7 @@ static int ask_entry(const bytes *image, const char *path, size_t length, uint32
 /* The entry in the lowest slot, from the given one on, that is not free; 0 if there is none. */
 static int next_entry(const folder *f, uint32_t slot, entry *e)
 {
-    if (!ask_entry(f->image, f->path, f->length, slot, e))
-        return 0;
+    if (!ask_entry(f->image, f->path, f->length, slot, e)) return 0;
     e->offset = slot_offset(f, e->slot);
     return 1;
 }
@@ -199,16 +190,13 @@ static int next_entry(const folder *f, uint32_t slot, entry *e)
 /* The same in plain C: the library checks the whole image for each entry that it tells. */
 static int next_plain(const folder *f, uint32_t slot, entry *e)
 {
-    uint32_t end = BULGEFS_SLOTS_PER_BLOCK * f->self.blocks - 1;
+    uint32_t end = BULGEFS_SLOTS_PER_BLOCK * view_directory_blocks(&f->self);
     size_t offset;
-
-    for (; slot < end; slot++) {
+    for (; slot + 1 < end; slot++) {
         offset = slot_offset(f, slot);
-        if (offset == 0)
-            return 0;
+        if (offset == 0) return 0;
         *e = view_slot(f->image, offset, slot);
-        if (e->type != 0)
-            return 1;
+        if (e->type != 0) return 1;
     }
     return 0;
 }
@@ -216,10 +204,8 @@ static int next_plain(const folder *f, uint32_t slot, entry *e)
 static int find_name(const folder *f, const char *name, size_t length, entry *found)
 {
     uint32_t slot = 1;
-
     while (next_entry(f, slot, found)) {
-        if (found->name_length == length && memcmp(found->name, name, length) == 0)
-            return 1;
+        if (found->name_length == length && memcmp(found->name, name, length) == 0) return 1;
         slot = found->slot + 1;
     }
     return 0;
@@ -230,19 +216,15 @@ uint32_t view_find(const bytes *image, const char *path, entry *found)
     folder f = { image, path, 0, view_root(image) };
     const char *rest = path;
     size_t length;
-
-    if (*path != '/')
-        return BULGEFS_NOT_FOUND;
+    if (*path != '/') return BULGEFS_NOT_FOUND;
     while (rest[0] == '/' && rest[1] != 0) {
         length = strcspn(rest + 1, "/");
-        if (!view_is_directory(&f.self) || !find_name(&f, rest + 1, length, found))
-            return BULGEFS_NOT_FOUND;
+        if (!view_is_directory(&f.self) || !find_name(&f, rest + 1, length, found)) return BULGEFS_NOT_FOUND;
         f.self = *found;
         rest += 1 + length;
         f.length = (size_t)(rest - path);
     }
-    if (*rest == '/' && !view_is_directory(&f.self))
-        return BULGEFS_NOT_FOUND;
+    if (*rest == '/' && !view_is_directory(&f.self)) return BULGEFS_NOT_FOUND;
     *found = f.self;
     return 0;
 }
@@ -251,9 +233,7 @@ uint32_t view_refusal(const bytes *image, const char *path)
 {
     size_t length = strlen(path);
     uint32_t number;
-
-    if (length > 1 && path[length - 1] == '/')
-        length--;
+    if (length > 1 && path[length - 1] == '/') length--;
     number = bulgefs_lookup(image->bytes, image->length, (const uint8_t *)path, length).number;
     return number == 0 ? BULGEFS_NOT_FOUND : number;
 }
@@ -263,10 +243,20 @@ typedef struct {
     const bytes *image;
     char path[BULGEFS_MAX_PATH + 1];
     int recursive;
+    uint8_t *seen;             /* of a scan: the first blocks of directories, each of which is visited once */
     int (*next)(const folder *, uint32_t, entry *);
     each_entry each;
     void *context;
 } visit;
+
+/* Whether a directory was not visited before; in a damaged image two entries may lead to one. */
+static int is_new(visit *v, const entry *directory)
+{
+    if (v->seen == NULL) return 1;
+    if (directory->first >= view_blocks(v->image) || v->seen[directory->first]) return 0;
+    v->seen[directory->first] = 1;
+    return 1;
+}
 
 static int visit_directory(visit *v, const entry *directory, size_t length, unsigned level)
 {
@@ -274,19 +264,18 @@ static int visit_directory(visit *v, const entry *directory, size_t length, unsi
     uint32_t slot = 1;
     entry e;
     int stop;
+    if (!is_new(v, directory)) return 0;
 
     while (v->next(&f, slot, &e)) {
         slot = e.slot + 1;
-        if (length + 1 + e.name_length > BULGEFS_MAX_PATH)
-            continue;
+        if (length + 1 + e.name_length > BULGEFS_MAX_PATH) continue;
         v->path[length] = '/';
         memcpy(v->path + length + 1, e.name, e.name_length);
         v->path[length + 1 + e.name_length] = 0;
         stop = v->each(v->context, v->path, &e);
         if (stop == 0 && v->recursive && view_is_directory(&e) && level < BULGEFS_MAX_LEVELS)
             stop = visit_directory(v, &e, length + 1 + e.name_length, level + 1);
-        if (stop != 0)
-            return stop;
+        if (stop != 0) return stop;
     }
     return 0;
 }
@@ -296,29 +285,26 @@ int view_each(const bytes *image, const char *path, int recursive, each_entry ea
     visit v;
     entry at;
     size_t length = strlen(path);
-
-    if (view_find(image, path, &at) != 0 || length > BULGEFS_MAX_PATH)
-        return BULGEFS_NOT_FOUND;
+    if (view_find(image, path, &at) != 0 || length > BULGEFS_MAX_PATH) return BULGEFS_NOT_FOUND;
     v.image = image;
     v.recursive = recursive;
+    v.seen = NULL;
     v.next = next_entry;
     v.each = each;
     v.context = context;
-    if (path[length - 1] == '/')
-        length--;
+    if (path[length - 1] == '/') length--;
     memcpy(v.path, path, length);
     v.path[length] = 0;
-    if (view_is_file(&at))
-        return each(context, v.path, &at);
+    if (view_is_file(&at)) return each(context, v.path, &at);
     return visit_directory(&v, &at, length, 0);
 }
 
 void view_scan(const bytes *image, each_entry each, void *context)
 {
-    visit v = { image, "", 1, next_plain, each, context };
+    visit v = { image, "", 1, take_memory(view_blocks(image)), next_plain, each, context };
     entry root = view_root(image);
-
     visit_directory(&v, &root, 0, 0);
+    free(v.seen);
 }
 
 /* The offset is left out: the library tells none. */
@@ -335,11 +321,9 @@ static int same_entry(const entry *a, const entry *b)
 entry view_told(const bytes *image, const char *path, const entry *scanned)
 {
     entry told;
-
     ask_entry(image, path, (size_t)(strrchr(path, '/') - path), scanned->slot, &told);
     told.offset = scanned->offset;
-    if (same_entry(&told, scanned))
-        return told;
+    if (same_entry(&told, scanned)) return told;
     say("%s: internal error: the library tells another entry than the one read in plain C; nothing was changed", path);
     exit(FAILED);
 }
