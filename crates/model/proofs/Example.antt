@@ -24,7 +24,7 @@ abbrev inside : List ℕ
 inside = 47 ∷ 66 ∷ 47 ∷ 67 ∷ []
 
 abbrev m : Model
-m = step (step (empty 10) (plain (create a 0x60 1 2 3 0 7))) (plain (write a 0 (replicate 513 9) 8))
+m = step (step (empty 1 10) (plain (create a 0x60 1 2 3 0 7))) (plain (write a 0 (replicate 513 9) 8))
 
 two-blocks : m .free ≡ 8
 unfolding step setAt becomes subject path-of further path-further splice

@@ -13,3 +13,4 @@ pub mod Counts
 pub mod Entries
 pub mod Runs
 pub mod Calls
+pub mod Roots

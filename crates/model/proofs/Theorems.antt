@@ -26,9 +26,9 @@ use Rattle.journal.specs.Run.{Call, State, changeRefusal, afterChange, run}
 use Rattle.journal.specs.Replay.{standing}
 use Rattle.model.specs.Model.{Node, Model, step, settings, showsNothing}
 use Rattle.model.specs.Looks.{bytesIn, noFile, readIn, readAttributesIn, revisionsIn, settingsIn}
-use Rattle.model.specs.Refusals.{parentOf, noFolder, refusalIn, placeIn, placeFor, isBare}
-use Rattle.model.specs.Listing.{child, Lists, roomFor, listNumber, EntrySays, Counted, goal, leadsOn, staysIn, Comes}
-use Rattle.model.specs.Refines.{Shows, Tree, modelOf}
+use Rattle.model.specs.Refusals.{parentOf, noFolder, refusalIn}
+use Rattle.model.specs.Listing.{child, Lists, roomFor, listNumber, EntrySays, goal, leadsOn, staysIn, Comes}
+use Rattle.model.specs.Refines.{Shows, Tree, modelOf, placeIn, placeFor, isBare}
 use Rattle.model.specs.Orders as orders
 use Rattle.model.specs.Orders.{Clerk, asks}
 use Rattle.model.specs.Runs.{ModelRunTheorem, modelled}
@@ -80,10 +80,12 @@ module _ (s : List ℕ) (m : Model) (shown : Shows s m) (ok : check s ≡ 0) whe
 
   -- 13: whether there is a place, by the names in the folder that the new name comes to; a move within a folder has its own. 18: a folder is empty if it has no
   -- names, and one that is removed has nothing inside.
-  pub places : (path : List ℕ) (tos : List (List ℕ)) → leadsOn m path tos ≡ true → (n : Counted m (parentOf (goal path tos))) × (placeIn s path tos ≡ staysIn path tos || roomFor (n .size) (n .names))
+  pub places : (path : List ℕ) (tos : List (List ℕ)) → leadsOn m path tos ≡ true
+      → let at = parentOf (goal path tos) in
+      (names : List (List ℕ)) × Lists m at names × (placeIn s path tos ≡ staysIn path tos || roomFor m at names)
   places = counts.places s m shown ok
 
-  pub bare-counted : (path : List ℕ) → noFolder m path ≡ 0 → (n : Counted m path) × (isBare s path ≡ eqb (length (n .names)) 0)
+  pub bare-counted : (path : List ℕ) → noFolder m path ≡ 0 → (names : List (List ℕ)) × Lists m path names × (isBare s path ≡ eqb (length names) 0)
   bare-counted = counts.bare-counted s m shown ok
 
   pub removed-bare : (path : List ℕ) → refusal s (plain (deleteDirectory path)) ≡ 0 → (other : List ℕ) → isInside other path ≡ true → other ≢ path → showsNothing (m .at other) ≡ true
@@ -132,7 +134,7 @@ pub clerks : (p : State) (m : Model) → Shows (p .image) m → (c d : Clerk) �
     → SameFiles (afterChange (afterChange p (asks c)) (asks d) .image) (afterChange (afterChange p (asks d)) (asks c) .image)
 clerks = corollaries.clerks
 
--- Two lists of the names of a folder are as long, so 13 and 18 go by the model alone, but for the blocks of the root.
+-- Two lists of the names of a folder are as long, so 13 and 18 go by the model alone.
 pub as-many : (m : Model) (at : List ℕ) (ns ks : List (List ℕ)) → Lists m at ns → Lists m at ks → length ns ≡ length ks
 as-many = folders.as-many
 

@@ -14,7 +14,7 @@ use Rattle.layout.specs.Directory.{slash, goodName, padded}
 use Rattle.layout.specs.Paths.{parts, pathOk, leading, shallow}
 use Rattle.layout.specs.Looks.{EntryAnswer, noEntry, isRootPath}
 use Rattle.store.specs.Put.{front}
-use Rattle.model.specs.Model.{Given, Folder, Node, nothing, file, folder, Model, showsNothing}
+use Rattle.model.specs.Model.{Given, Node, nothing, file, folder, Model, blocks, showsNothing}
 use Rattle.model.specs.Looks.{noFile}
 use Rattle.model.specs.Refusals.{parentOf, inFolder, noFolder}
 
@@ -28,9 +28,13 @@ pub record Lists (m : Model) (at : List ℕ) (names : List (List ℕ)) : Type 0 
   pub shown : (name : List ℕ) → has same name names ≡ true → showsNothing (m .at (child at name)) ≡ false
   pub whole : (name : List ℕ) → goodName name ≡ true → showsNothing (m .at (child at name)) ≡ false → has same name names ≡ true
 
--- 13: a folder of some blocks has four places in each, but for two; one is left if it has fewer names
-abbrev pub roomFor : ℕ → List (List ℕ) → Bool
-roomFor size names = ltb (length names) (4 * size - 2)
+-- 13: a folder has four places in each of its blocks, but for two; one is left if it has fewer names
+abbrev pub folderBlocks : Model → List ℕ → ℕ
+folderBlocks m [] = m .rootSize
+folderBlocks m (x ∷ xs) = blocks (m .at (x ∷ xs))
+
+abbrev pub roomFor : Model → List ℕ → List (List ℕ) → Bool
+roomFor m at names = ltb (length names) (4 * folderBlocks m at - 2)
 
 -- AN ENTRY. The number is that of the folder; there is none left to tell of, or all fields are those of what is at a name, which comes with its zeros, as much
 -- of these 80 bytes as the buffer holds. A time is told by the eight bytes that keep it, flags by four.
@@ -57,13 +61,6 @@ pub record Entered (m : Model) (at buffer : List ℕ) (a : EntryAnswer) : Type 0
 pub record EntrySays (m : Model) (path buffer : List ℕ) (a : EntryAnswer) : Type 0 where
   pub number : a .number ≡ listNumber m path
   pub entry : (a ≡ noEntry (listNumber m path) buffer) ⊎ Entered m (front path) buffer a
-
--- COUNTED: the names of a folder, and its blocks. Those of the root the model does not hold; they are what the volume's numbers say (rootBlocks).
-pub record Counted (m : Model) (at : List ℕ) : Type 0 where
-  pub names : List (List ℕ)
-  pub size : ℕ
-  pub lists : Lists m at names
-  pub sized : (d : Folder) → m .at at ≡ folder d → size ≡ d .size
 
 -- the path of the new name that a change brings; whether it leads to a folder (and of a move, whether there is a file to bring); whether a move stays in its folder
 abbrev pub goal : List ℕ → List (List ℕ) → List ℕ

@@ -39,14 +39,15 @@ pub data Node : Type 0 where
   file : File → Node
   folder : Folder → Node
 
--- A VOLUME: what each path shows, and how many blocks are free
+-- A VOLUME: what each path shows, how many blocks are free, and how many the root has, which no path shows
 pub record Model : Type 0 where
   pub at : List ℕ → Node
   pub free : ℕ
+  pub rootSize : ℕ
 
 -- just formatted
-abbrev pub empty : ℕ → Model
-empty free = record { at = λ path. nothing; free = free }
+abbrev pub empty : (rootSize free : ℕ) → Model
+empty rootSize free = record { at = λ path. nothing; free = free; rootSize = rootSize }
 
 -- the blocks that what a path shows takes: those of a file's bytes and attributes, those of a folder
 abbrev pub blocks : Node → ℕ
@@ -56,7 +57,7 @@ blocks (folder d) = d .size
 
 -- x in the place of what a path shows, which gives its blocks back, while x takes its own; every other path shows what it showed
 unfoldable pub setAt : Model → List ℕ → Node → Model
-setAt m path x = record { at = λ other. cond (same other path) x (m .at other); free = m .free + blocks (m .at path) - blocks x }
+setAt m path x = record { at = λ other. cond (same other path) x (m .at other); free = m .free + blocks (m .at path) - blocks x; rootSize = m .rootSize }
 
 -- a file made; other bytes, and the time; other attributes; no flags
 abbrev pub new : (type user group permissions flags time : ℕ) → File

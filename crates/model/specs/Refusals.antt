@@ -1,19 +1,18 @@
--- WITH WHICH NUMBER A CHANGE IS REFUSED, by the model, or 0: all but 15, which is the journal's. Two things that the model does not hold come with it:
--- whether the folder has a place for one entry more (13), and whether the folder is empty (18).
+-- WITH WHICH NUMBER A CHANGE IS REFUSED, by the model, or 0: all but 15, which is the journal's. Two things come with it that are found by the names in a
+-- folder (Listing): whether there is a place for one name more (13), and whether a folder is empty (18).
 use Prim.Native.Nat.{ℕ, _%_, _+_}
-use mathlib.Core.List.{List, [], _∷_}
-use mathlib.Core.Bool.{Bool, not, _&&_, _||_}
+use mathlib.Core.List.{List, _∷_}
+use mathlib.Core.Bool.{Bool, _&&_, _||_}
 use lib.ListN.{length}
 use lib.Dec.{eqb, leb}
 use Rattle.layout.specs.Lists.{within, joined}
 use Rattle.layout.specs.Refusals.{require, firstOf}
-use Rattle.layout.specs.Directory.{isFile, isDirectory, slash, directory, freeSlot, isEmpty, firstBlock}
-use Rattle.layout.specs.Paths.{parts, pathOk, leading, shallow, home, entryOf}
-use Rattle.volume.specs.Move.{moveSlot}
+use Rattle.layout.specs.Directory.{isFile, isDirectory, slash, directory}
+use Rattle.layout.specs.Paths.{parts, pathOk, leading, shallow}
 use Rattle.volume.specs.Change.{create, write, delete, createDirectory, deleteDirectory, setAttributes, clearAttributes, clearFlags, shorten, replace, move}
 use Rattle.store.specs.Settings.{maxSetting, revisions}
 use Rattle.store.specs.Put.{pathOf, addressRefusal, formRefusal}
-use Rattle.store.specs.Change.{Change, plain, putIn, subject, further}
+use Rattle.store.specs.Change.{Change, plain, putIn, subject}
 use Rattle.model.specs.Model.{Node, nothing, file, folder, Model, blocks, becomes, showsNothing, showsFile, showsFolder}
 use Rattle.model.specs.Looks.{bytesIn, noFile}
 
@@ -69,17 +68,3 @@ refusalIn place empty m (plain (move path to)) =
 refusalIn place empty m (putIn directory serial time bytes) =
     let path = pathOf directory serial in
     firstOf (addressRefusal directory serial (leb (length bytes) maxSetting)) (firstOf (putNumber place m path (m .at path)) (roomNumber m (putIn directory serial time bytes)))
-
--- the two as the image has them: a place in the folder of a path, or, of a move, in the folder that it goes to, where the file's own counts too
-unfoldable pub hasPlace : List ℕ → List ℕ → Bool
-hasPlace s path = not (eqb (freeSlot s (directory s (home s path))) 0)
-
-abbrev pub placeIn : List ℕ → List ℕ → List (List ℕ) → Bool
-placeIn s path [] = hasPlace s path
-placeIn s path (to ∷ tos) = not (eqb (moveSlot s path to) 0)
-
-unfoldable pub placeFor : List ℕ → Change → Bool
-placeFor s c = placeIn s (subject c) (further c)
-
-unfoldable pub isBare : List ℕ → List ℕ → Bool
-isBare s path = isEmpty s (firstBlock s (entryOf isDirectory s path))

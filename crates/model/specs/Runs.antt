@@ -17,7 +17,7 @@ use Rattle.journal.specs.Run.{Look, checkImage, findFile, readFile, lookAt, rea
 use Rattle.model.specs.Model.{Model, step}
 use Rattle.model.specs.Looks.{bytesIn, noFile, readIn, readAttributesIn, settingsIn}
 use Rattle.model.specs.Refusals.{parentOf, noFolder, refusalIn}
-use Rattle.model.specs.Listing.{roomFor, EntrySays, Counted, goal, leadsOn, staysIn}
+use Rattle.model.specs.Listing.{Lists, roomFor, EntrySays, goal, leadsOn, staysIn}
 use Rattle.model.specs.Refines.{Shows}
 
 -- the model now, and those that undos go back to, the last one first
@@ -43,8 +43,8 @@ told h [] more = h
 told h (c ∷ cs) [] = h
 told h (c ∷ cs) (a ∷ more) = told (tells h c a) cs more
 
--- What the model says of an answer. A look's is the model's own, but for where things lie: the slot of a look up, the place of a look in place, and all but
--- the free blocks of the volume's numbers; an entry's fields are those of what is at its name. An undo is refused, with 16, where there is nothing to go back to.
+-- What the model says of an answer. A look's is the model's own, but for where things lie: the slot of a look up, the place of a look in place, and of the
+-- volume's numbers all but its free blocks and those of the root; an entry's fields are those of what is at its name. An undo is refused, with 16, where there is nothing to go back to.
 unfoldable pub LookSays : Model → Look → Answer → Type 0
 LookSays m checkImage a = a ≡ checked 0
 LookSays m (findFile path) a =
@@ -52,7 +52,7 @@ LookSays m (findFile path) a =
 LookSays m (readFile path offset buffer) a = a ≡ filled (readIn m path offset buffer)
 LookSays m (lookAt path i) a = (x : Extent) × (a ≡ shown x (part (bytesIn (m .at path)) (512 * i) 512))
 LookSays m (readAttributesOf path buffer) a = a ≡ filled (readAttributesIn m path buffer)
-LookSays m (showVolume buffer) a = (x : VolumeAnswer) × (a ≡ described x) × (x .free ≡ m .free)
+LookSays m (showVolume buffer) a = (x : VolumeAnswer) × (a ≡ described x) × (x .free ≡ m .free) × (x .rootBlocks ≡ m .rootSize)
 LookSays m (showEntry path start buffer) a = (x : EntryAnswer) × (a ≡ entered x) × EntrySays m path buffer x
 LookSays m (getSettingsIn directory serial which buffer) a = a ≡ got (settingsIn m directory serial which buffer)
 
@@ -64,8 +64,9 @@ pub record Decided (m : Model) (c : Change) (number : ℕ) : Type 0 where
   pub fits : Bool
   pub is : number ≡ firstOf (refusalIn place empty m c) (require fits 15 0)
   pub placed : leadsOn m (subject c) (further c) ≡ true
-      → (n : Counted m (parentOf (goal (subject c) (further c)))) × (place ≡ staysIn (subject c) (further c) || roomFor (n .size) (n .names))
-  pub bare : noFolder m (subject c) ≡ 0 → (n : Counted m (subject c)) × (empty ≡ eqb (length (n .names)) 0)
+      → let at = parentOf (goal (subject c) (further c)) in
+      (names : List (List ℕ)) × Lists m at names × (place ≡ staysIn (subject c) (further c) || roomFor m at names)
+  pub bare : noFolder m (subject c) ≡ 0 → (names : List (List ℕ)) × Lists m (subject c) names × (empty ≡ eqb (length names) 0)
 
 abbrev pub undoNumber : List Model → ℕ
 undoNumber [] = 16

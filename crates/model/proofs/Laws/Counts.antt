@@ -1,14 +1,14 @@
 -- PLACES: the folder that a path is in, opened; whether it has a place left (13), by its names; and the same of a move, whose own place counts too.
 use Prim.Native.Nat.{ℕ, _+_, _-_, _*_, _≤_, _<_}
 use mathlib.Core.Path.{_≡_, refl, sym, ap, _∙_, subst}
-use mathlib.Core.Bool.{Bool, true, false, not, _||_, or-true, false≢true}
+use mathlib.Core.Bool.{Bool, true, false, not, _||_, or-true}
 use mathlib.Core.List.{List, [], _∷_}
 use mathlib.Core.Logic.{inl, _≢_}
 use native.Mathlib.Omega.{arith}
 use native.Mathlib.Decide.{ℕ-discrete}
 use borrow.Author.Tests.{eqb-true, ne-eqb, eq-eqb}
 use lib.ListN.{length, getD}
-use lib.Dec.{eqb}
+use lib.Dec.{eqb, ltb}
 use Rattle.layout.specs.Lists.{same}
 use Rattle.layout.specs.Directory.{slotAt, typeOf, firstBlock, isFree, isFile, isDirectory, directory, rootOf, freeSlot, isEmpty}
 use Rattle.layout.specs.Check.{check}
@@ -20,15 +20,13 @@ use Rattle.layout.proofs.Laws.Slots.{slot-other}
 use Rattle.layout.proofs.Laws.Trees.{sizeAt, length-directory}
 use Rattle.layout.proofs.Laws.Sound.{sound}
 use Rattle.layout.proofs.Laws.Ways.{same-home}
-use Rattle.volume.specs.Views as views
-use Rattle.volume.specs.Views.{folderAt}
 use Rattle.volume.specs.Move.{openSlot, moveSlot}
 use Rattle.volume.proofs.Laws.Places.{At, file-at-path}
-use Rattle.model.specs.Model.{Folder, folder, Model}
+use Rattle.model.specs.Model.{Model}
 use Rattle.model.specs.Looks.{noFile}
-use Rattle.model.specs.Refusals.{parentOf, inFolder, noFolder, hasPlace, placeIn, isBare}
-use Rattle.model.specs.Listing.{roomFor, Counted, goal, leadsOn, staysIn}
-use Rattle.model.specs.Refines.{asFolder, Shows, namesIn}
+use Rattle.model.specs.Refusals.{parentOf, inFolder, noFolder}
+use Rattle.model.specs.Listing.{Lists, folderBlocks, roomFor, goal, leadsOn, staysIn}
+use Rattle.model.specs.Refines.{Shows, namesIn, hasPlace, placeIn, isBare}
 use Rattle.model.proofs.Laws.Nodes.{isShownFolder}
 use Rattle.model.proofs.Laws.Trees.{outer-shown, folder-accepted}
 use Rattle.model.proofs.Laws.Looks.{number-shown}
@@ -53,19 +51,18 @@ or-none true = refl
 or-none false = refl
 
 module _ (s : List ℕ) (m : Model) (S : Shows s m) (ok : check s ≡ 0) where
-  no-root-folder : (d : Folder) → m .at [] ≡ folder d → ⊥
-  unfolding folderAt directoryRefusal pathOk parts
-  no-root-folder d q = let w : asFolder (folder d) ≡ views.nothing = ap asFolder (sym q) ∙ sym (S .folders []) in false≢true (sym (ap isShownFolder w))
-
-  abbrev counts : (at : List ℕ) (b : ℕ) → Opened s at b → ((d : Folder) → m .at at ≡ folder d → sizeAt s b ≡ d .size) → Counted m at
-  counts at b F sized = record { names = namesIn s b; size = sizeAt s b; lists = listed s m S ok at b F; sized = sized }
+  root-blocks : sizeAt s (rootOf s) ≡ m .rootSize
+  root-blocks = sym (length-directory s (rootOf s)) ∙ S .rootSize
 
   -- A FOLDER REMOVED, or not: 18
-  pub bare-counted : (path : List ℕ) → noFolder m path ≡ 0 → (n : Counted m path) × (isBare s path ≡ eqb (length (n .names)) 0)
+  pub bare-counted : (path : List ℕ) → noFolder m path ≡ 0 → (names : List (List ℕ)) × Lists m path names × (isBare s path ≡ eqb (length names) 0)
   bare-counted path z =
       let r : directoryRefusal s path ≡ 0 = folder-number s m S ok path ∙ z in
-      let F = folder-opened s m S ok path r in
-      (counts path (firstBlock s (entryOf isDirectory s path)) F (folder-size s m S ok path r), bare-is s path ∙ empty-counted s m S ok path (firstBlock s (entryOf isDirectory s path)) F)
+      let F = folder-opened s m S ok path r in (
+        namesIn s (firstBlock s (entryOf isDirectory s path)),
+        listed s m S ok path (firstBlock s (entryOf isDirectory s path)) F,
+        bare-is s path ∙ empty-counted s m S ok path (firstBlock s (entryOf isDirectory s path)) F,
+      )
 
   -- THE FOLDER OF A PATH
   module _ (path : List ℕ) (good : pathOk path ≡ true) (low : shallow (leading (parts path)) ≡ true) where
@@ -82,7 +79,7 @@ module _ (s : List ℕ) (m : Model) (S : Shows s m) (ok : check s ≡ 0) where
     module _ (there : home s path ≢ 0) where
       record Above : Type 0 where
         opened : Opened s (parentOf path) (home s path)
-        sized : (d : Folder) → m .at (parentOf path) ≡ folder d → sizeAt s (home s path) ≡ d .size
+        sized : sizeAt s (home s path) ≡ folderBlocks m (parentOf path)
 
       in-root : leading (parts path) ≡ [] → Above
       in-root e =
@@ -90,7 +87,7 @@ module _ (s : List ℕ) (m : Model) (S : Shows s m) (ok : check s ≡ 0) where
           let p : parentOf path ≡ [] = rw e in
           record {
             opened = rw (h, p) (root-opened s);
-            sized = λ d q. absurd (no-root-folder d (rw p at q));
+            sized = rw (h, p) root-blocks;
           }
 
       in-folder : (p : List ℕ) (ps : List (List ℕ)) → leading (parts path) ≡ p ∷ ps → Above
@@ -103,7 +100,7 @@ module _ (s : List ℕ) (m : Model) (S : Shows s m) (ok : check s ≡ 0) where
           let z : home s path ≡ firstBlock s (entryOf isDirectory s (parentOf path)) = ap (resolve s (rootOf s)) (sym (P .cuts)) ∙ F .leads in
           record {
             opened = subst (Opened s (parentOf path)) (sym z) F;
-            sized = λ d q. ap (sizeAt s) z ∙ folder-size s m S ok (parentOf path) r d q;
+            sized = ap (sizeAt s) z ∙ folder-size s m S ok (parentOf path) r;
           }
 
       above : Above
@@ -114,8 +111,12 @@ module _ (s : List ℕ) (m : Model) (S : Shows s m) (ok : check s ≡ 0) where
           go (p ∷ ps) e = in-folder p ps e
 
       -- 13
-      pub place-counts : (n : Counted m (parentOf path)) × (hasPlace s path ≡ roomFor (n .size) (n .names))
-      place-counts = (counts (parentOf path) (home s path) (above .opened) (above .sized), place-is s path ∙ place-counted s m S ok (parentOf path) (home s path) (above .opened))
+      pub place-counts : (names : List (List ℕ)) × Lists m (parentOf path) names × (hasPlace s path ≡ roomFor m (parentOf path) names)
+      place-counts = (
+        namesIn s (home s path),
+        listed s m S ok (parentOf path) (home s path) (above .opened),
+        place-is s path ∙ place-counted s m S ok (parentOf path) (home s path) (above .opened) ∙ ap (λ (k : ℕ). ltb (length (namesIn s (home s path))) (4 * k - 2)) (above .sized),
+      )
 
   led : (path : List ℕ) → pathOk path ≡ true → shallow (leading (parts path)) ≡ true → inFolder m path ≡ true → home s path ≢ 0
   led path good low h z = true-not-false (home-shown s m S ok path good low ∙ h) (ap not (eq-eqb (home s path) 0 z))
@@ -169,26 +170,25 @@ module _ (s : List ℕ) (m : Model) (S : Shows s m) (ok : check s ≡ 0) where
         (λ k. isFree (typeOf s (slotAt (directory s (home s to)) k)) || eqb (slotAt (directory s (home s to)) k) (slotAt (directory s (home s path)) (pathSlot isFile s path)))
         (4 * length (directory s (home s to)) - 2) 1 (each ne))
 
-    pub move-counts : (n : Counted m (parentOf to)) × (not (eqb (moveSlot s path to) 0) ≡ same (parentOf path) (parentOf to) || roomFor (n .size) (n .names))
-    move-counts = (n, go (ℕ-discrete (home s path) (home s to)))
+    pub move-counts : (names : List (List ℕ)) × Lists m (parentOf to) names × (not (eqb (moveSlot s path to) 0) ≡ same (parentOf path) (parentOf to) || roomFor m (parentOf to) names)
+    move-counts = let w = place-counts to good low there in (w .0, w .1, go (w .0) (w .2) (ℕ-discrete (home s path) (home s to)))
       where
-        n : Counted m (parentOf to)
-        n = place-counts to good low there .0
-
-        go : Dec (home s path ≡ home s to) → not (eqb (moveSlot s path to) 0) ≡ same (parentOf path) (parentOf to) || roomFor (n .size) (n .names)
-        go (yes e) =
+        go : (names : List (List ℕ)) → hasPlace s to ≡ roomFor m (parentOf to) names → Dec (home s path ≡ home s to) → not (eqb (moveSlot s path to) 0) ≡ same (parentOf path) (parentOf to) || roomFor m (parentOf to) names
+        go names h (yes e) =
             let l = same-home s (sound s ok) path to (A .short) low (A .there) e in
             let q : parentOf path ≡ parentOf to = rw l in
             within e ∙ rw (q, same-refl (parentOf to))
-        go (no ne) =
+        go names h (no ne) =
             let f : same (parentOf path) (parentOf to) ≡ false =
             is-false (same (parentOf path) (parentOf to))
             (λ t. ne (unfold home in
             ap (resolve s (rootOf s)) (sym (parent-cuts path (A .good) (A .short)) ∙ ap parts (same-eq _ _ t) ∙ parent-cuts to good low))) in
-            ap (λ (k : ℕ). not (eqb k 0)) (across ne) ∙ sym (place-is s to) ∙ place-counts to good low there .1 ∙ rw f
+            ap (λ (k : ℕ). not (eqb k 0)) (across ne) ∙ sym (place-is s to) ∙ h ∙ rw f
 
   -- ANY CHANGE
-  pub places : (path : List ℕ) (tos : List (List ℕ)) → leadsOn m path tos ≡ true → (n : Counted m (parentOf (goal path tos))) × (placeIn s path tos ≡ staysIn path tos || roomFor (n .size) (n .names))
+  pub places : (path : List ℕ) (tos : List (List ℕ)) → leadsOn m path tos ≡ true
+      → let at = parentOf (goal path tos) in
+      (names : List (List ℕ)) × Lists m at names × (placeIn s path tos ≡ staysIn path tos || roomFor m at names)
   places path [] h =
       let a = and-split (pathOk path) _ h in
       let b = and-split (shallow (leading (parts path))) _ (a .1) in

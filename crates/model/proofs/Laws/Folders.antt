@@ -1,7 +1,7 @@
 -- A FOLDER OF THE IMAGE AND ITS NAMES: the names in its slots are those of the model, 13 counts them, and 18 asks whether there is one.
 use Prim.Native.Nat.{ℕ, zero, suc, _+_, _-_, _*_, _≤_, _<_}
 use mathlib.Core.Path.{_≡_, refl, sym, ap, _∙_, subst}
-use mathlib.Core.Bool.{Bool, true, false, not, cond}
+use mathlib.Core.Bool.{Bool, true, false, not, cond, false≢true}
 use mathlib.Core.List.{List, [], _∷_, _++_, map, append-nil}
 use mathlib.Core.Logic.{_⊎_, inl, inr, ⊎-elim, _≢_}
 use native.Mathlib.Omega.{arith}
@@ -27,9 +27,10 @@ use Rattle.volume.specs.Views as views
 use Rattle.volume.specs.Views.{folderOf}
 use Rattle.volume.proofs.Laws.Places.{At, directory-at-path}
 use Rattle.store.proofs.Laws.Serials.{cut-append}
-use Rattle.model.specs.Model.{Folder, folder, Model, showsNothing}
-use Rattle.model.specs.Listing.{child, Lists, roomFor}
+use Rattle.model.specs.Model.{Node, nothing, file, folder, Model, blocks, showsNothing}
+use Rattle.model.specs.Listing.{child, Lists, folderBlocks}
 use Rattle.model.specs.Refines.{asFolder, Shows, namesIn, usedSlots}
+use Rattle.model.proofs.Laws.Nodes.{isShownFolder}
 use Rattle.model.proofs.Laws.Steps.{folder-shown}
 use Rattle.model.proofs.Laws.Parents.{cut-word, child-some, found, some-there, taken-shown}
 
@@ -188,6 +189,17 @@ root-opened s =
       cuts = λ name g. one-word name g;
     }
 
+-- the blocks of a folder that a path shows
+folder-blocks : (x : Node) → isShownFolder (asFolder x) ≡ true → blocks x ≡ views.sizeIn (asFolder x)
+folder-blocks nothing h = absurd (false≢true h)
+folder-blocks (file f) h = absurd (false≢true h)
+folder-blocks (folder d) h = refl
+
+some-blocks : (m : Model) (path : List ℕ) → 1 ≤ length (parts path) → folderBlocks m path ≡ blocks (m .at path)
+unfolding parts
+some-blocks m [] h = absurd (omega arith)
+some-blocks m (x ∷ xs) h = refl
+
 child-parts : (at name : List ℕ) → 1 ≤ length (parts at) → goodName name ≡ true → parts (child at name) ≡ parts at ++ (name ∷ [])
 unfolding parts
 child-parts [] name h g = absurd (omega arith)
@@ -247,12 +259,12 @@ module _ (s : List ℕ) (m : Model) (S : Shows s m) (ok : check s ≡ 0) (path :
         cuts = λ name g. child-parts path name one-part g;
       }
 
-  pub folder-size : (d : Folder) → m .at path ≡ folder d → sizeAt s (firstBlock s (entryOf isDirectory s path)) ≡ d .size
+  pub folder-size : sizeAt s (firstBlock s (entryOf isDirectory s path)) ≡ folderBlocks m path
   unfolding entryOf folderOf
-  folder-size d q =
+  folder-size =
       let a = childOk-split s (blockCount s) (home s path) e (T .tree .local (home s path, A .level) (A .home-in) .child e kid) .1 in
-      let w : asFolder (folder d) ≡ views.just (folderOf s (entryOf isDirectory s path)) = ap asFolder (sym q) ∙ sym (S .folders path) ∙ folder-shown s path r in
-      a ∙ sym (ap views.sizeIn w)
+      let w : asFolder (m .at path) ≡ views.just (folderOf s (entryOf isDirectory s path)) = sym (S .folders path) ∙ folder-shown s path r in
+      a ∙ sym (ap views.sizeIn w) ∙ sym (folder-blocks (m .at path) (ap isShownFolder w)) ∙ sym (some-blocks m path one-part)
 
 -- WHAT IS IN IT
 module _ (s : List ℕ) (m : Model) (S : Shows s m) (ok : check s ≡ 0) (at : List ℕ) (b : ℕ) (F : Opened s at b) where
@@ -370,7 +382,7 @@ module _ (s : List ℕ) (m : Model) (S : Shows s m) (ok : check s ≡ 0) (at : L
   length-names = length-map (λ k. nameOf s (place k)) (usedSlots s b)
 
   -- 13 and 18 count them
-  pub place-counted : not (eqb (freeSlot s (directory s b)) 0) ≡ roomFor (sizeAt s b) (namesIn s b)
+  pub place-counted : not (eqb (freeSlot s (directory s b)) 0) ≡ ltb (length (namesIn s b)) (4 * sizeAt s b - 2)
   unfolding freeSlot usedSlots
   place-counted =
       place-count (λ k. isFree (typeOf s (slotAt (directory s b) k))) (4 * length (directory s b) - 2)

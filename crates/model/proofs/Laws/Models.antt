@@ -90,6 +90,15 @@ set-blocks : (m : Model) (path : List ℕ) (x : Node) → blocks x ≤ m .free +
 unfolding setAt
 set-blocks m path x h = omega arith
 
+brought-root : (x : Node) (tos : List (List ℕ)) (m : Model) → brought x tos m .rootSize ≡ m .rootSize
+unfolding setAt
+brought-root x [] m = refl
+brought-root x (to ∷ tos) m = brought-root x tos m
+
+pub step-root : (m : Model) (c : Change) → step m c .rootSize ≡ m .rootSize
+unfolding step setAt
+step-root m c = brought-root (m .at (subject c)) (further c) (setAt m (subject c) (becomes c (m .at (subject c))))
+
 brought-other : (x : Node) (tos : List (List ℕ)) (m : Model) (path : List ℕ) → (In path tos → ⊥) → brought x tos m .at path ≡ m .at path
 brought-other x [] m path out = refl
 brought-other x (to ∷ tos) m path out = set-other (brought x tos m) to x path (λ z. out (inl z)) ∙ brought-other x tos m path (λ i. out (inr i))
@@ -242,7 +251,7 @@ module _ (m : Model) (c d : Change) (ne : subject c ≢ subject d) (c-first : al
 
 pub either-order-model : (m : Model) (c d : Change) → subject c ≢ subject d → allows m c ≡ true → allows (step m c) d ≡ true → allows m d ≡ true → allows (step m d) c ≡ true
     → Alike (step (step m c) d) (step (step m d) c)
-either-order-model m c d ne f g h k = record { at = λ path. each path (in-or-not path (subjects c)) (in-or-not path (subjects d)); free = same-free }
+either-order-model m c d ne f g h k = record { at = λ path. each path (in-or-not path (subjects c)) (in-or-not path (subjects d)); free = same-free; rootSize = step-root (step m c) d ∙ step-root m c ∙ sym (step-root (step m d) c ∙ step-root m d) }
   where
     en : subject d ≢ subject c
     en z = ne (sym z)

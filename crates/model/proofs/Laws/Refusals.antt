@@ -43,8 +43,8 @@ use Rattle.volume.proofs.Laws.Places.{path-levels}
 use Rattle.volume.proofs.Laws.Room.{room-is}
 use Rattle.model.specs.Model.{File, Node, nothing, file, folder, Model, blocks, becomes, showsNothing, showsFolder, settings, new, written, step, showsFile}
 use Rattle.model.specs.Looks.{bytesIn, attributesIn, noFile}
-use Rattle.model.specs.Refines.{asFolder, Shows}
-use Rattle.model.specs.Refusals.{inFolder, newNumber, noFolder, roomNumber, putNumber, refusalIn, hasPlace, placeFor, isBare}
+use Rattle.model.specs.Refines.{asFolder, Shows, hasPlace, placeFor, isBare}
+use Rattle.model.specs.Refusals.{inFolder, newNumber, noFolder, roomNumber, putNumber, refusalIn}
 use Rattle.model.proofs.Laws.Nodes.{splice-length, isShownFolder, settings-of, is-in}
 use Rattle.model.proofs.Laws.Models.{nothing-blocks, own-at, free-one}
 use Rattle.model.proofs.Laws.Steps.{refines, allowed}

@@ -21,8 +21,7 @@ use Rattle.journal.proofs.Laws.Runs.{Stand, One, one-call, run-stands}
 use Rattle.journal.proofs.Theorems.{every-run}
 use Rattle.layout.proofs.Laws.Tests.{require-zero, firstOf-zero}
 use Rattle.model.specs.Model.{Model}
-use Rattle.model.specs.Refines.{Shows}
-use Rattle.model.specs.Refusals.{placeIn, placeFor, isBare}
+use Rattle.model.specs.Refines.{Shows, placeIn, placeFor, isBare}
 use Rattle.model.specs.Runs.{Story, tells, told, LookSays, Decided, undoNumber, Says, AllSaid, ModelRunTheorem, modelled}
 use Rattle.model.proofs.Laws.Steps.{refines}
 use Rattle.model.proofs.Laws.Refusals.{decided}
@@ -72,7 +71,7 @@ look-says s m S ok (findFile path) =
 look-says s m S ok (readFile path offset buffer) = ap filled (read-model s m S ok path offset buffer)
 look-says s m S ok (lookAt path i) = (extentOf s path i, ap (shown (extentOf s path i)) (look-model s m S ok path i))
 look-says s m S ok (readAttributesOf path buffer) = ap filled (attributes-model s m S ok path buffer)
-look-says s m S ok (showVolume buffer) = (volumeInfo s buffer, refl, rw ok (S .free))
+look-says s m S ok (showVolume buffer) = (volumeInfo s buffer, refl, rw ok (S .free), rw ok (S .rootSize))
 look-says s m S ok (showEntry path start buffer) = (nextEntry s path start buffer, refl, entry-says s m S ok path buffer start)
 look-says s m S ok (getSettingsIn directory serial which buffer) = ap got (get-model s m S ok directory serial which buffer)
 
@@ -88,7 +87,7 @@ weighs s m S ok c fits number e =
       empty = isBare s (subject c);
       fits = fits;
       is = e ∙ ap (λ (k : ℕ). firstOf k (require fits 15 0)) (decided s m S ok c);
-      placed = λ h. let w = places s m S ok (subject c) (further c) h in (w .0, place-for s c ∙ w .1);
+      placed = λ h. let w = places s m S ok (subject c) (further c) h in (w .0, w .1, place-for s c ∙ w .2);
       bare = bare-counted s m S ok (subject c);
     }
 

@@ -50,7 +50,8 @@ use Rattle.model.specs.Model.{Node, nothing, file, folder, Model, blocks
 use Rattle.model.proofs.Laws.Allows.{onlyFile, notFolder, suits, allows}
 use Rattle.model.specs.Refines.{asFile, asFolder, Shows}
 use Rattle.model.proofs.Laws.Nodes.{made-becomes, folder-becomes, blocks-become, isShown, isShownFolder, lengthShown, none-node, file-node, within-node, folder-node, settings-of}
-use Rattle.model.proofs.Laws.Models.{Moves, one-or-two, own-at, come-at, other-at, free-one, free-moved}
+use Rattle.model.proofs.Laws.Roots.{root-kept}
+use Rattle.model.proofs.Laws.Models.{Moves, one-or-two, step-root, own-at, come-at, other-at, free-one, free-moved}
 
 -- where there is a place for a new entry, nothing is shown
 placed-file : (s path : List ℕ) → placeRefusal s path ≡ 0 → fileAt s path ≡ views.nothing
@@ -226,7 +227,7 @@ module _ (s : List ℕ) (m : Model) (S : Shows s m) (ok : check s ≡ 0) (c : Ch
 
   -- THE STEP
   pub refines : Shows (after s c) (step m c)
-  refines = record { files = λ path. file-at path (in-or-not path (subjects c)); folders = λ path. folder-at path (in-or-not path (subjects c)); free = free-is }
+  refines = record { files = λ path. file-at path (in-or-not path (subjects c)); folders = λ path. folder-at path (in-or-not path (subjects c)); free = free-is; rootSize = root-kept s ok c r ∙ S .rootSize ∙ sym (step-root m c) }
 
 -- SETTINGS: after an accepted put they are what was there, and one more
 pub put-adds : (s : List ℕ) (m : Model) → Shows s m → (ok : check s ≡ 0) (directory serial : List ℕ) (time : ℕ) (bytes : List ℕ) → refusal s (putIn directory serial time bytes) ≡ 0
