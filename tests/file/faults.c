@@ -16,7 +16,7 @@ static pair seen;
 static int committed_by_flush;   /* whether the second flush decides */
 
 static const char *const fault_names[FAULTS] = {
-    "no fault", "fails", "is full", "is short", "is interrupted", "power before", "power half way", "power after"
+    "no fault", "fails", "is full", "moves no byte", "is short", "is interrupted", "power before", "power half way", "power after"
 };
 
 /* Which changes a save has: few sectors, or those of puts. */
@@ -244,11 +244,20 @@ static int tidy(uint32_t error)
         || error == BULGEFS_VOLUME_LOCK;
 }
 
-/* Without a cut: an error says the system's number and leaves no new file; else all is as asked for. */
+/* The error is that of the call that failed, with the system's number; there is none if no call failed. */
+static int well_told(bulgefs_volume_result r, enum fault fault)
+{
+    uint32_t error = disk_error(), number = fault == IS_FULL ? FULL_NUMBER : FAULT_NUMBER;
+    if (error == 0 || error == BULGEFS_VOLUME_NO_MEMORY || fault == MOVES_NONE)
+        number = 0;
+    return r.error == error && r.system == number && r.refusal == 0;
+}
+
+/* Without a cut: an error is told and leaves no new file; else all is as asked for. */
 static void run_fault(const struct scenario *s, enum fault fault, unsigned at)
 {
     bulgefs_volume_result r;
-    int holds, told;
+    int holds;
     unsigned flushes;
     change = s->change;
     disk_seed(at + 1);
@@ -256,11 +265,9 @@ static void run_fault(const struct scenario *s, enum fault fault, unsigned at)
     s->world();
     disk_arm(fault, at);
     r = s->act();
-    told = r.error == 0 || r.error == BULGEFS_VOLUME_NO_MEMORY || r.system == FAULT_NUMBER || r.system == FULL_NUMBER;
-    judge(told && all_closed() && tidy(r.error), "%s, call %u %s: error %u, number %u", s->name, at,
-          fault_names[fault], (unsigned)r.error, (unsigned)r.system);
-    if (fault == IS_SHORT || fault == INTERRUPTED)
-        judge(r.error == 0, "%s, call %u %s: error %u", s->name, at, fault_names[fault], (unsigned)r.error);
+    judge(well_told(r, fault), "%s, call %u %s: error %u, number %u, and not error %u", s->name, at, fault_names[fault],
+          (unsigned)r.error, (unsigned)r.system, (unsigned)disk_error());
+    judge(all_closed() && tidy(r.error), "%s, call %u %s: files or memory are left", s->name, at, fault_names[fault]);
     if (s->act == act_export)
         judge(exported(r.error == 0), "%s, call %u %s: the pair's files", s->name, at, fault_names[fault]);
     flushes = disk_count.flushes;

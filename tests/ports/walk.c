@@ -199,7 +199,7 @@ static void format(void)
     fill(label, sizeof label);
     for (int tries = 0; number != 0 && tries < 60; tries++) {
         root = one_in(6) ? below(66) : 1 + below(5);
-        root = wide32(root);
+        if (one_in(3)) root |= (uint32_t)1 << (8 + below(24));
         time = next();
         label_len = one_in(9) ? 127 + below(3) : one_in(9) ? 128 + 256 : 128;
         number = bulgefs_format(IMAGE, root, time, uuid, label, label_len);
@@ -323,7 +323,7 @@ static void path_of_file(void)
     else if (one_in(12)) path_len = add_name(path, path_len, "d", below(3));
     else path_len = add_name(path, path_len, "f", below(4));
     if (one_in(50)) path_len = spoil(path, path_len);
-    if (one_in(25)) path_len = lengthen(path, path_len);
+    if (one_in(8)) path_len = lengthen(path, path_len);
 }
 
 static void path_of_directory(void)
@@ -332,7 +332,7 @@ static void path_of_directory(void)
     path_len = directories(path);
     path_len = add_name(path, path_len, "d", digit);
     if (one_in(50)) path_len = spoil(path, path_len);
-    if (one_in(25)) path_len = lengthen(path, path_len);
+    if (one_in(8)) path_len = lengthen(path, path_len);
 }
 
 static void box(void)
@@ -342,10 +342,10 @@ static void box(void)
     directory_len = directories(directory);
     if (directory_len == 0) directory_len = 1;
     if (one_in(30)) directory_len = spoil(directory, directory_len);
-    if (one_in(25)) directory_len = lengthen(directory, directory_len);
+    if (one_in(12)) directory_len = lengthen(directory, directory_len);
     for (serial_len = 0; base[serial_len]; serial_len++) serial[serial_len] = (uint8_t)base[serial_len];
     serial[serial_len++] = (uint8_t)('0' + below(3));
-    if (one_in(25)) serial_len = lengthen(serial, serial_len);
+    if (one_in(12)) serial_len = lengthen(serial, serial_len);
     if (!one_in(30)) return;
     switch (below(4)) {
     case 0: serial_len = 0; break;
@@ -664,7 +664,7 @@ static void put_filled(unsigned kind, bulgefs_filled f)
 
 static void read_file(void)
 {
-    size_t room = below(5001);
+    size_t room = one_in(2) ? below(40) : below(5001);
     uint64_t offset = one_in(40) ? next() : one_in(2) ? 0 : below(3000);
     offset = wide(offset);
     path_of_file();
@@ -673,7 +673,7 @@ static void read_file(void)
 
 static void read_next(void)
 {
-    size_t room = below(1500);
+    size_t room = one_in(2) ? below(40) : below(1500);
     if (one_in(6)) w->position = one_in(9) ? next() : below(700);
     if (one_in(6)) w->position = wide(w->position);
     path_of_file();
@@ -929,7 +929,7 @@ static void step(void)
 {
     int large = one_in(150);
     w = &worlds[large ? WORLDS - 1 : below(WORLDS - 1)];
-    if (w->image == 0 || one_in(large ? 20 : 500)) {
+    if (w->image == 0 || one_in(large ? 20 : 150)) {
         new_world();
         if (large) all_steps();
     }
