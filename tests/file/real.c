@@ -575,7 +575,8 @@ static void run_kills(unsigned kills)
 
 int host_other(char **words, intptr_t in, intptr_t out)
 {
-    strcpy(path, words[1]);
+    if (words[1] != path)
+        strcpy(path, words[1]);
     if (strcmp(words[0], "save") == 0)
         return save_on(out);
     return hold_on(strcmp(words[0], "look") == 0 ? BULGEFS_VOLUME_LOOK : BULGEFS_VOLUME_CHANGE, in, out);
