@@ -53,13 +53,29 @@ static uint32_t wide32(uint32_t v)
     return v | (uint32_t)1 << (8 + below(24));
 }
 
+/* A compiler makes one load or store of the eight bytes, so that large images take little time under an emulator. */
+static void put_eight(uint8_t *bytes, uint64_t v)
+{
+    for (int k = 0; k < 8; k++) bytes[k] = (uint8_t)(v >> (8 * k));
+}
+
+static uint64_t get_eight(const uint8_t *bytes)
+{
+    uint64_t v = 0;
+    for (int k = 0; k < 8; k++) v |= (uint64_t)bytes[k] << (8 * k);
+    return v;
+}
+
 static void fill(uint8_t *bytes, size_t n)
 {
     uint64_t v = next();
-    for (size_t i = 0; i < n; i++) {
-        if (i % 8 == 0) v = v * 0x9E3779B97F4A7C15u + i;
-        bytes[i] = (uint8_t)(v >> (8 * (i % 8)));
+    size_t i = 0;
+    for (; i + 8 <= n; i += 8) {
+        v = v * 0x9E3779B97F4A7C15u + i;
+        put_eight(bytes + i, v);
     }
+    v = v * 0x9E3779B97F4A7C15u + i;
+    for (size_t k = 0; i + k < n; k++) bytes[i + k] = (uint8_t)(v >> (8 * k));
 }
 
 static void flip(uint8_t *bytes, size_t n)
@@ -83,12 +99,12 @@ static void put(uint64_t v)
 
 static void put_bytes(const uint8_t *bytes, size_t n)
 {
+    uint64_t v = 0;
+    size_t i = 0;
     put(n);
-    for (size_t i = 0; i < n; i += 8) {
-        uint64_t v = 0;
-        for (size_t k = 0; k < 8 && i + k < n; k++) v |= (uint64_t)bytes[i + k] << (8 * k);
-        put(v);
-    }
+    for (; i + 8 <= n; i += 8) put(get_eight(bytes + i));
+    for (size_t k = 0; i + k < n; k++) v |= (uint64_t)bytes[i + k] << (8 * k);
+    if (i < n) put(v);
 }
 
 static void answer(unsigned kind, uint32_t number)
