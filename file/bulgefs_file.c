@@ -111,7 +111,7 @@ static bulgefs_volume_result read_file(const bulgefs_system *s, intptr_t file, u
         if (moved == BULGEFS_SYSTEM_INTERRUPTED)
             continue;
         if (moved <= 0)
-            return failed(BULGEFS_VOLUME_READ, number);
+            return failed(BULGEFS_VOLUME_READ, moved < 0 ? number : 0);
         at += (size_t)moved;
     }
     return done();
@@ -128,7 +128,7 @@ static bulgefs_volume_result write_file(const bulgefs_system *s, intptr_t file, 
         if (moved == BULGEFS_SYSTEM_INTERRUPTED)
             continue;
         if (moved <= 0)
-            return failed(BULGEFS_VOLUME_WRITE, number);
+            return failed(BULGEFS_VOLUME_WRITE, moved < 0 ? number : 0);
         start += (size_t)moved;
     }
     return done();

@@ -214,7 +214,8 @@ bulgefs_volume_result bulgefs_volume_create(const char *path,
  *
  * A new file is written as by create, gets owner and rights of the old one, and
  * takes its name.  Whenever power fails, the old or the new file has the name.  The
- * same holds after an error.  If the path is a link, the link is replaced.
+ * same holds after an error.  If the path is a link, the link is replaced.  Windows
+ * can do this from version 10 on, on NTFS; else it is BULGEFS_VOLUME_RENAME there.
  */
 BULGEFS_CHECKED
 bulgefs_volume_result bulgefs_volume_grow(const char *path, size_t journal_len,

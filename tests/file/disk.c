@@ -33,6 +33,7 @@ static struct { int used, file, lock, writes; } opens[OPENS];
 static enum fault armed;
 static unsigned armed_at;
 static int dead, struck;
+static uint32_t struck_error;
 disk_counts disk_count;
 void (*disk_meanwhile)(void);
 static uint64_t state = 88172645463325252u;
@@ -301,6 +302,7 @@ void disk_arm(enum fault fault, unsigned at)
     armed = fault;
     armed_at = at;
     struck = dead = 0;
+    struck_error = 0;
 }
 
 int disk_struck(void)
@@ -308,14 +310,21 @@ int disk_struck(void)
     return struck;
 }
 
-/* Counts a call, and says which fault it has. */
-static enum fault meet(void)
+uint32_t disk_error(void)
+{
+    return struck_error;
+}
+
+/* Counts a call, whose failure is this error, and says which fault it has. */
+static enum fault meet(uint32_t error)
 {
     if (dead)
         return CUT_BEFORE;
     if (disk_count.calls++ != armed_at || armed == NO_FAULT)
         return NO_FAULT;
     struck = 1;
+    if (armed == FAILS)
+        struck_error = error;
     if (armed == CUT_BEFORE || armed == CUT_HALF || armed == CUT_AFTER)
         dead = 1;
     return armed;
@@ -344,11 +353,12 @@ static void *sim_allocate(void *context, size_t size)
     (void)context;
     if (size == 0)
         stop("no bytes asked for");
-    if (meet() == FAILS)
+    if (meet(BULGEFS_VOLUME_NO_MEMORY) == FAILS)
         return NULL;
     memory = malloc(size);
     if (!memory)
         stop("no memory");
+    memset(memory, 0xA5, size);   /* nobody may count on zeros */
     disk_count.memory++;
     return memory;
 }
@@ -367,7 +377,7 @@ static int64_t sim_open(void *context, const char *path, int how, intptr_t *file
     int i = find(path), o = 0;
     (void)context;
     *file = -77;
-    if (spoilt(meet(), number, &answer))
+    if (spoilt(meet(BULGEFS_VOLUME_OPEN), number, &answer))
         return answer;
     if (i < 0 && how != BULGEFS_SYSTEM_MAKE) {
         *number = 2;
@@ -396,7 +406,7 @@ static int64_t sim_lock(void *context, intptr_t file, int alone, uint32_t *numbe
     disk_meanwhile = NULL;
     if (meanwhile)
         meanwhile();
-    if (spoilt(meet(), number, &answer))
+    if (spoilt(meet(BULGEFS_VOLUME_LOCK), number, &answer))
         return answer;
     if (f->lock < 0 || (alone && f->lock > 0)) {
         *number = 11;
@@ -412,7 +422,7 @@ static int64_t sim_same(void *context, intptr_t file, const char *path, uint32_t
     int64_t answer;
     int i = find(path);
     (void)context;
-    if (spoilt(meet(), number, &answer))
+    if (spoilt(meet(BULGEFS_VOLUME_OPEN), number, &answer))
         return answer;
     return i >= 0 && names()->file[i] == opens[file].file;
 }
@@ -431,7 +441,7 @@ static int64_t sim_flush(void *context, intptr_t file, uint32_t *number)
 {
     int64_t answer;
     file_state *f = of(file);
-    enum fault fault = meet();
+    enum fault fault = meet(BULGEFS_VOLUME_FLUSH);
     (void)context;
     if (!opens[file].writes)
         stop("a flush of a file opened to look");
@@ -458,7 +468,7 @@ static int64_t sim_length(void *context, intptr_t file, uint32_t *number)
 {
     int64_t answer;
     (void)context;
-    if (spoilt(meet(), number, &answer))
+    if (spoilt(meet(BULGEFS_VOLUME_READ), number, &answer))
         return answer;
     return (int64_t)of(file)->cache_len;
 }
@@ -466,6 +476,8 @@ static int64_t sim_length(void *context, intptr_t file, uint32_t *number)
 /* How many bytes of a transfer are moved. */
 static size_t moved(enum fault fault, size_t length)
 {
+    if (fault == MOVES_NONE)
+        return 0;
     if (fault == CUT_HALF)
         return length / 2;
     if (fault == IS_SHORT && length > 1)
@@ -477,10 +489,12 @@ static int64_t sim_read(void *context, intptr_t file, uint8_t *to, size_t length
 {
     int64_t answer;
     file_state *f = of(file);
-    enum fault fault = meet();
+    enum fault fault = meet(BULGEFS_VOLUME_READ);
     (void)context;
     if (spoilt(fault, number, &answer))
         return answer;
+    if (fault == MOVES_NONE)
+        struck_error = BULGEFS_VOLUME_READ;
     if (at >= f->cache_len)
         return 0;
     if (length > f->cache_len - at)
@@ -507,7 +521,7 @@ static int64_t sim_write(void *context, intptr_t file, const uint8_t *from, size
     int64_t answer;
     int was_dead = dead;
     file_state *f = of(file);
-    enum fault fault = meet();
+    enum fault fault = meet(BULGEFS_VOLUME_WRITE);
     (void)context;
     if (!opens[file].writes)
         stop("a write to a file opened to look");
@@ -515,6 +529,8 @@ static int64_t sim_write(void *context, intptr_t file, const uint8_t *from, size
         put_bytes(f, from, moved(fault, length), (size_t)at);
     if (spoilt(fault, number, &answer))
         return answer;
+    if (fault == IS_FULL || fault == MOVES_NONE)
+        struck_error = BULGEFS_VOLUME_WRITE;
     if (fault == IS_FULL) {
         *number = FULL_NUMBER;
         return BULGEFS_SYSTEM_FAILED;
@@ -530,7 +546,7 @@ static int64_t sim_empty(void *context, intptr_t file, uint32_t *number)
 {
     int64_t answer;
     (void)context;
-    if (spoilt(meet(), number, &answer))
+    if (spoilt(meet(BULGEFS_VOLUME_WRITE), number, &answer))
         return answer;
     of(file)->cache_len = 0;
     disk_count.changes++;
@@ -543,7 +559,7 @@ static int64_t sim_rights(void *context, intptr_t from, intptr_t to, uint32_t *n
     (void)context;
     of(from);
     of(to);
-    return spoilt(meet(), number, &answer) ? answer : 0;
+    return spoilt(meet(BULGEFS_VOLUME_OPEN), number, &answer) ? answer : 0;
 }
 
 static int64_t sim_rename(void *context, intptr_t file, const char *from, const char *to, int over, uint32_t *number)
@@ -551,7 +567,7 @@ static int64_t sim_rename(void *context, intptr_t file, const char *from, const 
     int64_t answer;
     name_table *t;
     (void)context;
-    if (spoilt(meet(), number, &answer))
+    if (spoilt(meet(BULGEFS_VOLUME_RENAME), number, &answer))
         return answer;
     if (find(from) < 0 || names()->file[find(from)] != opens[file].file)
         stop("a rename of another file");
@@ -571,7 +587,7 @@ static int64_t sim_flush_directory(void *context, const char *path, uint32_t *nu
     int64_t answer;
     (void)context;
     (void)path;
-    if (spoilt(meet(), number, &answer))
+    if (spoilt(meet(BULGEFS_VOLUME_FLUSH), number, &answer))
         return answer;
     disk.table[0] = *names();
     disk.tables = 1;
@@ -582,7 +598,7 @@ static int64_t sim_flush_directory(void *context, const char *path, uint32_t *nu
 static void sim_remove(void *context, const char *path)
 {
     (void)context;
-    if (meet() == CUT_BEFORE || find(path) < 0)
+    if (meet(BULGEFS_VOLUME_OK) == CUT_BEFORE || find(path) < 0)
         return;
     name_table *t = change_names();
     t->file[find(path)] = -1;
@@ -593,7 +609,7 @@ static void sim_close(void *context, intptr_t file)
 {
     file_state *f = of(file);
     (void)context;
-    (void)meet();
+    (void)meet(BULGEFS_VOLUME_OK);
     if (opens[file].lock)
         f->lock = opens[file].lock < 0 ? 0 : f->lock - 1;
     opens[file].used = 0;

@@ -15,6 +15,7 @@ enum fault {
     NO_FAULT,
     FAILS,        /* it is not done; a flush that fails has lost some of the sectors, and forgets that */
     IS_FULL,      /* a write is not done, for want of room */
+    MOVES_NONE,   /* a read or a write is done, and moves no byte */
     IS_SHORT,     /* a read or a write moves one byte, or half of the bytes */
     INTERRUPTED,  /* it is not done, and the caller is asked to do it again */
     CUT_BEFORE,   /* power is cut: neither this call nor a later one is done */
@@ -48,6 +49,8 @@ void disk_new(void);
 void disk_arm(enum fault fault, unsigned at);
 /* Whether the fault has come up. */
 int disk_struck(void);
+/* The BULGEFS_VOLUME_ error of the call that failed by the fault; 0 if none did, or if that call cannot fail. */
+uint32_t disk_error(void);
 /* How many sectors are not flushed. */
 unsigned disk_unflushed(void);
 /* Power comes back: outcomes[i] is that of the i-th unflushed sector; at random where outcomes is NULL. */

@@ -16,7 +16,7 @@ static pair seen;
 static int committed_by_flush;   /* whether the second flush decides */
 
 static const char *const fault_names[FAULTS] = {
-    "no fault", "fails", "is full", "is short", "is interrupted", "power before", "power half way", "power after"
+    "no fault", "fails", "is full", "moves no byte", "is short", "is interrupted", "power before", "power half way", "power after"
 };
 
 /* Which changes a save has: few sectors, or those of puts. */
@@ -195,6 +195,14 @@ static int which(const pair *p)
     return (pair_same(p, &before) ? IS_BEFORE : 0) | (pair_same(p, &after) ? IS_AFTER : 0);
 }
 
+/* Whether the log of the file on the disk waits. */
+static int waits(void)
+{
+    size_t length = 0;
+    const uint8_t *bytes = disk_bytes("v", &length);
+    return bytes && bulgefs_file_parts(bytes, length).waits;
+}
+
 /* Opens the volume file and says what it holds; a file that is missing is the pair of before where it was missing. */
 static int found(const struct scenario *s)
 {
@@ -208,7 +216,7 @@ static int found(const struct scenario *s)
     if (r.error)
         return NEITHER;
     opened = which(&seen);
-    if (!pair_goes_back(&seen) || disk_unflushed())
+    if (!pair_goes_back(&seen) || disk_unflushed() || waits())
         return NEITHER;
     return looked == opened ? opened : NEITHER;
 }
@@ -244,11 +252,20 @@ static int tidy(uint32_t error)
         || error == BULGEFS_VOLUME_LOCK;
 }
 
-/* Without a cut: an error says the system's number and leaves no new file; else all is as asked for. */
+/* The error is that of the call that failed, with the system's number; there is none if no call failed. */
+static int well_told(bulgefs_volume_result r, enum fault fault)
+{
+    uint32_t error = disk_error(), number = fault == IS_FULL ? FULL_NUMBER : FAULT_NUMBER;
+    if (error == 0 || error == BULGEFS_VOLUME_NO_MEMORY || fault == MOVES_NONE)
+        number = 0;
+    return r.error == error && r.system == number && r.refusal == 0;
+}
+
+/* Without a cut: an error is told and leaves no new file; else all is as asked for. */
 static void run_fault(const struct scenario *s, enum fault fault, unsigned at)
 {
     bulgefs_volume_result r;
-    int holds, told;
+    int holds;
     unsigned flushes;
     change = s->change;
     disk_seed(at + 1);
@@ -256,11 +273,9 @@ static void run_fault(const struct scenario *s, enum fault fault, unsigned at)
     s->world();
     disk_arm(fault, at);
     r = s->act();
-    told = r.error == 0 || r.error == BULGEFS_VOLUME_NO_MEMORY || r.system == FAULT_NUMBER || r.system == FULL_NUMBER;
-    judge(told && all_closed() && tidy(r.error), "%s, call %u %s: error %u, number %u", s->name, at,
-          fault_names[fault], (unsigned)r.error, (unsigned)r.system);
-    if (fault == IS_SHORT || fault == INTERRUPTED)
-        judge(r.error == 0, "%s, call %u %s: error %u", s->name, at, fault_names[fault], (unsigned)r.error);
+    judge(well_told(r, fault), "%s, call %u %s: error %u, number %u, and not error %u", s->name, at, fault_names[fault],
+          (unsigned)r.error, (unsigned)r.system, (unsigned)disk_error());
+    judge(all_closed() && tidy(r.error), "%s, call %u %s: files or memory are left", s->name, at, fault_names[fault]);
     if (s->act == act_export)
         judge(exported(r.error == 0), "%s, call %u %s: the pair's files", s->name, at, fault_names[fault]);
     flushes = disk_count.flushes;
@@ -324,26 +339,37 @@ static void run_cut(const struct scenario *s, enum fault fault, unsigned at)
           fault_names[fault], at, flushes, sectors, error, good, turns);
 }
 
-/* Every fault at every call. */
-static void run_scenario(const struct scenario *s)
+/* How many calls a scenario makes where nothing fails. */
+static unsigned calls_of(const struct scenario *s)
 {
-    unsigned calls, at;
-    int fault;
-    run_fault(s, NO_FAULT, 0);
     change = s->change;
     disk_seed(1);
     s->world();
     disk_arm(NO_FAULT, 0);
     judge(s->act().error == 0, "%s", s->name);
-    calls = disk_count.calls;
-    for (fault = FAILS; fault < FAULTS; fault++)
-        for (at = 0; at < calls; at++) {
-            if (fault >= CUT_BEFORE)
-                run_cut(s, (enum fault)fault, at);
-            else
-                run_fault(s, (enum fault)fault, at);
-        }
+    return disk_count.calls;
+}
+
+/* Every fault but a cut at every call. */
+static void run_faults(const struct scenario *s)
+{
+    unsigned calls = calls_of(s), at;
+    int fault;
+    run_fault(s, NO_FAULT, 0);
+    for (fault = FAILS; fault < CUT_BEFORE; fault++)
+        for (at = 0; at < calls; at++)
+            run_fault(s, (enum fault)fault, at);
     printf("%s: %u calls\n", s->name, calls);
+}
+
+/* Every cut at every call. */
+static void run_cuts(const struct scenario *s)
+{
+    unsigned calls = calls_of(s), at;
+    int fault;
+    for (fault = CUT_BEFORE; fault < FAULTS; fault++)
+        for (at = 0; at < calls; at++)
+            run_cut(s, (enum fault)fault, at);
 }
 
 /* A save in which nothing changed writes nothing, and one to a volume opened to look is refused. */
@@ -413,6 +439,25 @@ static void run_replaced(void)
     judge(all_closed(), "files and memory given back");
 }
 
+/* A grow is killed at a call; then the file is opened and saved, and power is cut: what was saved stays. */
+static void run_killed_grow(unsigned at)
+{
+    bulgefs_volume_file v;
+    pair p;
+    disk_seed(at + 1);
+    world_plain();
+    disk_arm(CUT_BEFORE, at % 30);
+    (void)!act_grow().error;
+    disk_kill();
+    judge(bulgefs_volume_open(&v, "v", BULGEFS_VOLUME_CHANGE, &disk_system).error == 0, "an open after a killed grow");
+    v.own[1] ^= 1;
+    pair_take(&p, &v);
+    judge(bulgefs_volume_save(&v).error == 0, "a save after a killed grow");
+    bulgefs_volume_close(&v);
+    disk_power(NULL);
+    judge(act_open().error == 0 && pair_same(&seen, &p), "what was saved after a grow that was killed at call %u", at % 30);
+}
+
 /* Another program makes the same file, and holds it. */
 static void run_claimed(void)
 {
@@ -432,7 +477,11 @@ int main(void)
     run_quiet();
     run_replaced();
     run_claimed();
+    for (unsigned at = 0; at < 120; at++)
+        run_killed_grow(at);
     for (size_t i = 0; i < sizeof scenarios / sizeof scenarios[0]; i++)
-        run_scenario(&scenarios[i]);
+        run_faults(&scenarios[i]);
+    for (size_t i = 0; i < sizeof scenarios / sizeof scenarios[0]; i++)
+        run_cuts(&scenarios[i]);
     return finish_tests();
 }

@@ -21,6 +21,9 @@ void judge(int good, const char *format, ...)
         va_end(arguments);
         printf(": failed\n");
     }
+#if defined(STOP_AT_FAILURE)
+    exit(finish_tests());
+#endif
 }
 
 int finish_tests(void)

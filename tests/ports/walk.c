@@ -53,13 +53,29 @@ static uint32_t wide32(uint32_t v)
     return v | (uint32_t)1 << (8 + below(24));
 }
 
+/* A compiler makes one load or store of the eight bytes, so that large images take little time under an emulator. */
+static void put_eight(uint8_t *bytes, uint64_t v)
+{
+    for (int k = 0; k < 8; k++) bytes[k] = (uint8_t)(v >> (8 * k));
+}
+
+static uint64_t get_eight(const uint8_t *bytes)
+{
+    uint64_t v = 0;
+    for (int k = 0; k < 8; k++) v |= (uint64_t)bytes[k] << (8 * k);
+    return v;
+}
+
 static void fill(uint8_t *bytes, size_t n)
 {
     uint64_t v = next();
-    for (size_t i = 0; i < n; i++) {
-        if (i % 8 == 0) v = v * 0x9E3779B97F4A7C15u + i;
-        bytes[i] = (uint8_t)(v >> (8 * (i % 8)));
+    size_t i = 0;
+    for (; i + 8 <= n; i += 8) {
+        v = v * 0x9E3779B97F4A7C15u + i;
+        put_eight(bytes + i, v);
     }
+    v = v * 0x9E3779B97F4A7C15u + i;
+    for (size_t k = 0; i + k < n; k++) bytes[i + k] = (uint8_t)(v >> (8 * k));
 }
 
 static void flip(uint8_t *bytes, size_t n)
@@ -83,12 +99,12 @@ static void put(uint64_t v)
 
 static void put_bytes(const uint8_t *bytes, size_t n)
 {
+    uint64_t v = 0;
+    size_t i = 0;
     put(n);
-    for (size_t i = 0; i < n; i += 8) {
-        uint64_t v = 0;
-        for (size_t k = 0; k < 8 && i + k < n; k++) v |= (uint64_t)bytes[i + k] << (8 * k);
-        put(v);
-    }
+    for (; i + 8 <= n; i += 8) put(get_eight(bytes + i));
+    for (size_t k = 0; i + k < n; k++) v |= (uint64_t)bytes[i + k] << (8 * k);
+    if (i < n) put(v);
 }
 
 static void answer(unsigned kind, uint32_t number)
@@ -199,7 +215,7 @@ static void format(void)
     fill(label, sizeof label);
     for (int tries = 0; number != 0 && tries < 60; tries++) {
         root = one_in(6) ? below(66) : 1 + below(5);
-        root = wide32(root);
+        if (one_in(3)) root |= (uint32_t)1 << (8 + below(24));
         time = next();
         label_len = one_in(9) ? 127 + below(3) : one_in(9) ? 128 + 256 : 128;
         number = bulgefs_format(IMAGE, root, time, uuid, label, label_len);
@@ -323,7 +339,7 @@ static void path_of_file(void)
     else if (one_in(12)) path_len = add_name(path, path_len, "d", below(3));
     else path_len = add_name(path, path_len, "f", below(4));
     if (one_in(50)) path_len = spoil(path, path_len);
-    if (one_in(25)) path_len = lengthen(path, path_len);
+    if (one_in(8)) path_len = lengthen(path, path_len);
 }
 
 static void path_of_directory(void)
@@ -332,7 +348,7 @@ static void path_of_directory(void)
     path_len = directories(path);
     path_len = add_name(path, path_len, "d", digit);
     if (one_in(50)) path_len = spoil(path, path_len);
-    if (one_in(25)) path_len = lengthen(path, path_len);
+    if (one_in(8)) path_len = lengthen(path, path_len);
 }
 
 static void box(void)
@@ -342,10 +358,10 @@ static void box(void)
     directory_len = directories(directory);
     if (directory_len == 0) directory_len = 1;
     if (one_in(30)) directory_len = spoil(directory, directory_len);
-    if (one_in(25)) directory_len = lengthen(directory, directory_len);
+    if (one_in(12)) directory_len = lengthen(directory, directory_len);
     for (serial_len = 0; base[serial_len]; serial_len++) serial[serial_len] = (uint8_t)base[serial_len];
     serial[serial_len++] = (uint8_t)('0' + below(3));
-    if (one_in(25)) serial_len = lengthen(serial, serial_len);
+    if (one_in(12)) serial_len = lengthen(serial, serial_len);
     if (!one_in(30)) return;
     switch (below(4)) {
     case 0: serial_len = 0; break;
@@ -664,7 +680,7 @@ static void put_filled(unsigned kind, bulgefs_filled f)
 
 static void read_file(void)
 {
-    size_t room = below(5001);
+    size_t room = one_in(2) ? below(40) : below(5001);
     uint64_t offset = one_in(40) ? next() : one_in(2) ? 0 : below(3000);
     offset = wide(offset);
     path_of_file();
@@ -673,7 +689,7 @@ static void read_file(void)
 
 static void read_next(void)
 {
-    size_t room = below(1500);
+    size_t room = one_in(2) ? below(40) : below(1500);
     if (one_in(6)) w->position = one_in(9) ? next() : below(700);
     if (one_in(6)) w->position = wide(w->position);
     path_of_file();
@@ -929,7 +945,7 @@ static void step(void)
 {
     int large = one_in(150);
     w = &worlds[large ? WORLDS - 1 : below(WORLDS - 1)];
-    if (w->image == 0 || one_in(large ? 20 : 500)) {
+    if (w->image == 0 || one_in(large ? 20 : 150)) {
         new_world();
         if (large) all_steps();
     }
