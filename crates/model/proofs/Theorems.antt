@@ -148,6 +148,6 @@ pub run-shown : (image : List ℕ) (m : Model) (size : ℕ) → check image ≡ 
     (calls : List Call) → Shows (run start calls .image) (modelled m (standing start [] calls))
 run-shown = runs.run-shown
 
--- ALL CALLS of the C header, in any order, each by its own answer.
+-- ALL CALLS of a run, of all kinds in any order, each by its own answer.
 pub every-call : EveryCallTheorem
 every-call = calls.every-call

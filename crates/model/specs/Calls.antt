@@ -88,7 +88,8 @@ SaidAll p h (further x ∷ cs) =
     FurtherSays (x .0) h (x .1) (kindOf (x .0) .reply p (x .1))
     × SaidAll (kindOf (x .0) .after p (x .1)) (furtherTells (x .0) h (x .1) (kindOf (x .0) .reply p (x .1))) cs
 
--- THE CLAIM: after any calls of the C header, of which none ends the run, the image shows what their answers tell, and the model says so of every answer
+-- THE CLAIM: after any calls of a run, of all kinds in any order, of which none ends it, the image shows what their answers tell, and the model says so of
+-- every answer
 pub record ToldAll (start : State) (m : Model) (calls : List AnyCall) : Type 0 where
   pub shown : Shows (runOf start calls .image) (toldAll start (begun m) calls .now)
   pub said : SaidAll start (begun m) calls
