@@ -1,6 +1,5 @@
 -- The salvage of a tree (FORMAT.md, 18): for each code, each choice of a directory's blocks and each refusal an image, worked out by hand or by an independent program, and computed from the definitions.
 use Prim.Native.Nat.{ℕ, zero, suc, _+_, _-_, _*_}
-use mathlib.Core.Bool.{Bool}
 use mathlib.Core.List.{List, [], _∷_, _++_, map}
 use lib.ListN.{length, drop, replicate}
 use lib.Dec.{T}

@@ -1,6 +1,6 @@
 -- What the theorems of the salvage of a tree say of an image s that the call was given and the image w that it left.
 use Prim.Native.Nat.{ℕ, _+_, _-_, _*_, _/_, _<_}
-use mathlib.Core.Bool.{Bool, true, false, not, _&&_, _||_}
+use mathlib.Core.Bool.{Bool, true, false, not, _||_}
 use mathlib.Core.List.{List, [], _∷_, _++_}
 use mathlib.Core.Logic.{_⊎_, _≢_}
 use mathlib.Core.Path.{_≡_}
@@ -8,9 +8,9 @@ use lib.Dec.{eqb}
 use lib.ListN.{getD}
 use Rattle.layout.specs.Lists.{interval, every, has, distinct, same}
 use Rattle.layout.specs.Bytes.{part}
-use Rattle.layout.specs.Geometry.{inVolume}
+use Rattle.layout.specs.Geometry.{inVolume, rootBlock}
 use Rattle.layout.specs.Table.{next}
-use Rattle.layout.specs.Directory.{slotAt, typeOf, firstBlock, selfOf, attributeSize, isFree, isFile, isDirectory, nameOf, fileBlocks, content, attributeBlocks, attributes}
+use Rattle.layout.specs.Directory.{slotAt, typeOf, firstBlock, selfOf, attributeSize, isFree, isFile, isDirectory, nameOf, fileBlocks, content, attributeBlocks, attributes, parentOf, nameOk}
 use Rattle.layout.specs.Check.{slotOk, allChains, owned}
 use Rattle.salvage.specs.Salvage.{claimable}
 
@@ -88,3 +88,13 @@ pub record StandingFolder (s w : List ℕ) (n left : ℕ) (ds : List ℕ) (k : �
   pub inside : inVolume n (firstBlock s (slotAt ds k)) ≡ true
   pub witness : selfWitness s (slotAt ds k) ≡ true
   pub alone : has eqb (firstBlock s (slotAt ds k)) (inUse w) ≡ true → (isDirectory (typeOf w (slotAt ds k)) ≡ true) × (firstBlock w (slotAt ds k) ≡ firstBlock s (slotAt ds k))
+
+-- A LOST FOLDER of the root at block b, by its self entry: the block is in use in s, begins with type 1, has its own number, the root as parent, and a good name
+pub record LostFolder (s : List ℕ) (n b : ℕ) : Type 0 where
+  pub low : rootBlock n < b
+  pub high : b < n
+  pub used : next s b ≢ 0
+  pub type : typeOf s (512 * b) ≡ 1
+  pub self : selfOf s (512 * b) ≡ b
+  pub parent : parentOf s (512 * b) ≡ rootBlock n
+  pub named : nameOk s (512 * b) ≡ true

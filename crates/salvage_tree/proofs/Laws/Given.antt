@@ -138,3 +138,15 @@ given s c =
           (or-split (eqb (next s x) 0) (has eqb x (owned (next s) (allChains s)))
           (every-interval (λ b. eqb (next s b) 0 || has eqb b (owned (next s) (allChains s))) (tableBlocks n + 1) (128 * tableBlocks n - (tableBlocks n + 1)) (low .1) x (omega arith) (omega arith)));
     }
+
+-- no block is in two chains
+pub sound-distinct : (s : List ℕ) → check s ≡ 0 → distinct eqb (owned (next s) (allChains s)) ≡ true
+unfolding check stage6 tableOk allOnes
+sound-distinct s c =
+    let a₁ = require-zero (stage1 s) 0 _ c in
+    let a₂ = require-zero (stage2 s) 1 _ (a₁ .1) in
+    let a₃ = require-zero (stage3 s) 2 _ (a₂ .1) in
+    let a₄ = firstOf-zero (faultOf (visitRoot s)) _ (a₃ .1) in
+    let a₆ = require-zero (stage6 s) 5 _ (a₄ .1) in
+    let six = and-split (every (λ c. chainOk (next s) (blockCount s) (c .0) (c .1)) (allChains s)) _ (a₆ .0) in
+    and-split (distinct eqb (owned (next s) (allChains s))) _ (six .1) .0

@@ -3,7 +3,7 @@ use Prim.Native.Nat.{ℕ, _+_, _-_, _≤_, _<_}
 use mathlib.Core.Bool.{Bool, true, false, _&&_}
 use mathlib.Core.List.{List, [], _∷_, _++_}
 use mathlib.Core.Logic.{_⊎_, inl, inr, ⊎-elim, _≢_}
-use mathlib.Core.Path.{_≡_, refl, sym, ap, _∙_, subst}
+use mathlib.Core.Path.{_≡_, refl, sym, _∙_, subst}
 use native.Mathlib.Omega.{arith}
 use lib.Dec.{eqb}
 use lib.ListN.{length, getD}
@@ -21,8 +21,8 @@ use Rattle.layout.proofs.Laws.Sound.{slotOk-split}
 use Rattle.salvage.specs.Salvage.{claimable}
 use Rattle.salvage.proofs.Laws.Walked.{claimable-join}
 use Rattle.salvage_tree.specs.SalvageTree.{State}
-use Rattle.salvage_tree.specs.Claims.{codeAt, inUse, nameNew, selfWitness, Cause, FileKept, FolderKept, Hung, WholeFile, SameFile, StandingFolder}
-use Rattle.salvage_tree.proofs.Laws.Counting.{count, count-append, in-count, once-count, count-once}
+use Rattle.salvage_tree.specs.Claims.{codeAt, inUse, nameNew, Cause, FileKept, FolderKept, Hung, WholeFile, SameFile, StandingFolder}
+use Rattle.salvage_tree.proofs.Laws.Counting.{count-append, in-count, once-count, count-once}
 use Rattle.salvage_tree.proofs.Laws.Fine.{EntryKept, Over, cause-more, claimable-more}
 use Rattle.salvage_tree.proofs.Laws.Rest.{SlotTold}
 use Rattle.salvage_tree.proofs.Laws.Kept.{file-kept}
