@@ -28,7 +28,7 @@ onward-none r p = record { grows = λ x i. i; blocks = refl; used = λ j h g y. 
 pub onward-then : (r : ℕ) (p q w : State) → Onward r p q → Onward r q w → Onward r p w
 onward-then r p q w F G =
     let U : (j : ℕ) → 1 ≤ j → j ≤ 4 * length (directory (p .image) r) - 2 → typeOf (q .image) (slotAt (directory (p .image) r) j) ≢ 0
-        → (typeOf (w .image) (slotAt (directory (p .image) r) j) ≢ 0) × (nameOf (w .image) (slotAt (directory (p .image) r) j) ≡ nameOf (q .image) (slotAt (directory (p .image) r) j)) =
+    → (typeOf (w .image) (slotAt (directory (p .image) r) j) ≢ 0) × (nameOf (w .image) (slotAt (directory (p .image) r) j) ≡ nameOf (q .image) (slotAt (directory (p .image) r) j)) =
     subst (λ (dd : List ℕ). (j : ℕ) → 1 ≤ j → j ≤ 4 * length dd - 2 → typeOf (q .image) (slotAt dd j) ≢ 0 → (typeOf (w .image) (slotAt dd j) ≢ 0) × (nameOf (w .image) (slotAt dd j) ≡ nameOf (q .image) (slotAt dd j))) (F .blocks) (G .used) in
     record {
       grows = λ x i. G .grows x (F .grows x i);
