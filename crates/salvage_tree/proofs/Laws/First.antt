@@ -2,32 +2,30 @@
 use Prim.Native.Nat.{ℕ, zero, suc, _+_, _-_, _*_, _/_, _≤_, _<_, _%_}
 use mathlib.Core.Bool.{Bool, true, false, not, _&&_, cond}
 use mathlib.Core.List.{List, [], _∷_, _++_}
-use mathlib.Core.Logic.{_⊎_, inl, inr, ⊎-elim, _≢_}
+use mathlib.Core.Logic.{_⊎_, inl, inr, ⊎-elim}
 use mathlib.Core.Path.{_≡_, refl, sym, ap, _∙_, subst}
 use native.Mathlib.Nat.{eq-or-lt-of-le}
 use native.Mathlib.Omega.{arith}
-use lib.Dec.{eqb}
 use lib.ListN.{length, getD}
 use borrow.Author.Tests.{eqb-false, not-true, eq-eqb}
-use Rattle.layout.specs.Limits.{minBlocks, maxBlocks, maxDirectory, maxLevels}
+use Rattle.layout.specs.Limits.{minBlocks, maxBlocks, maxLevels}
 use Rattle.layout.specs.Lists.{interval, every}
 use Rattle.layout.specs.Bytes.{part, zeros}
-use Rattle.layout.specs.Geometry.{blockCount, tableBlocks, rootBlock, inVolume}
+use Rattle.layout.specs.Geometry.{blockCount}
 use Rattle.layout.specs.Directory.{slotAt, slots, typeOf, blocksOf, isFree, isFile, isDirectory, directory, rootOf, fileBlocks}
 use Rattle.layout.specs.Check.{stage1, stage2, stage3, directoryOk, slotOk, newName}
 use Rattle.layout.proofs.Laws.Tests.{and-split, true-not-false, require-zero}
 use Rattle.layout.proofs.Laws.Lists.{In, every-in}
 use Rattle.layout.proofs.Laws.Joins.{interval-in, in-interval}
-use Rattle.layout.proofs.Laws.Bytes.{length-zeros, getD-zeros, length-part}
+use Rattle.layout.proofs.Laws.Bytes.{length-zeros, getD-zeros}
 use Rattle.layout.proofs.Laws.Frames.{Same}
 use Rattle.layout.proofs.Laws.Entries.{same-type}
 use Rattle.layout.proofs.Laws.Sound.{slotOk-split}
-use Rattle.layout.proofs.Laws.Chains.{inVolume-split}
 use Rattle.salvage.specs.Salvage as first
 use Rattle.salvage.specs.Salvage.{Progress, claimable, takeFile, endAt}
 use Rattle.salvage.proofs.Laws.Walked.{by-cond}
 use Rattle.salvage.proofs.Laws.Places.{Place, slot-high}
-use Rattle.salvage_tree.specs.SalvageTree.{State, coded, dropped, keepFile, takeFileAt, takeSlot, takeSlots, takeChild, hang, hangEach, lost, directoryBlocks, rootBlocks, treeDone, foldersHung, rest, salvaged, putDirectory}
+use Rattle.salvage_tree.specs.SalvageTree.{State, coded, dropped, keepFile, takeFileAt, takeSlot, takeSlots, takeChild, hang, hangEach, lost, directoryBlocks, rootBlocks, treeDone, foldersHung, rest, salvaged}
 use Rattle.salvage_tree.specs.Claims.{codeAt}
 use Rattle.salvage_tree.proofs.Laws.Steps.{Inv, coded-is, coded-put}
 use Rattle.salvage_tree.proofs.Laws.Slots.{ChildLaw, Run, run-start, one, home, code-by, next-run}
@@ -280,3 +278,6 @@ module _ (s : List ℕ) (size : ℕ) (ok : first.salvageRefusal s size ≡ 0) (e
       ap (λ (i : ℕ). getD (rest (treeDone s) .codes) i 0) z ∙ Rest.codes-kept s n r (treeDone s) (Rest.tree-is s (facts .0)) (a / 512) c ((a / 128) % 4) (omega arith) ∙ ap (λ (i : ℕ). getD (treeDone s .codes) i 0) (sym z) in
       let t : codeAt (treeDone s .codes) a ≡ getD (all .all) j 0 = rw start (all .told j h (omega arith)) in
       rw (hung-none, done-is) (k ∙ t ∙ sym (getD-front (all .all) _ j (omega (arith, all .size))))
+
+  pub first-high : (j : ℕ) → 1 ≤ j → j ≤ 4 * length D - 2 → slotAt D j + 128 ≤ 512 * n
+  first-high j h g = slot-high n D G j (omega (arith, some))
