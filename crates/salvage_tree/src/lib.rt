@@ -1,0 +1,1 @@
+// The salvage of a volume with directories.
