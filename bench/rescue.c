@@ -104,6 +104,12 @@ static void no_table(void) { memset(image + 512, 0, 32 * 512); }
 static void no_root(void) { memset(image + 33 * 512, 0, 512); }
 static void a_page(void) { memset(image + 12 * 4096, 0xA5, 4096); }
 
+static void put_name(uint8_t *entry, uint32_t number)
+{
+    for (int i = 0; i < 4; i++)
+        entry[48 + i] = (uint8_t)('a' + (number >> 4 * i) % 16);
+}
+
 /* A directory of 64 blocks in a row, and the entry of it. */
 static void make_directory(uint32_t first, uint32_t parent, uint8_t *entry, uint32_t number)
 {
@@ -120,41 +126,56 @@ static void make_directory(uint32_t first, uint32_t parent, uint8_t *entry, uint
     entry[0] = 0x20;
     put(entry + 4, first);
     put(entry + 12, DIRECTORY);
-    put(entry + 48, 0x64010101 + number);
+    put_name(entry, 0x1000 + number);
     memcpy(own + 48, entry + 48, 4);
 }
 
+/* The image that costs most: its root's first block, its directories, those made so far, and the chain behind them. */
+static uint32_t root, directories, made, length;
+
+static uint32_t first_of(uint32_t k) { return root + k * DIRECTORY; }
+
+/* A directory below this one, with files in its slots and three directories in the last of them. */
+static void grow(uint32_t parent, uint8_t *own_entry, uint32_t level)
+{
+    const uint32_t k = made++, slots = 4 * DIRECTORY - 2;
+    make_directory(first_of(k), parent, own_entry, k);
+    for (uint32_t slot = 1; slot <= slots; slot++) {
+        uint8_t *entry = image + 512 * (size_t)first_of(k) + 128 * slot;
+        uint32_t left = (directories - k - 1) * DIRECTORY + length;
+        if (slot > slots - 3) {
+            if (made < directories && level < BULGEFS_MAX_LEVELS)
+                grow(first_of(k), entry, level + 1);
+            continue;
+        }
+        entry[0] = 0x60;
+        put(entry + 4, first_of(k + 1));
+        put(entry + 8, 512 * (left + 1));
+        put(entry + 12, left + 1);
+        put_name(entry, slot);
+    }
+}
+
 /*
- * An image of n blocks, half of them directories, the other half one chain in a
- * bad order.  Every slot has a file that is said to have one block more than the
- * chain, so that each walk goes through all of it and fails.
+ * An image of n blocks, half of them directories that lie in rows.  One chain goes
+ * through all blocks, those of later directories too, in a bad order.  Every file is
+ * said to have one block more than are left of it, so that each walk goes through all
+ * of them and fails.
  */
 static void make_hostile(uint32_t n)
 {
-    const uint32_t root = (n + 127) / 128 + 1, count = (n - root) / (2 * DIRECTORY), slots = 4 * DIRECTORY - 2;
-    const uint32_t chain = root + count * DIRECTORY, length = n - chain;
+    root = (n + 127) / 128 + 1;
+    directories = (n - root) / (2 * DIRECTORY);
+    length = n - first_of(directories);
+    made = 0;
     memset(image, 0, 512 * (size_t)n);
-    for (uint32_t k = 0; k < count; k++) {
-        /* The root holds the first 254 others, each of these one more. */
-        uint32_t parent = k <= slots ? 0 : k - slots, slot = k <= slots ? k : 1;
-        uint8_t *entry = image + 512 * (size_t)(root + parent * DIRECTORY) + 128 * slot;
-        make_directory(root + k * DIRECTORY, root + parent * DIRECTORY, k == 0 ? NULL : entry, k);
-    }
-    for (uint32_t k = 0; k < count; k++)
-        for (uint32_t slot = 1; slot <= slots; slot++) {
-            uint8_t *entry = image + 512 * (size_t)(root + k * DIRECTORY) + 128 * slot;
-            if (entry[0] != 0)
-                continue;
-            entry[0] = 0x60;
-            put(entry + 4, chain);
-            put(entry + 8, 512 * (length + 1));
-            put(entry + 12, length + 1);
-            put(entry + 48, 0x66010101 + slot);
-        }
-    uint32_t at = 0;
-    for (uint32_t k = 0; k < length; k++) {
-        uint32_t next = (uint32_t)((at + (uint64_t)25717) % length);
-        link_block(chain + at, next == 0 ? 1 : chain + next);
+    grow(root, NULL, 0);
+    for (uint32_t k = 0; k < directories; k++)
+        for (uint32_t i = 0; i < DIRECTORY; i++)
+            link_block(first_of(k) + 27 * i % DIRECTORY, i + 1 < DIRECTORY ? first_of(k) + 27 * (i + 1) % DIRECTORY : first_of(k + 1));
+    for (uint32_t k = 0, at = 0; k < length; k++) {
+        uint32_t next = (at + 25717) % length;
+        link_block(first_of(directories) + at, next == 0 ? 1 : first_of(directories) + next);
         at = next;
     }
 }

@@ -195,7 +195,7 @@ pub fn flat(rng: &mut Rng, _: u64, t: &mut Tester) {
 
 /// 900 boxes, damaged by each kind: both sides keep the same, and enough of it.
 pub fn survival(rng: &mut Rng, _: u64, t: &mut Tester) {
-    let extent = Extent { volumes: 10, blocks: 4096, times: 3 };
+    let extent = Extent { volumes: 8, blocks: 4096, times: 4 };
     let counts = kept(rng, t, &extent);
     for (model, count) in MODELS.iter().zip(&counts) {
         t.report.about(format!("kept {:.2} % of {}", count.percent(), model.kept));
