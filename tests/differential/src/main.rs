@@ -2,7 +2,7 @@
 //!
 //! Usage: differential [--rounds N] [--suite NAME] [--round K] [--trace]
 //!                     [--lister PROGRAM] [--scripts PROGRAM]
-//!        differential --survival N [--blocks N] [--times N]
+//!        differential --survival N [--blocks N] [--times N] [--round K]
 //!
 //! --rounds N         random rounds of each suite (default 500)
 //! --suite NAME       only this suite
@@ -62,7 +62,7 @@ fn main() -> ExitCode {
     };
     let mut tester = Tester::new(Report::new(), options.lister.clone(), options.scripts.clone());
     if let Some(extent) = &options.survival {
-        return survived(extent, &mut tester);
+        return survived(extent, options.round.unwrap_or(0), &mut tester);
     }
     for suite in SUITES {
         let wanted = options.suite.as_deref().unwrap_or(suite.name) == suite.name;
@@ -112,9 +112,10 @@ fn run_suite(suite: &Suite, options: &Options, tester: &mut Tester) {
 }
 
 /// Prints what salvages keep.
-fn survived(extent: &Extent, tester: &mut Tester) -> ExitCode {
-    tester.report.begin("survival", 0, 0);
-    let counts = suites::kept(&mut Rng::new(seed_of("survival", 1)), tester, extent);
+fn survived(extent: &Extent, round: u64, tester: &mut Tester) -> ExitCode {
+    let seed = seed_of("survival", round);
+    tester.report.begin("survival", round, seed);
+    let counts = suites::kept(&mut Rng::new(seed), tester, extent);
     survival::print(extent, &counts);
     let (passed, failed) = tester.report.counts();
     println!("\n{passed} passed, {failed} failed");
