@@ -11,7 +11,7 @@ use std::collections::BTreeMap;
 const VENUES: usize = 9;
 const VENUE_BLOCKS: usize = 26;
 const BOXES: usize = 900;
-const ROOT_BLOCKS: usize = 4;
+const ROOT_BLOCKS: usize = 6;
 
 /// Files by their paths.
 pub type Files = BTreeMap<Vec<u8>, Vec<u8>>;
