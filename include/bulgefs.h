@@ -38,7 +38,8 @@
  *     (at the end of this header, and bulgefs_file.h), which saves both whole or
  *     not at all.  Do not use a pair that was half written: most such images are
  *     refused (1 to 7), and then undo is refused too, but some look sound.
- *     bulgefs_salvage keeps what is whole, if the root holds no directory.
+ *     bulgefs_salvage_tree makes a sound volume of any of them and keeps what is
+ *     whole; bulgefs_salvage does so if the root holds no directory.
  *   - A file's bytes have no checksum.  The check finds damage to the header,
  *     the table and the form of directories; a flipped bit in a file's bytes,
  *     a time or a user is not found.
@@ -57,7 +58,7 @@
  *     undo, until bulgefs_journal_start zeroes it.
  *
  * Cost
- *   Every call but format, journal start and salvage checks the image first:
+ *   Every call but format, journal start and the salvages checks the image first:
  *   it reads the header, the table and all directories, and no file's bytes.
  *   That is linear in the blocks and in the names, but for names of a directory
  *   whose fingerprints meet: these are compared with one another.  What the call
@@ -148,7 +149,7 @@ extern "C" {
 #define BULGEFS_MAX_REVISIONS      16u       /* revisions of settings that are kept    */
 #define BULGEFS_MIN_JOURNAL        5u        /* bytes in the smallest journal          */
 #define BULGEFS_MAX_JOURNAL        67108864u /* bytes in the largest journal           */
-#define BULGEFS_MAX_REPORT         256u      /* bytes of a report for any salvage      */
+#define BULGEFS_MAX_REPORT         256u      /* bytes of a report of bulgefs_salvage   */
 #define BULGEFS_STACK              262144u   /* bytes of stack that suffice for a call */
 
 /* Types.  The 64 of each kind are all treated alike; take the plain one. */
@@ -175,6 +176,9 @@ extern "C" {
 #define BULGEFS_TABLE_BLOCKS(n)        (((n) + 127u) / 128u)
 #define BULGEFS_IMAGE_BLOCKS(content)  ((content) + 1u + ((content) + 127u) / 127u)
 #define BULGEFS_IMAGE_SIZE(n)          (BULGEFS_BLOCK_SIZE * (n))
+
+/* Bytes of a report of bulgefs_salvage_tree for an image of n blocks. */
+#define BULGEFS_TREE_REPORT_SIZE(n)    (BULGEFS_SLOTS_PER_BLOCK * (n))
 
 /*
  * Size of a journal.  A change that saves k blocks adds BULGEFS_RECORD_SIZE(k)
@@ -266,13 +270,18 @@ enum bulgefs_number {
     BULGEFS_NO_MARK         = 27  /* undo to a mark: no mark of the journal; after 8   */
 };
 
-/* What bulgefs_salvage did with a slot of the root. */
+/*
+ * What bulgefs_salvage did with a slot of the root (0 to 4), and what
+ * bulgefs_salvage_tree did with a slot or a block.
+ */
 enum bulgefs_code {
     BULGEFS_KEPT            = 0,  /* nothing                                           */
     BULGEFS_ENTRY_LOST      = 1,  /* cleared it: its entry was bad                     */
     BULGEFS_FILE_LOST       = 2,  /* cleared it: its file's chain was bad              */
     BULGEFS_END_MENDED      = 3,  /* ended a chain at the file's size; last slot: type */
-    BULGEFS_ATTRIBUTES_LOST = 4   /* kept the file and took its attributes away        */
+    BULGEFS_ATTRIBUTES_LOST = 4,  /* kept the file and took its attributes away        */
+    BULGEFS_BLOCK_FREED     = 5,  /* freed the block, which had been in use            */
+    BULGEFS_DIRECTORY_FOUND = 6   /* put a lost directory into this slot of the root   */
 };
 
 /* The keyword for a function that stands in a header; C89 has none. */
@@ -375,6 +384,9 @@ typedef struct { uint32_t number, revision, record; } bulgefs_put;
 
 /* The revision that a buffer was filled with, and the length of its data. */
 typedef struct { uint32_t number, revision, length; } bulgefs_got;
+
+/* How many entries bulgefs_salvage_tree dropped, and how many blocks it freed. */
+typedef struct { uint32_t number, dropped, freed; } bulgefs_salvaged;
 
 /*
  * Paths
@@ -946,6 +958,51 @@ uint32_t bulgefs_store_table(uint8_t *image, size_t image_len,
 BULGEFS_CHECKED
 uint32_t bulgefs_salvage(uint8_t *image, size_t image_len,
                          uint8_t *report, size_t report_len);
+
+/*
+ * Makes a sound volume of any image of a right length, in place, directories
+ * included, and keeps what is whole.  Header, root, directories, table and
+ * entries may all be damaged.  If the image was sound, it does not change.
+ * docs/FORMAT.md, section 18, has the rules, and a table of how many files
+ * survive which damage.
+ *
+ * The report needs 4 bytes for each block of the image, BULGEFS_TREE_REPORT_SIZE(n);
+ * the rest of it stays as it is.  Byte 4 * b + i is the code of slot i of block b
+ * if b is a block of a directory afterwards.  All these bytes are 0 exactly if
+ * the image did not change.
+ *
+ *   BULGEFS_KEPT             the slot is as it was, and so are all bytes of its
+ *                            file
+ *   BULGEFS_ENTRY_LOST       the entry's form was bad, or an entry before it in
+ *                            the directory has its name; all its bytes are 0
+ *   BULGEFS_FILE_LOST        the file's chain was bad, or no directory is where
+ *                            the entry says; all bytes of the entry are 0
+ *   BULGEFS_END_MENDED       of a file: its chain, or that of its attributes, was
+ *                            ended.  Of a directory's entry: its size in blocks
+ *                            was put right.  Of a directory's first slot: its self
+ *                            entry or its chain was; of its last: the end type.
+ *                            Of byte 0: the header, or table entries that belong
+ *                            to no chain
+ *   BULGEFS_ATTRIBUTES_LOST  the file was kept without its attributes, whose chain
+ *                            was bad
+ *   BULGEFS_BLOCK_FREED      byte 4 * b of a block b that was in use and is free
+ *                            now; all bytes of the block are 0
+ *   BULGEFS_DIRECTORY_FOUND  a directory of the root that had lost its entry has
+ *                            this slot of the root now, with all that is whole in
+ *                            it
+ *
+ * dropped counts the entries that were cleared, freed the blocks that were freed.
+ *
+ * There is no undo: work on a copy of the image.  The journal of before is not
+ * the image's own any more: call bulgefs_journal_start afterwards.
+ * Refusals: BULGEFS_BAD_LENGTH; BULGEFS_BAD_GEOMETRY (the header is whole, of a
+ * volume of another length: the file was cut or has grown; pad it with zeros to
+ * 512 bytes for each of the blocks that its header says, or cut it, and call
+ * again); BULGEFS_BAD_ARGUMENT (report_len below 4 * n).
+ */
+BULGEFS_CHECKED
+bulgefs_salvaged bulgefs_salvage_tree(uint8_t *image, size_t image_len,
+                                      uint8_t *report, size_t report_len);
 
 /*
  * The volume file: image, journal and some sectors of the program's own in one

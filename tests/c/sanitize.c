@@ -717,6 +717,29 @@ static void call_salvage(const material *m)
     }
 }
 
+/* Salvage of a tree, with a report of just the length, with a shorter one, and with none. */
+static void call_salvage_tree(const material *m)
+{
+    static const uint8_t blank[4 * 1024];
+    size_t enough = 4 * (m->image_len / 512);
+    size_t lengths[] = {enough, random_below((uint32_t)enough + 1), 0};
+    for (size_t i = 0; i < sizeof lengths / sizeof lengths[0] && enough <= sizeof blank; i++) {
+        buffer image = lend(m->image, m->image_len);
+        buffer report = lend(blank, lengths[i]);
+        bulgefs_salvaged s = bulgefs_salvage_tree(image.at, image.len, report.at, report.len);
+        expect(MAY(BIT(1) | BIT(3) | BIT(9), s.number), "salvage tree: number");
+        expect(s.number != 0 || bulgefs_check(image.at, image.len) == 0, "salvage tree: sound");
+        expect(s.number == 0 || (unchanged(&image) && unchanged(&report) && s.dropped == 0 && s.freed == 0),
+               "salvage tree: refused without a change");
+        if (s.number == 0)
+            expect(unchanged(&image) == unchanged(&report), "salvage tree: the report tells");
+        if (bulgefs_check(m->image, m->image_len) == 0)
+            expect(unchanged(&image) && unchanged(&report), "salvage tree: a sound image stays");
+        give_back(&image);
+        give_back(&report);
+    }
+}
+
 static void call_all(const material *m)
 {
     for (place = HEAP; place < PLACES; place++) {
@@ -725,6 +748,7 @@ static void call_all(const material *m)
         call_makers(m);
         call_table(m);
         call_salvage(m);
+        call_salvage_tree(m);
     }
 }
 
@@ -1147,6 +1171,53 @@ static void salvaged(void)
 }
 
 /*
+ * A volume of 16 blocks with two directories: no header, no root, a directory's
+ * chain broken and its end type gone.  Both directories are found again.
+ */
+static void rescued(void)
+{
+    static uint8_t image[16 * 512], before[16 * 512], journal[16384], report[65], data[600], got[600];
+    static const uint8_t none[64];
+    bulgefs_uuid uuid = {{0}};
+    fill_random(data, sizeof data);
+    expect(bulgefs_format(image, sizeof image, 1, 1, uuid, volume_name, 128) == 0, "tree: format");
+    expect(bulgefs_journal_start(journal, sizeof journal) == 0, "tree: start");
+    for (uint8_t k = 1; k <= 2; k++) {
+        uint8_t name[5] = {'/', (uint8_t)('a' + k), '/', 'S', 'N'};
+        expect(bulgefs_create_directory(image, sizeof image, journal, sizeof journal, name, 2, 0x20, 0, 0, 0, 0, k, 2).number == 0,
+               "tree: directory");
+        expect(bulgefs_create(image, sizeof image, journal, sizeof journal, name, 5, 0x60, 0, 0, 0, 0, 3).number == 0, "tree: create");
+        expect(bulgefs_write(image, sizeof image, journal, sizeof journal, name, 5, 0, data, 600, 4).number == 0, "tree: write");
+    }
+    /* The root is block 2; b has block 3 and its file 4 and 5; c has 6 and 7 and its file 8 and 9. */
+    memcpy(before, image, sizeof image);
+    memset(image, 0, 32);
+    memset(image + 2 * 512, 0, 512);
+    put_number(image + 512 + 4 * 6, 99);
+    report[64] = 0xEE;
+    expect(bulgefs_salvage_tree(image, sizeof image, report, 63).number == BULGEFS_BAD_ARGUMENT, "tree: short");
+    bulgefs_salvaged s = bulgefs_salvage_tree(image, sizeof image, report, 65);
+    expect(s.number == 0 && s.dropped == 0 && s.freed == 0, "tree: answer");
+    expect(report[0] == BULGEFS_END_MENDED && report[4 * 2] == BULGEFS_END_MENDED && report[4 * 2 + 3] == BULGEFS_END_MENDED
+               && report[4 * 2 + 1] == BULGEFS_DIRECTORY_FOUND && report[4 * 2 + 2] == BULGEFS_DIRECTORY_FOUND
+               && report[4 * 6] == BULGEFS_END_MENDED && report[4 * 3] == BULGEFS_KEPT && report[64] == 0xEE,
+           "tree: report");
+    expect(bulgefs_check(image, sizeof image) == 0, "tree: sound");
+    expect(memcmp(image + 3 * 512, before + 3 * 512, 13 * 512) == 0 && memcmp(image, before, 1024) == 0, "tree: all else is as it was");
+    bulgefs_filled r = bulgefs_read(image, sizeof image, (const uint8_t *)"/c/SN", 5, 0, got, 600);
+    expect(r.number == 0 && r.count == 600 && memcmp(got, data, 600) == 0, "tree: kept");
+    memcpy(before, image, sizeof image);
+    s = bulgefs_salvage_tree(image, sizeof image, report, 64);
+    expect(s.number == 0 && memcmp(report, none, 64) == 0 && memcmp(image, before, sizeof image) == 0, "tree: twice is once");
+    /* A file that was cut: refused, and accepted with zeros in the place of what is missing. */
+    s = bulgefs_salvage_tree(image, 12 * 512, report, 64);
+    expect(s.number == BULGEFS_BAD_GEOMETRY && memcmp(image, before, sizeof image) == 0, "tree: cut");
+    memset(image + 9 * 512, 0, 7 * 512);
+    s = bulgefs_salvage_tree(image, sizeof image, report, 64);
+    expect(s.number == 0 && s.dropped == 0 && bulgefs_check(image, sizeof image) == 0, "tree: padded");
+}
+
+/*
  * A list of three writes: each has its own record and is taken back on its own;
  * a fourth that is refused leaves the three; a byte less, and nothing is done.
  */
@@ -1412,6 +1483,7 @@ int main(void)
     attributes();
     flags();
     salvaged();
+    rescued();
     lists();
     reader();
     pieces();

@@ -167,6 +167,24 @@ static void salvage_broken(void)
     number = number == 0 ? bulgefs_check(image, image_len) : number;
 }
 
+static void salvage_tree(void)
+{
+    static uint8_t report[BULGEFS_TREE_REPORT_SIZE(LARGE)];
+    number = bulgefs_salvage_tree(image, image_len, report, sizeof report).number;
+}
+
+/* The same without a header, a self entry and an end type, and with a block that nobody has. */
+static void salvage_tree_broken(void)
+{
+    size_t n = image_len / 512, root = (n + 127) / 128 + 1;
+    memset(image, 0, 32);
+    image[root * 512] = 0;
+    image[(root + 63) * 512 + 3 * 128] = 0;
+    image[512 + 4 * (n - 1)] = 1;
+    salvage_tree();
+    number = number == 0 ? bulgefs_check(image, image_len) : number;
+}
+
 static const uint8_t serial[] = "SN4471";
 
 static void put_settings(void)
@@ -252,6 +270,7 @@ static const struct {
     {"create_directory", create_deepest},
     {"put_settings_in", put_settings_in}, {"put_settings_in again", put_settings_in},
     {"get_settings_in", get_settings_in}, {"get_latest_settings_in", get_latest_settings_in},
+    {"salvage_tree", salvage_tree}, {"salvage_tree, broken", salvage_tree_broken},
     {"journal_info", journal_info}, {"undo_to", undo_to},
 };
 

@@ -103,8 +103,10 @@ static void answers(void)
     expect(BULGEFS_MAX_REPORT == BULGEFS_SLOTS_PER_BLOCK * BULGEFS_MAX_DIRECTORY_BLOCKS,
            "BULGEFS_MAX_REPORT");
     expect(BULGEFS_KEPT == 0 && BULGEFS_ENTRY_LOST == 1 && BULGEFS_FILE_LOST == 2
-               && BULGEFS_END_MENDED == 3 && BULGEFS_ATTRIBUTES_LOST == 4,
+               && BULGEFS_END_MENDED == 3 && BULGEFS_ATTRIBUTES_LOST == 4
+               && BULGEFS_BLOCK_FREED == 5 && BULGEFS_DIRECTORY_FOUND == 6,
            "codes");
+    expect(BULGEFS_TREE_REPORT_SIZE(3u) == 12u && sizeof(bulgefs_salvaged) == 12, "salvaged");
     expect(BULGEFS_PLAIN_FILE >= BULGEFS_MIN_FILE_TYPE
                && BULGEFS_PLAIN_DIRECTORY >= BULGEFS_MIN_DIRECTORY_TYPE,
            "plain types");

@@ -816,6 +816,25 @@ static void salvage(void)
     check();
 }
 
+/* The same of a volume with directories, which may be damaged more. */
+static void salvage_tree(void)
+{
+    static uint8_t report[4 * (LARGE_IMAGE / 512)];
+    size_t room = 4 * (image_len / 512);
+    bulgefs_salvaged s;
+    if (one_in(9)) room = below((uint32_t)room + 9);
+    if (room > sizeof report) room = sizeof report;
+    keep();
+    for (uint32_t times = below(4); times > 0; times--) damage();
+    s = bulgefs_salvage_tree(IMAGE, report, room);
+    answer(K_salvage_tree, s.number);
+    put(s.dropped);
+    put(s.freed);
+    put_bytes(report, room);
+    put_buffers();
+    check();
+}
+
 /* The volume file: its bytes, and the parts that are saved into it. */
 
 enum { IMAGE_SECTORS = 30, JOURNAL_SECTORS = 20, OWN_SECTORS = 4 };
@@ -917,7 +936,7 @@ static const struct {
     {undo, 3},           {journal_info, 3},      {undo_to, 1},          {version, 1},        {check, 2},
     {plain_check, 1},    {lookup, 5},            {read_file, 4},        {read_next, 4},      {read_attributes, 2},
     {look_in_place, 6},  {info, 2},              {list_directory, 4},   {load_table, 1},     {store_table, 1},
-    {salvage, 2},        {damage, 3},            {restart_journal, 1},
+    {salvage, 2},        {salvage_tree, 2},      {damage, 3},           {restart_journal, 1},
     {file_begin, 1},     {file_look, 3},         {file_prepare, 3},     {file_commit, 2},    {file_recover, 3},    {file_damage, 1},
 };
 

@@ -42,6 +42,7 @@
     X(load_table) \
     X(store_table) \
     X(salvage) \
+    X(salvage_tree) \
     X(file_size) \
     X(file_begin) \
     X(file_check) \

@@ -105,6 +105,14 @@ pub struct Got {
     pub length: u32,
 }
 
+#[repr(C)]
+#[derive(Clone, Copy, Debug, PartialEq, Eq)]
+pub struct Salvaged {
+    pub number: u32,
+    pub dropped: u32,
+    pub freed: u32,
+}
+
 // Laid out line by line as in the header.
 #[rustfmt::skip]
 extern "C" {
@@ -261,4 +269,7 @@ extern "C" {
 
     pub fn bulgefs_salvage(image: *mut u8, image_len: usize,
                            report: *mut u8, report_len: usize) -> u32;
+
+    pub fn bulgefs_salvage_tree(image: *mut u8, image_len: usize,
+                                report: *mut u8, report_len: usize) -> Salvaged;
 }

@@ -1,6 +1,8 @@
 //! The library's calls, on lent buffers. Nothing else calls an entry point.
 
-use crate::ffi::{self, Changed, Created, Filled, Found, Got, Journal, Listed, Part, Put, Uuid};
+use crate::ffi::{
+    self, Changed, Created, Filled, Found, Got, Journal, Listed, Part, Put, Salvaged, Uuid,
+};
 use crate::lent::Lent;
 use reference::{Create, CreateDirectory, State, Which};
 
@@ -113,6 +115,11 @@ pub fn store_table(image: &mut Lent, numbers: &Lent) -> u32 {
 pub fn salvage(image: &mut Lent, report: &mut Lent) -> u32 {
     let (at, len, into) = (image.mut_ptr(), image.len(), report.mut_ptr());
     unsafe { ffi::bulgefs_salvage(at, len, into, report.len()) }
+}
+
+pub fn salvage_tree(image: &mut Lent, report: &mut Lent) -> Salvaged {
+    let (at, len, into) = (image.mut_ptr(), image.len(), report.mut_ptr());
+    unsafe { ffi::bulgefs_salvage_tree(at, len, into, report.len()) }
 }
 
 /// An image and a journal that are lent together.

@@ -2,6 +2,7 @@
 //!
 //! Usage: differential [--rounds N] [--suite NAME] [--round K] [--trace]
 //!                     [--lister PROGRAM] [--scripts PROGRAM]
+//!        differential --survival N [--blocks N] [--times N] [--round K]
 //!
 //! --rounds N         random rounds of each suite (default 500)
 //! --suite NAME       only this suite
@@ -10,18 +11,25 @@
 //! --lister PROGRAM   also hold this lister against the reference's listing
 //! --scripts PROGRAM  also hold this program, which runs a script, against the
 //!                    reference's replay
+//! --survival N       damage N volumes of 900 boxes by each kind, salvage each, and
+//!                    print how many files are kept
+//! --blocks N         of so many blocks (4,096)
+//! --times N          so many times by each kind (1)
 
 mod arguments;
+mod boxes;
 mod damage;
 mod ffi;
 mod images;
 mod journals;
 mod lent;
 mod library;
+mod models;
 mod plain;
 mod report;
 mod rng;
 mod suites;
+mod survival;
 mod tester;
 mod tree;
 
@@ -31,6 +39,7 @@ use rng::Rng;
 use std::process::ExitCode;
 use std::time::Instant;
 use suites::{Suite, LISTER, SCRIPTS, SUITES};
+use survival::Extent;
 use tester::Tester;
 
 struct Options {
@@ -40,6 +49,7 @@ struct Options {
     trace: bool,
     lister: Option<String>,
     scripts: Option<String>,
+    survival: Option<Extent>,
 }
 
 fn main() -> ExitCode {
@@ -51,6 +61,9 @@ fn main() -> ExitCode {
         }
     };
     let mut tester = Tester::new(Report::new(), options.lister.clone(), options.scripts.clone());
+    if let Some(extent) = &options.survival {
+        return survived(extent, options.round.unwrap_or(0), &mut tester);
+    }
     for suite in SUITES {
         let wanted = options.suite.as_deref().unwrap_or(suite.name) == suite.name;
         let possible = match suite.name {
@@ -98,6 +111,21 @@ fn run_suite(suite: &Suite, options: &Options, tester: &mut Tester) {
     line(suite.name, rounds, "rounds", before, &tester.report, begin);
 }
 
+/// Prints what salvages keep.
+fn survived(extent: &Extent, round: u64, tester: &mut Tester) -> ExitCode {
+    let seed = seed_of("survival", round);
+    tester.report.begin("survival", round, seed);
+    let counts = suites::kept(&mut Rng::new(seed), tester, extent);
+    survival::print(extent, &counts);
+    let (passed, failed) = tester.report.counts();
+    println!("\n{passed} passed, {failed} failed");
+    if failed == 0 {
+        ExitCode::SUCCESS
+    } else {
+        ExitCode::FAILURE
+    }
+}
+
 /// Waits for the plain checks that take long.
 fn wait(plain: &mut Plain, report: &mut Report) {
     let (begin, before) = (Instant::now(), report.counts());
@@ -129,7 +157,9 @@ fn options(mut arguments: impl Iterator<Item = String>) -> Result<Options, Strin
         trace: false,
         lister: None,
         scripts: None,
+        survival: None,
     };
+    let mut extent = Extent { volumes: 0, blocks: 4096, times: 1 };
     while let Some(argument) = arguments.next() {
         let mut value = || arguments.next().ok_or(format!("{argument} needs a value"));
         match argument.as_str() {
@@ -139,9 +169,13 @@ fn options(mut arguments: impl Iterator<Item = String>) -> Result<Options, Strin
             "--trace" => options.trace = true,
             "--lister" => options.lister = Some(value()?),
             "--scripts" => options.scripts = Some(value()?),
+            "--survival" => extent.volumes = whole_number(&value()?)? as usize,
+            "--blocks" => extent.blocks = whole_number(&value()?)? as usize,
+            "--times" => extent.times = whole_number(&value()?)? as usize,
             other => return Err(format!("unknown option {other}")),
         }
     }
+    options.survival = (extent.volumes > 0).then_some(extent);
     Ok(options)
 }
 

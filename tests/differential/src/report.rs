@@ -38,11 +38,12 @@ pub enum Entry {
     LoadTable,
     StoreTable,
     Salvage,
+    SalvageTree,
 }
 
 /// Every entry point, and the numbers that it can answer. Look in place has
 /// no number; its row counts what look up would have answered.
-const ENTRIES: [(Entry, &str, &[u32]); 36] = [
+const ENTRIES: [(Entry, &str, &[u32]); 37] = [
     (Entry::Check, "check", &[0, 1, 2, 3, 4, 5, 6, 7]),
     (Entry::PlainCheck, "plain_check", &[0, 1, 2, 3, 4, 5, 6, 7]),
     (Entry::Format, "format", &[0, 1, 9, 14]),
@@ -83,6 +84,7 @@ const ENTRIES: [(Entry, &str, &[u32]); 36] = [
     (Entry::LoadTable, "load_table", &[0, 1, 2, 3, 4, 5, 6, 7, 21]),
     (Entry::StoreTable, "store_table", &[0, 1, 2, 3, 4, 5, 6, 7, 21]),
     (Entry::Salvage, "salvage", &[0, 1, 2, 3, 4, 5, 9]),
+    (Entry::SalvageTree, "salvage_tree", &[0, 1, 3, 9]),
 ];
 
 /// What salvages must have met at least once, beside their numbers.
@@ -97,9 +99,32 @@ pub enum Met {
     EndType,
     /// A block that became free, and blank.
     Freed,
+    /// A code of a salvage of a volume with directories.
+    Tree(At, u8),
+    /// There, code 6 in a slot that was not free.
+    HungOver,
 }
 
-const MET: [(Met, &str); 9] = [
+/// Where a code of a salvage of a volume with directories stands.
+#[derive(Clone, Copy, Debug, PartialEq, Eq)]
+pub enum At {
+    /// Byte 0.
+    Header,
+    /// The first slot of a directory.
+    SelfSlot,
+    /// The last.
+    EndSlot,
+    /// A slot that has a file afterwards.
+    File,
+    /// A slot that has a directory afterwards.
+    Directory,
+    /// A slot that is free afterwards.
+    Free,
+    /// A block that no directory has.
+    Block,
+}
+
+const MET: [(Met, &str); 25] = [
     (Met::Code(0), "code 0"),
     (Met::Code(1), "code 1"),
     (Met::Code(2), "code 2"),
@@ -109,6 +134,22 @@ const MET: [(Met, &str); 9] = [
     (Met::FreeLast, "a last value of 0"),
     (Met::EndType, "an end type"),
     (Met::Freed, "a block freed"),
+    (Met::Tree(At::Header, 0), "trees: header, code 0"),
+    (Met::Tree(At::Header, 3), "trees: header, code 3"),
+    (Met::Tree(At::SelfSlot, 0), "trees: self slot, code 0"),
+    (Met::Tree(At::SelfSlot, 3), "trees: self slot, code 3"),
+    (Met::Tree(At::EndSlot, 0), "trees: end slot, code 0"),
+    (Met::Tree(At::EndSlot, 3), "trees: end slot, code 3"),
+    (Met::Tree(At::File, 0), "trees: a file, code 0"),
+    (Met::Tree(At::File, 3), "trees: a file, code 3"),
+    (Met::Tree(At::File, 4), "trees: a file, code 4"),
+    (Met::Tree(At::Directory, 0), "trees: a directory, code 0"),
+    (Met::Tree(At::Directory, 3), "trees: a directory, code 3"),
+    (Met::Tree(At::Directory, 6), "trees: a directory, code 6"),
+    (Met::Tree(At::Free, 1), "trees: an entry, code 1"),
+    (Met::Tree(At::Free, 2), "trees: an entry, code 2"),
+    (Met::Tree(At::Block, 5), "trees: a block, code 5"),
+    (Met::HungOver, "trees: code 6 over another"),
 ];
 
 const NUMBERS: usize = 28;

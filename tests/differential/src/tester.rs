@@ -8,7 +8,7 @@ use crate::report::{Entry, Report};
 use reference::overview::{ENTRY_NUMBERS, VOLUME_NUMBERS};
 use reference::replay::told;
 use reference::store::ROOT;
-use reference::{Answer, Append, Change, Listed, Salvaged, State, Which};
+use reference::{Answer, Append, Change, Listed, Salvaged, State, TreeSalvaged, Which};
 
 pub struct Tester {
     pub report: Report,
@@ -323,6 +323,30 @@ impl Tester {
         self.report.call(Entry::Salvage, number, troubles);
         let (image, report) = (lent.content().to_vec(), lent_report.content().to_vec());
         (got == 0 && number == 0).then_some(Salvaged { image, report })
+    }
+
+    /// A salvage of a volume with directories. Gives what the library made of image
+    /// and report, if both sides accept them.
+    pub fn salvage_tree(&mut self, image: &[u8], report: &[u8]) -> Option<TreeSalvaged> {
+        self.check_damaged(image);
+        let (mut lent, mut lent_report) = (self.lend(image), self.lend(report));
+        let got = library::salvage_tree(&mut lent, &mut lent_report);
+        let result = reference::salvage_tree(image, report);
+        let number = number_of(&result);
+        let (image, report) = (image.to_vec(), report.to_vec());
+        let unchanged = |_| TreeSalvaged { image, report, dropped: 0, freed: 0 };
+        let after = result.unwrap_or_else(unchanged);
+        let expected = ffi::Salvaged { number, dropped: after.dropped, freed: after.freed };
+        let troubles = [
+            unequal(got, expected),
+            lent.trouble("image", &after.image),
+            lent_report.trouble("report", &after.report),
+        ];
+        self.report.call(Entry::SalvageTree, number, troubles);
+        let ffi::Salvaged { dropped, freed, .. } = got;
+        let (image, report) = (lent.content().to_vec(), lent_report.content().to_vec());
+        let accepted = got.number == 0 && number == 0;
+        accepted.then_some(TreeSalvaged { image, report, dropped, freed })
     }
 
     /// A change. Gives the reference's number.

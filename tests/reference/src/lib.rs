@@ -15,6 +15,7 @@ pub mod path;
 pub mod pieces;
 pub mod replay;
 pub mod salvage;
+pub mod salvage_tree;
 pub mod store;
 pub mod table;
 pub mod views;
@@ -30,6 +31,7 @@ pub use overview::{info, next_entry, Told};
 pub use pieces::{append, append_whole, read_next, Append, Appended};
 pub use replay::{Answer, Call, Replay};
 pub use salvage::{salvage, Salvaged};
+pub use salvage_tree::{salvage_tree, TreeSalvaged};
 pub use store::{get, get_in, Put, Revision, Which};
 pub use table::{load_table, store_table};
 pub use volume::{

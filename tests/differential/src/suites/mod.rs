@@ -14,6 +14,7 @@ mod orders;
 mod pieces;
 mod runs;
 mod salvage;
+mod salvage_tree;
 mod scripts;
 mod sound;
 mod store;
@@ -22,6 +23,7 @@ mod trees;
 
 use crate::rng::Rng;
 use crate::tester::Tester;
+pub use salvage_tree::kept;
 
 pub struct Suite {
     pub name: &'static str,
@@ -53,6 +55,12 @@ pub const SUITES: &[Suite] = &[
     Suite { name: "salvage_clauses", rounds: |n| n.div_ceil(100), run: salvage::clauses },
     Suite { name: "salvage_codes", rounds: |n| n.div_ceil(10), run: salvage::codes },
     Suite { name: "salvage_largest", rounds: |_| 1, run: salvage::largest },
+    Suite { name: "salvage_tree", rounds: |n| 16 * n, run: salvage_tree::run },
+    Suite { name: "salvage_tree_clauses", rounds: |n| n.div_ceil(50), run: salvage_tree::clauses },
+    Suite { name: "salvage_tree_lengths", rounds: |_| 1, run: salvage_tree::lengths },
+    Suite { name: "salvage_tree_largest", rounds: |_| 1, run: salvage_tree::largest },
+    Suite { name: "salvage_tree_flat", rounds: |n| 2 * n, run: salvage_tree::flat },
+    Suite { name: "survival", rounds: |_| 1, run: salvage_tree::survival },
     Suite { name: "lists", rounds: |n| n.div_ceil(5), run: lists::run },
     Suite { name: "list_forms", rounds: |_| 1, run: lists::forms },
     Suite { name: "pieces", rounds: |n| n.div_ceil(2), run: pieces::run },

@@ -235,7 +235,7 @@ fn bytes_of(image: &[u8], blocks: &[usize]) -> Vec<u8> {
 
 /// An image that was half written: some blocks are as before some changes, the
 /// others as after them.
-fn tear(rng: &mut Rng, image: &mut [u8]) {
+pub fn tear(rng: &mut Rng, image: &mut [u8]) {
     let journal = reference::start(4_000_000).unwrap();
     let mut state = State { image: image.to_vec(), journal };
     for _ in 0..rng.between(1, 4) {
@@ -273,7 +273,7 @@ fn refusable(rng: &mut Rng, image: &mut Vec<u8>) {
 }
 
 /// A number where a block's is wanted: mostly one that something has.
-fn any_value(rng: &mut Rng, sound: &[u8]) -> u32 {
+pub fn any_value(rng: &mut Rng, sound: &[u8]) -> u32 {
     let (n, t) = (block_count(sound), table_blocks(block_count(sound)));
     let any = rng.between(t + 1, n - 1) as u32;
     match rng.below(8) {
@@ -289,7 +289,7 @@ fn any_value(rng: &mut Rng, sound: &[u8]) -> u32 {
 }
 
 /// One damage of an image that was sound once. Header and root stay in order.
-fn spoil(rng: &mut Rng, sound: &[u8], image: &mut [u8]) {
+pub fn spoil(rng: &mut Rng, sound: &[u8], image: &mut [u8]) {
     let in_root = files(sound).into_iter().filter(|file| file.home == root(sound));
     let files: Vec<Item> = in_root.collect();
     if files.is_empty() || rng.once_in(4) {
