@@ -71,7 +71,7 @@ static const command commands[] = {
       "else was changed since.  Steps of more than 48 KiB together are not kept for this." },
     { "salvage", command_salvage, "VOLUME OUT",
       "Makes a sound copy OUT, with a journal just started, of what is whole of a damaged\n"
-      "volume, and says what became of the rest.  VOLUME is not changed." },
+      "volume, and says by path what was dropped, put right and freed.  VOLUME is not changed." },
     { "extract", command_extract, "[--damaged] VOLUME FOLDER",
       "Copies all files of a volume to a new folder, all of them or nothing; with --damaged\n"
       "those that are whole of a damaged one, and says what became of the rest." },

@@ -4,8 +4,8 @@
 
 #include "look.h"
 
-/* The copy, and the library's report on it. */
-typedef struct { bytes image; uint8_t *report; size_t report_length; } salvaged;
+/* The copy, the library's report, a code for each slot of each block, and its counts. */
+typedef struct { bytes image; uint8_t *report; uint32_t dropped, freed; } salvaged;
 
 /* Makes the copy in memory; the image stays.  Free it in any case. */
 int salvage_copy(const store *, salvaged *);
