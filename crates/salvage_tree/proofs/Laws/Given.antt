@@ -22,7 +22,7 @@ use Rattle.layout.proofs.Laws.Visits.{Local, below-is, tree}
 use Rattle.layout.proofs.Laws.Trees.{length-directory}
 use Rattle.salvage_tree.proofs.Laws.Counting.{in-count, once-count}
 use Rattle.salvage_tree.proofs.Laws.Held.{held, all-held}
-use Rattle.salvage_tree.proofs.Laws.Fine.{EntryKept, Filled, ChildFine}
+use Rattle.salvage_tree.proofs.Laws.Fine.{asGiven, EntryKept, Filled, ChildFine}
 
 entry-same : (s : List ℕ) (e : ℕ) → EntryKept s s e
 entry-same s e =
@@ -46,7 +46,7 @@ pub record Given (s : List ℕ) (n : ℕ) : Type 0 where
   pub numbered : stage3 s ≡ true
   pub counted : stage7 s ≡ true
   pub rooted : directoryOk s n (rootOf s) (rootOf s) ≡ true
-  pub filled : Filled s s n (ChildFine s s n maxLevels (rootOf s)) (directory s (rootOf s))
+  pub filled : Filled s (asGiven s) n maxLevels (ChildFine s (asGiven s) n maxLevels (rootOf s)) (directory s (rootOf s))
   pub once : (x : ℕ) → held s maxLevels (rootOf s) x ≤ 1
   pub ones : (x : ℕ) → x ≤ tableBlocks n → next s x ≡ 1
   pub rest : (x : ℕ) → tableBlocks n < x → x < 128 * tableBlocks n → (next s x ≡ 0) ⊎ (1 ≤ held s maxLevels (rootOf s) x)
@@ -56,7 +56,7 @@ module _ (s : List ℕ) (n : ℕ) where
     local : Local s n (d .0) (d .1)
     chained : (c : ℕ × ℕ) → In c (chains s (d .0)) → chainOk (next s) n (c .0) (c .1) ≡ true
 
-  module _ (left b : ℕ) (R : Right (b, left)) (kids : (e : ℕ) → In e (children s b) → ChildFine s s n left b e) where
+  module _ (left b : ℕ) (R : Right (b, left)) (kids : (e : ℕ) → In e (children s b) → ChildFine s (asGiven s) n left b e) where
     ds : List ℕ
     ds = directory s b
 
@@ -66,7 +66,7 @@ module _ (s : List ℕ) (n : ℕ) where
         let q : ℕ → Bool = λ j. isFile (typeOf s (slotAt (directory s b) j)) in
         R .chained c (inr (to-join (λ j. fileChains s (slotAt (directory s b) j)) (select q (slots (directory s b))) k c (select-has q (slots (directory s b)) k i f) m))
 
-    fill : Filled s s n (ChildFine s s n left b) (directory s b)
+    fill : Filled s (asGiven s) n left (ChildFine s (asGiven s) n left b) (directory s b)
     unfolding fileChains
     fill =
         record {
@@ -80,10 +80,18 @@ module _ (s : List ℕ) (n : ℕ) where
                 first = λ f. file-chain k i f (firstBlock s (slotAt (directory s b) k), blocksOf s (slotAt (directory s b) k)) (inl refl);
                 second = λ f. file-chain k i f (attributeBlock s (slotAt (directory s b) k), attributeSize s (slotAt (directory s b) k)) (inr (inl refl));
                 child = λ d. kids (slotAt (directory s b) k) (children-in s b k h (omega (arith, length-directory s b)) d);
+                told =
+                    record {
+                      gone = λ z. inl (refl, z);
+                      file = λ f. inl (λ j l. refl, inl refl);
+                      folder = λ f. inl (entry-same s (slotAt (directory s b) k), inl refl);
+                    };
+                form = λ z. absurd (omega arith);
+                over = λ z. absurd (omega arith);
               };
         }
 
-  fill-all : (left b : ℕ) → ((d : ℕ × ℕ) → In d (below s left b) → Right d) → Filled s s n (ChildFine s s n left b) (directory s b)
+  fill-all : (left b : ℕ) → ((d : ℕ × ℕ) → In d (below s left b) → Right d) → Filled s (asGiven s) n left (ChildFine s (asGiven s) n left b) (directory s b)
   unfolding ChildFine
   fill-all zero b f =
       let R = f (b, zero) (rw (below-is s zero b) (inl refl)) in
@@ -130,3 +138,15 @@ given s c =
           (or-split (eqb (next s x) 0) (has eqb x (owned (next s) (allChains s)))
           (every-interval (λ b. eqb (next s b) 0 || has eqb b (owned (next s) (allChains s))) (tableBlocks n + 1) (128 * tableBlocks n - (tableBlocks n + 1)) (low .1) x (omega arith) (omega arith)));
     }
+
+-- no block is in two chains
+pub sound-distinct : (s : List ℕ) → check s ≡ 0 → distinct eqb (owned (next s) (allChains s)) ≡ true
+unfolding check stage6 tableOk allOnes
+sound-distinct s c =
+    let a₁ = require-zero (stage1 s) 0 _ c in
+    let a₂ = require-zero (stage2 s) 1 _ (a₁ .1) in
+    let a₃ = require-zero (stage3 s) 2 _ (a₂ .1) in
+    let a₄ = firstOf-zero (faultOf (visitRoot s)) _ (a₃ .1) in
+    let a₆ = require-zero (stage6 s) 5 _ (a₄ .1) in
+    let six = and-split (every (λ c. chainOk (next s) (blockCount s) (c .0) (c .1)) (allChains s)) _ (a₆ .0) in
+    and-split (distinct eqb (owned (next s) (allChains s))) _ (six .1) .0
