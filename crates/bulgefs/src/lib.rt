@@ -18,6 +18,7 @@ ghost use Rattle.volume_file.specs.Begin.{beginRefusal, afterBegin};
 ghost use Rattle.volume_file.specs.Save.{afterPrepare, commitRefusal, afterCommit, afterRecover};
 ghost use Rattle.volume_file.specs.Answers.{PartsAnswer, partsOf, prepareAnswered, prepareAnswer, recoverAnswered, recoverAnswer, homeExtent};
 ghost use Rattle.salvage.specs.Salvage.{SalvageAnswer, salvage};
+ghost use Rattle.salvage_tree.specs.SalvageTree.{TreeAnswer, salvageTree};
 ghost use Rattle.journal.specs.Journal.{startRefusal, afterStart};
 ghost use Rattle.journal.specs.Answers.{changedAnswer};
 ghost use Rattle.bulgefs.specs.Version.{version};
@@ -63,6 +64,14 @@ pub struct Created {
 pub struct Changed {
     pub number: u32,
     pub size: u32,
+}
+
+// The refusal of a salvage of a tree, or 0, how many entries it dropped and how many blocks it freed.
+#[repr(C)]
+pub struct Salvaged {
+    pub number: u32,
+    pub dropped: u32,
+    pub freed: u32,
 }
 
 // The refusal that stopped a list of writes, or 0, and how many of them were done.
@@ -227,6 +236,18 @@ pub extern "C" fn bulgefs_salvage(image: &mut [u8], report: &mut [u8]) -> u32
     ensures { λ r. ⌜ _≡_ {A = SalvageAnswer} (record { number = r; image = now (image .exit); report = now (report .exit) }) (salvage (now (image .entry)) (now (report .entry))) ⌝ }
 {
     salvage::salvage::salvage(image, report)
+}
+
+#[no_mangle]
+pub extern "C" fn bulgefs_salvage_tree(image: &mut [u8], report: &mut [u8]) -> Salvaged
+    ensures { λ r. ⌜ _≡_ {A = TreeAnswer} (record { number = r .number; zeroed = r .dropped; freed = r .freed; image = now (image .exit); report = now (report .exit) }) (salvageTree (now (image .entry)) (now (report .entry))) ⌝ }
+{
+    let a = salvage_tree::salvage_tree::salvage_tree(image, report);
+    Salvaged {
+        number: a.number,
+        dropped: a.zeroed,
+        freed: a.freed,
+    }
 }
 
 // The answer of a change, by its fields.

@@ -1,5 +1,5 @@
 // Salvage of a broken volume. The call is `salvage::salvage`, on any bytes.
-mod chains;
+pub mod chains;
 pub mod salvage;
-mod slots;
-mod table;
+pub mod slots;
+pub mod table;

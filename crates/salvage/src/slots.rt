@@ -27,7 +27,7 @@ fn file_code(own: bool, second: bool) -> u8
 }
 
 // The file in slot k of block b, whose own chain is claimed: the last value of it, then the chain of its attributes. It gives the slot's code.
-fn take_file(image: &mut [u8], t: usize, n: usize, b: usize, k: usize, marks: &mut [u8]) -> u8
+pub fn take_file(image: &mut [u8], t: usize, n: usize, b: usize, k: usize, marks: &mut [u8]) -> u8
     requires { ⌜ (Room (now image) t n (now marks)) × (b < n) × (ChainBelow (now image) n (firstBlock (now image) (entryAt b k)) (blocksOf (now image) (entryAt b k))) ⌝ }
     ensures { λ r. ⌜ FileTaken (now (image .entry)) (now (marks .entry)) (entryAt b k) r (now (image .exit)) (now (marks .exit)) ⌝ }
 {

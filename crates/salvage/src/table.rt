@@ -38,7 +38,7 @@ fn put_one(image: &mut [u8], b: usize)
 }
 
 // Sets entries 0 to k − 1 to 1.
-fn put_ones(image: &mut [u8], k: usize)
+pub fn put_ones(image: &mut [u8], k: usize)
     requires { ⌜ 512 * tableBlocks k + 512 ≤ length (now image) ⌝ }
     ensures { λ _. ⌜ now (image .exit) ≡ inTurn oneAt (now (image .entry)) (interval 0 k) ⌝ }
 {
@@ -71,7 +71,7 @@ fn free_entry(image: &mut [u8], n: usize, marks: &[u8], b: usize)
 }
 
 // The same of the k entries from `from` on.
-fn free_entries(image: &mut [u8], n: usize, marks: &[u8], from: usize, k: usize)
+pub fn free_entries(image: &mut [u8], n: usize, marks: &[u8], from: usize, k: usize)
     requires { ⌜ (Shape (now image) n) × (from + k ≤ 128 * tableBlocks n) × (from + k ≤ length (now marks)) ⌝ }
     ensures { λ _. ⌜ EntriesFreed (now (image .entry)) (now (marks .entry)) from k (now (image .exit)) ⌝ }
 {
@@ -96,7 +96,7 @@ pub fn put_table(image: &mut [u8], t: usize, n: usize, marks: &[u8])
 }
 
 // Whether the header's counts are right: `used` of n blocks.
-fn counts_right(image: &[u8], n: usize, used: usize) -> bool
+pub fn counts_right(image: &[u8], n: usize, used: usize) -> bool
     requires { ⌜ (Shape (now image) n) × (used ≡ countUsed (next (now image)) 0 n) × (used ≤ n) ⌝ }
     ensures { λ r. ⌜ r ≡ stage7 (now (image .entry)) ⌝ }
 {

@@ -1,0 +1,10 @@
+pub mod Numbers
+pub mod Blocks
+pub mod Puts
+pub mod Names
+pub mod Entries
+pub mod Levels
+pub mod Rest
+pub mod Folders
+pub mod Lost
+pub mod Counts
