@@ -115,8 +115,8 @@ extern "C" {
  * number rises with every call, number or limit that comes or changes.
  * CHANGELOG.md says what came with each.
  */
-#define BULGEFS_VERSION            1300u
-#define BULGEFS_VERSION_TEXT       "0.13.0"
+#define BULGEFS_VERSION            1400u
+#define BULGEFS_VERSION_TEXT       "0.14.0"
 
 /*
  * The compiler says if an answer is not used.  Define BULGEFS_CHECKED as

@@ -86,7 +86,7 @@ pub struct Listed {
 pub extern "C" fn bulgefs_version() -> u32
     ensures { λ r. ⌜ r ≡ version ⌝ }
 {
-    1300
+    1400
 }
 
 #[no_mangle]
