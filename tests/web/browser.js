@@ -60,7 +60,7 @@ const LONGEST = "window.longest = 0; new PerformanceObserver((list) => { for (co
 async function fleet(browser, file) {
   await visit(browser, [file], async (page) => {
     console.log(`900 boxes: opened with ${Math.round(await page.run("window.longest"))} ms in one piece at most`);
-    assert((await page.run("window.longest")) < 10000);
+    assert((await page.run("window.longest")) < 30000);
     assert.match(await page.text("verdict"), /^Sound autumn tour, 900 boxes in 9 folders$/);
     assert.strictEqual(await page.text("reply"), "No: 60 changes since this morning.");
     assert.strictEqual(await page.run("document.querySelectorAll('#list button').length"), 900);
@@ -84,7 +84,7 @@ async function search(page) {
   await page.run("document.getElementById('search').focus()");
   const took = await page.run("(() => { const t = performance.now(); for (const v of ['s', 'sn16', '']) { const s = document.getElementById('search'); s.value = v; s.dispatchEvent(new Event('input')); document.body.offsetHeight; } return performance.now() - t; })()");
   console.log(`900 boxes: a search in ${Math.round(took / 3)} ms`);
-  assert(took < 10000);
+  assert(took < 30000);
   await page.type("sn1642");
   await page.until("document.querySelectorAll('#list button').length === 1");
   assert.strictEqual(await page.text("matches"), "1 of 900 boxes");
