@@ -1,7 +1,8 @@
 /*
  * main.c - the walk as a program with a C library: main CALLS SEED prints the
  * hash.  With a third word it also prints a line for each call: its name, and
- * every number that it gave with how often, as `create 0:812 9:31`.
+ * every number that it gave with how often, as `create 0:812 9:31`, and for a
+ * change how often it was tried in a journal of exactly its length (walk.h).
  */
 #include "walk.h"
 
@@ -21,6 +22,7 @@ int main(int argc, char **argv)
         printf("%s", names[k]);
         for (int n = 0; n < WALK_NUMBERS; n++)
             if (walk_seen[k][n]) printf(" %d:%" PRIu32, n, walk_seen[k][n]);
+        if (walk_fitted[k]) printf(" fitted:%" PRIu32, walk_fitted[k]);
         printf("\n");
     }
     return 0;

@@ -17,8 +17,11 @@ enum {
     WORLDS = 4                 /* the last one has large images                 */
 };
 
-uint32_t walk_seen[WALK_KINDS][WALK_NUMBERS];
+uint32_t walk_seen[WALK_KINDS][WALK_NUMBERS], walk_fitted[WALK_KINDS];
 static uint64_t seed, hash, calls_made;
+static unsigned last_kind;   /* of the call that was made last                 */
+static uint32_t last_number; /* its number                                     */
+static size_t begun;         /* the steps with which the walk has begun so far */
 
 /* Random numbers. */
 
@@ -110,6 +113,8 @@ static void put_bytes(const uint8_t *bytes, size_t n)
 static void answer(unsigned kind, uint32_t number)
 {
     calls_made++;
+    last_kind = kind;
+    last_number = number;
     put(number);
     walk_seen[kind][number < WALK_NUMBERS ? number : WALK_NUMBERS - 1]++;
 }
@@ -224,10 +229,10 @@ static void format(void)
     put_buffers();
 }
 
-static void new_world(void)
+static void make_world(size_t image_bytes, size_t journal_bytes)
 {
-    w->image_len = (size_t)512 * blocks_of_a_new_image();
-    w->journal_len = one_in(10) ? 5 + below(3000) : 5 + below(JOURNAL - 5);
+    w->image_len = image_bytes;
+    w->journal_len = journal_bytes;
     w->image = w->image_room + below(8);
     w->journal = w->journal_room + below(8);
     w->damaged = 0;
@@ -237,6 +242,12 @@ static void new_world(void)
     lend();
     format();
     start_journal();
+}
+
+static void new_world(void)
+{
+    uint32_t blocks = blocks_of_a_new_image();
+    make_world((size_t)512 * blocks, one_in(10) ? 5 + below(3000) : 5 + below(JOURNAL - 5));
 }
 
 /* Damage. */
@@ -547,10 +558,9 @@ static void clear_flags(void)
     put_changed(K_clear_flags, bulgefs_clear_flags(BOTH, PATH));
 }
 
-static void put_settings(void)
+static void put_of_a_box(int in)
 {
     size_t n = one_in(4) ? 200 : one_in(12) ? 256 + below(200) : below(203);
-    int in = one_in(2);
     uint64_t time = next();
     bulgefs_put p;
     box();
@@ -563,10 +573,19 @@ static void put_settings(void)
     put_buffers();
 }
 
-static void get_settings(void)
+static void put_settings(void)
+{
+    put_of_a_box(0);
+}
+
+static void put_settings_in(void)
+{
+    put_of_a_box(1);
+}
+
+static void get_of_a_box(int in)
 {
     size_t room = one_in(9) ? below(210) : 200 + below(90);
-    int in = one_in(2);
     uint32_t revision = one_in(3) ? below(30) : w->revision;
     bulgefs_got g;
     revision = wide32(revision);
@@ -579,10 +598,19 @@ static void get_settings(void)
     put_bytes(buffer, 400);
 }
 
-static void get_latest_settings(void)
+static void get_settings(void)
+{
+    get_of_a_box(0);
+}
+
+static void get_settings_in(void)
+{
+    get_of_a_box(1);
+}
+
+static void get_latest_of_a_box(int in)
 {
     size_t room = one_in(9) ? below(210) : 200 + below(90);
-    int in = one_in(2);
     bulgefs_got g;
     box();
     g = in ? bulgefs_get_latest_settings_in(IMAGE, DIRECTORY, SERIAL, buffer, room) : bulgefs_get_latest_settings(IMAGE, SERIAL, buffer, room);
@@ -590,6 +618,16 @@ static void get_latest_settings(void)
     put(g.revision);
     put(g.length);
     put_bytes(buffer, 400);
+}
+
+static void get_latest_settings(void)
+{
+    get_latest_of_a_box(0);
+}
+
+static void get_latest_settings_in(void)
+{
+    get_latest_of_a_box(1);
 }
 
 /* At times with the journal of another image. */
@@ -924,15 +962,19 @@ static void file_damage(void)
 
 /* The walk. */
 
+enum { CHANGES = 16, STEPS = 44 };
+
+/* The first CHANGES steps are those that add records to the journal. */
 static const struct {
     void (*make)(void);
     uint32_t weight;
-} steps[] = {
+} steps[STEPS] = {
     {create, 14},        {write_file, 13},       {write_settings, 1},   {append, 7},         {write_list, 4},
     {shorten, 4},        {replace, 5},
     {delete_file, 5},    {create_directory, 7},  {delete_directory, 3}, {set_attributes, 3}, {clear_attributes, 1},
     {move_file, 5},
-    {clear_flags, 2},    {put_settings, 9},      {get_settings, 6},     {get_latest_settings, 4},
+    {clear_flags, 2},    {put_settings, 5},      {put_settings_in, 4},
+    {get_settings, 3},   {get_settings_in, 3},   {get_latest_settings, 2}, {get_latest_settings_in, 2},
     {undo, 3},           {journal_info, 3},      {undo_to, 1},          {version, 1},        {check, 2},
     {plain_check, 1},    {lookup, 5},            {read_file, 4},        {read_next, 4},      {read_attributes, 2},
     {look_in_place, 6},  {info, 2},              {list_directory, 4},   {load_table, 1},     {store_table, 1},
@@ -940,13 +982,80 @@ static const struct {
     {file_begin, 1},     {file_look, 3},         {file_prepare, 3},     {file_commit, 2},    {file_recover, 3},    {file_damage, 1},
 };
 
+/* The journal's used length, or 0 where it is refused. */
+static uint32_t used(void)
+{
+    bulgefs_journal j = bulgefs_journal_info(BOTH);
+    answer(K_journal_info, j.number);
+    put(j.used);
+    return j.used;
+}
+
+static void back_to(uint32_t mark)
+{
+    bulgefs_listed b = bulgefs_undo_to(BOTH, mark);
+    answer(K_undo_to, b.number);
+    put(b.done);
+}
+
+/*
+ * A change in a journal that lacks one byte for its records, and in one that has
+ * exactly their length.  How long they are is seen when it is made and taken back
+ * first; each time it draws the same random numbers.
+ */
+static int fit(size_t change)
+{
+    uint64_t from = seed;
+    uint32_t before = used(), after;
+    unsigned kind;
+    steps[change].make();
+    kind = last_kind;
+    after = used();
+    if (before == 0 || after <= before) return 0;
+    journal_len = after - 1;
+    used();
+    answer(K_undo, bulgefs_undo(BOTH).number);
+    back_to(before);
+    journal_len = after;
+    used();
+    back_to(before);
+    for (journal_len = after - 1; journal_len <= after; journal_len++) {
+        seed = from;
+        steps[change].make();
+    }
+    walk_fitted[kind]++;
+    return 1;
+}
+
+/* The walk begins with every step; each is tried until it is accepted, and a change in a journal of exactly its length. */
+static void begin_with(size_t i)
+{
+    int done = 0;
+    w = &worlds[0];
+    if (w->image == 0) {
+        make_world(100 * 512, JOURNAL);
+        for (int files = 0; files < 12; files++) create();
+    }
+    for (int tries = 0; !done && tries < 40; tries++) {
+        if (w->damaged) give_back();
+        lend();
+        if (i < CHANGES) {
+            done = fit(i);
+        } else {
+            steps[i].make();
+            done = last_number == 0;
+        }
+    }
+}
+
 static void make_a_step(void)
 {
     uint32_t all = 0, at;
     size_t i = 0;
-    for (size_t k = 0; k < sizeof steps / sizeof steps[0]; k++) all += steps[k].weight;
+    for (size_t k = 0; k < STEPS; k++) all += steps[k].weight;
     for (at = below(all); at >= steps[i].weight; i++) at -= steps[i].weight;
-    steps[i].make();
+    if (i < CHANGES && one_in(12)) fit(i);
+    else steps[i].make();
 }
 
 /* Each step once, on a large image that was just made. */
@@ -954,7 +1063,7 @@ static void all_steps(void)
 {
     lend();
     look_at_a_new_file();
-    for (size_t i = 0; i < sizeof steps / sizeof steps[0]; i++) {
+    for (size_t i = 0; i < STEPS; i++) {
         lend();
         steps[i].make();
     }
@@ -962,7 +1071,12 @@ static void all_steps(void)
 
 static void step(void)
 {
-    int large = one_in(150);
+    int large;
+    if (begun < STEPS) {
+        begin_with(begun++);
+        return;
+    }
+    large = one_in(150);
     w = &worlds[large ? WORLDS - 1 : below(WORLDS - 1)];
     if (w->image == 0 || one_in(large ? 20 : 150)) {
         new_world();
@@ -979,14 +1093,17 @@ void walk_begin(uint64_t s)
     seed = s;
     hash = 0xCBF29CE484222325u;
     calls_made = 0;
+    begun = 0;
     for (int i = 0; i < WORLDS; i++) {
         int large = i == WORLDS - 1;
         worlds[i].image = 0;
         worlds[i].image_room = large ? large_room[0] : small_rooms[i][0];
         worlds[i].image_kept = large ? large_room[1] : small_rooms[i][1];
     }
-    for (int i = 0; i < WALK_KINDS; i++)
+    for (int i = 0; i < WALK_KINDS; i++) {
+        walk_fitted[i] = 0;
         for (int k = 0; k < WALK_NUMBERS; k++) walk_seen[i][k] = 0;
+    }
     for (size_t i = 0; i < sizeof buffer; i++) buffer[i] = data[i] = 0;
     for (size_t i = 0; i < sizeof list; i++) list[i] = 0;
     for (size_t i = 0; i < sizeof entries / sizeof entries[0]; i++) entries[i] = 0;

@@ -58,6 +58,9 @@ enum { WALK_CALLS(WALK_KIND) WALK_KINDS, WALK_NUMBERS = 32 };
 /* How often each call gave each number; the last one counts all above. */
 extern uint32_t walk_seen[WALK_KINDS][WALK_NUMBERS];
 
+/* How often a change was refused in a journal that lacked one byte for its records, and made in one of exactly their length. */
+extern uint32_t walk_fitted[WALK_KINDS];
+
 void walk_begin(uint64_t seed);
 
 /* Goes on until so many calls were made since the start, and gives the hash of all of them. */
