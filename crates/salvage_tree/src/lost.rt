@@ -42,7 +42,13 @@ fn is_unnamed(image: &[u8], n: usize, root: usize, b: usize) -> bool
     let mut blocks = super::blocks::no_blocks();
     super::blocks::read_blocks(image, n, root, d, &mut blocks);
     let z = 0;
-    super::names::is_new(image, n, &blocks[z..d], 4 * d - 2, super::names::name_at(image, b, 0))
+    super::names::is_new(
+        image,
+        n,
+        &blocks[z..d],
+        4 * d - 2,
+        super::names::name_at(image, b, 0),
+    )
 }
 
 // Room for an entry.

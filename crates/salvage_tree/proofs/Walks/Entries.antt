@@ -239,9 +239,11 @@ module _ (s : List ℕ) (n parent e : ℕ) (m codes : List ℕ) (r : ℕ) (xs : 
         none = λ z. absurd (omega arith);
         some = λ o left cs M.
             let R = A .reached cs M in
-            let l : 0 < length (take r xs) = F .own h .some in
-            (readied parent (st s cs codes) e (take r xs) .claimed, R .marks,
-            rw (count, F .is h cs M, lt-ltb 0 (length (take r xs)) l, F .witnessed h, ← ef) (ap (λ (q : State). takeSlots (takeChild left (firstBlock s e)) (take r xs) q (slots (take r xs))) (sym (state-is (readied parent (st s cs codes) e (take r xs)) s′ c′ [] (R .image) (R .codes-are)))));
+            let l : 0 < length (take r xs) = F .own h .some in (
+              readied parent (st s cs codes) e (take r xs) .claimed,
+              R .marks,
+              rw (count, F .is h cs M, lt-ltb 0 (length (take r xs)) l, F .witnessed h, ← ef) (ap (λ (q : State). takeSlots (takeChild left (firstBlock s e)) (take r xs) q (slots (take r xs))) (sym (state-is (readied parent (st s cs codes) e (take r xs)) s′ c′ [] (R .image) (R .codes-are)))),
+            );
       }
     where
       state-is : (q : State) (a c : List ℕ) → (cs : List ℕ) → a ≡ q .image → c ≡ q .codes → st a (q .claimed) c ≡ q

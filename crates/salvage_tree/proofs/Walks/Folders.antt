@@ -98,7 +98,7 @@ hung-in s t n b said m codes d xs e H et lo hi z es C s₁ e₁ s₂ m₂ c₂ s
           let p₁ : State = readied (t + 1) (st s₁ cs codes) e ds in
           let S = D .reached (p₁ .claimed) (R .marks) in
           let k : takeSlots (takeChild 7 (getD ds 0 0)) ds (st s₂ (p₁ .claimed) c₂) (slots ds) ≡ adopt (takeChild (maxLevels - 1) b) (t + 1) (st (hungAt s e b) cs codes) e ds
-              = ap (λ (p : State). takeSlots (takeChild 7 (getD ds 0 0)) ds p (slots ds)) (reached-state p₁ s₂ m₂ c₂ R) ∙ rw (f, e₁) in
+          = ap (λ (p : State). takeSlots (takeChild 7 (getD ds 0 0)) ds p (slots ds)) (reached-state p₁ s₂ m₂ c₂ R) ∙ rw (f, e₁) in
           rw (c, es′, B, ← k) (record { image = S .image; marks = S .marks; codes-are = ec ∙ ap (λ (l : List ℕ). coded l e 6) (S .codes-are) });
     }
 

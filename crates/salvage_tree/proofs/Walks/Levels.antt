@@ -89,9 +89,11 @@ module _ {s ds : List ℕ} {left : ℕ} {m codes s₁ m₁ c₁ : List ℕ} {k m
         is = λ cs M.
             let W = w .is cs M in
             let child = takeChild left (getD ds 0 0) in
-            let R = D .reached (W .0) (W .1) in
-            (takeSlot child ds (st s₁ (W .0) c₁) k .claimed, R .marks,
-            W .2 ∙ slots-next child ds (st s₁ (W .0) c₁) k more h ∙ ap (λ (q : State). takeSlots child ds q (interval (k + 1) (more - 1))) (sym (reached-state (takeSlot child ds (st s₁ (W .0) c₁) k) s₂ m₂ c₂ R)));
+            let R = D .reached (W .0) (W .1) in (
+              takeSlot child ds (st s₁ (W .0) c₁) k .claimed,
+              R .marks,
+              W .2 ∙ slots-next child ds (st s₁ (W .0) c₁) k more h ∙ ap (λ (q : State). takeSlots child ds q (interval (k + 1) (more - 1))) (sym (reached-state (takeSlot child ds (st s₁ (W .0) c₁) k) s₂ m₂ c₂ R)),
+            );
       }
 
   pub slotting-end : more ≡ 0 → SlotsDone s ds left m codes s₁ m₁ c₁
