@@ -1,6 +1,6 @@
 // The blocks of a directory. A block that is claimed has a mark; a directory's blocks are put into room for 64 numbers.
 ghost use mathlib.Core.Path.{_≡_};
-ghost use Prim.Native.Nat.{ℕ, _+_, _-_, _*_, _≤_, _<_};
+ghost use Prim.Native.Nat.{ℕ, _+_, _-_, _≤_, _<_};
 ghost use lib.Dec.{eqb};
 ghost use lib.ListN.{length, getD, take};
 ghost use Rattle.layout.specs.Lists.{has, interval};

@@ -1,9 +1,7 @@
 // A directory's slots, and from a slot to a child directory, at most so many levels.
-ghost use mathlib.Core.Path.{_≡_};
 ghost use Prim.Native.Nat.{_*_, _≤_, _<_};
 ghost use lib.ListN.{length};
 ghost use Rattle.layout.specs.Limits.{maxLevels};
-ghost use Rattle.layout.specs.Bytes.{zeros};
 ghost use Rattle.salvage_tree.specs.Walks.{Own, Ready, SlotDone, SlotsDone};
 
 // Slots 1 to 4·d − 2 of a directory of d blocks, in order.

@@ -1,22 +1,22 @@
 -- The blocks of a directory: the loops that find them, and the choices.
 use Prim.Native.Nat.{ℕ, zero, suc, _+_, _-_, _*_, _≤_, _<_}
-use mathlib.Core.Bool.{Bool, true, false, not, _&&_, _||_, cond}
+use mathlib.Core.Bool.{Bool, true, false, not, _&&_}
 use mathlib.Core.List.{List, [], _∷_, _++_, append-nil, append-assoc}
-use mathlib.Core.Logic.{_⊎_, inl, inr, ⊎-elim, _≢_}
+use mathlib.Core.Logic.{_⊎_, ⊎-elim}
 use mathlib.Core.Path.{_≡_, refl, sym, ap, _∙_, subst}
 use native.Mathlib.Decide.{ℕ-discrete}
 use native.Mathlib.Omega.{arith}
-use lib.Dec.{eqb, leb}
+use lib.Dec.{eqb}
 use lib.ListN.{length, getD, take, set, length-set}
 use lib.Seq.{take-suc, take-suc-set, getD-set-same, getD-set-other, length-take-le, getD-take, take-take, take-length}
-use borrow.Author.Tests.{eq-eqb, ne-eqb, eqb-true, lt-ltb, ltb-true, le-leb, leb-true, not-true, not-false}
+use borrow.Author.Tests.{eq-eqb, ne-eqb, lt-ltb, not-true}
 use Rattle.layout.specs.Lists.{within, interval, every, has, select}
 use Rattle.layout.specs.Limits.{maxDirectory}
 use Rattle.layout.specs.Geometry.{tableBlocks, inVolume}
 use Rattle.layout.specs.Directory.{typeOf}
 use Rattle.layout.specs.Table.{next, chain}
 use Rattle.layout.proofs.Laws.Tests.{and-split, and-join, is-false, true-not-false, within-join, within-split, lt-or-ge}
-use Rattle.layout.proofs.Laws.Lists.{In, in-left, in-right, in-append, in-elim, getD-in, has-eqb-in, in-has-eqb, false-has, interval-next, length-interval, getD-interval}
+use Rattle.layout.proofs.Laws.Lists.{In, in-left, in-right, in-append, in-elim, getD-in, has-eqb-in, in-has-eqb, false-has, interval-next, getD-interval}
 use Rattle.layout.specs.Walks.Shapes.{DirectoryAt}
 use Rattle.layout.proofs.Laws.Chains.{inVolume-split, nth, nth-suc, chain-snoc, getD-chain}
 use Rattle.layout.proofs.Laws.Joins.{interval-in, in-select, select-has}

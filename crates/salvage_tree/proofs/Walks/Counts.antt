@@ -1,23 +1,23 @@
 -- The refusals and the counts.
-use Prim.Native.Nat.{ℕ, zero, suc, _+_, _-_, _*_, _/_, _%_, _≤_, _<_}
+use Prim.Native.Nat.{ℕ, suc, _+_, _-_, _*_, _/_, _%_, _≤_, _<_}
 use mathlib.Core.Bool.{Bool, true, false, not, cond, _&&_, _||_}
-use mathlib.Core.List.{List, [], _∷_, _++_}
-use mathlib.Core.Logic.{_⊎_, inl, inr, ⊎-elim}
-use mathlib.Core.Path.{_≡_, refl, sym, ap, _∙_, subst}
+use mathlib.Core.List.{List, _∷_, _++_}
+use mathlib.Core.Logic.{_⊎_, ⊎-elim}
+use mathlib.Core.Path.{_≡_, refl, sym, ap, _∙_}
 use native.Mathlib.Decide.{ℕ-discrete}
 use native.Mathlib.Omega.{arith}
 use lib.Dec.{eqb, leb}
 use lib.ListN.{length, getD, set, drop, take, replicate, length-set}
 use lib.Seq.{drop-cons, drop-length, getD-set-same, getD-set-other}
-use borrow.Author.Tests.{eq-eqb, ne-eqb, eqb-true, le-leb, lt-leb, leb-true}
+use borrow.Author.Tests.{eq-eqb, ne-eqb, le-leb, lt-leb, leb-true}
 use Rattle.layout.specs.Lists.{within, interval, select, same}
 use Rattle.layout.specs.Limits.{minBlocks, maxBlocks}
 use Rattle.layout.specs.Bytes.{be32, zeros, splice}
-use Rattle.layout.specs.Geometry.{signature, blockCount, tableBlocks, rootBlock}
+use Rattle.layout.specs.Geometry.{signature, blockCount, tableBlocks}
 use Rattle.layout.specs.Directory.{isFree, typeOf}
 use Rattle.layout.specs.Check.{stage1, stage2}
 use Rattle.layout.specs.Walks.Slots.{entryAt}
-use Rattle.layout.proofs.Laws.Tests.{and-split, and-join, is-false, true-not-false, within-join, within-split, require-zero, accept-refused}
+use Rattle.layout.proofs.Laws.Tests.{is-false, within-join, within-split, require-zero, accept-refused}
 use Rattle.layout.proofs.Laws.Lists.{interval-from, select-same}
 use Rattle.layout.proofs.Laws.Joins.{select-agree}
 use Rattle.layout.proofs.Laws.Bytes.{lent}

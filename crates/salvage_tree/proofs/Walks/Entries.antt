@@ -1,28 +1,27 @@
 -- One slot: what is dropped, files, and the directory of an entry.
-use Prim.Native.Nat.{ℕ, zero, suc, _+_, _-_, _*_, _/_, _%_, _≤_, _<_}
-use mathlib.Core.Bool.{Bool, true, false, not, cond, _&&_, _||_}
-use mathlib.Core.List.{List, [], _∷_, _++_}
-use mathlib.Core.Logic.{_⊎_, inl, inr, ⊎-elim}
+use Prim.Native.Nat.{ℕ, _+_, _-_, _*_, _/_, _≤_, _<_}
+use mathlib.Core.Bool.{Bool, true, false, not, cond, _&&_}
+use mathlib.Core.List.{List, [], _++_}
 use mathlib.Core.Path.{_≡_, refl, sym, ap, _∙_, subst}
 use native.Mathlib.Omega.{arith}
 use lib.Dec.{eqb, ltb}
 use lib.ListN.{length, getD, take, drop}
 use lib.Seq.{length-take-le}
-use borrow.Author.Tests.{eq-eqb, ne-eqb, eqb-true, lt-ltb, ltb-true, not-true}
+use borrow.Author.Tests.{eq-eqb, ne-eqb, lt-ltb, ltb-true, not-true}
 use Rattle.layout.specs.Lists.{same, has}
 use Rattle.layout.specs.Limits.{maxDirectory}
 use Rattle.layout.specs.Bytes.{be32, part, zeros, splice}
 use Rattle.layout.specs.Geometry.{blockCount, inVolume}
 use Rattle.layout.specs.Table.{next, chain}
-use Rattle.layout.specs.Directory.{slotAt, slots, typeOf, isFree, isFile, firstBlock, blocksOf, selfOf, fileBlocks}
+use Rattle.layout.specs.Directory.{slotAt, slots, typeOf, isFile, firstBlock, blocksOf, selfOf, fileBlocks}
 use Rattle.layout.specs.Check.{slotOk, newName}
 use Rattle.layout.specs.Walks.Shapes.{Shape, ChainBelow}
 use Rattle.layout.specs.Walks.Slots.{entryAt}
-use Rattle.layout.proofs.Laws.Tests.{and-split, and-join, is-false, true-not-false}
+use Rattle.layout.proofs.Laws.Tests.{and-split, is-false, true-not-false}
 use Rattle.layout.proofs.Laws.Lists.{In, every-in, getD-in, has-eqb-in}
-use Rattle.salvage.specs.Salvage.{Progress, claimable, takeFile, endAt}
+use Rattle.salvage.specs.Salvage.{claimable, takeFile, endAt}
 use Rattle.salvage.specs.Walks.{MarksOf, Claimed, FileTaken, progress}
-use Rattle.salvage_tree.specs.SalvageTree.{State, coded, dropped, keepFile, takeFileAt, takeSlot, takeSlots, witness, directoryBlocks, putDirectory, sized, takeChild}
+use Rattle.salvage_tree.specs.SalvageTree.{State, coded, dropped, keepFile, takeFileAt, takeSlot, takeSlots, witness, takeChild}
 use Rattle.salvage_tree.specs.Walks.{st, Reached, IsGood, Chose, Own, Adopted, readied, FileDone, EntryTaken, childBlocks, Found, Entered}
 use Rattle.salvage_tree.proofs.Laws.Chosen.{Chosen, chosen, blocks-some}
 use Rattle.salvage_tree.proofs.Walks.Names.{slot-is}

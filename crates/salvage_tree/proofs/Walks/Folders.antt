@@ -1,29 +1,23 @@
 -- The root, and lost folders.
-use Prim.Native.Nat.{ℕ, suc, _+_, _-_, _*_, _≤_, _<_}
-use mathlib.Core.Bool.{Bool, true, false, not, cond, _&&_, _||_}
-use mathlib.Core.List.{List, [], _∷_, _++_}
-use mathlib.Core.Logic.{_⊎_, inl, inr, ⊎-elim}
+use Prim.Native.Nat.{ℕ, _+_, _-_, _*_, _<_}
+use mathlib.Core.Bool.{false}
+use mathlib.Core.List.{List, []}
 use mathlib.Core.Path.{_≡_, refl, sym, ap, _∙_, subst}
 use native.Mathlib.Omega.{arith}
 use lib.Dec.{eqb}
 use lib.ListN.{length, getD, take, drop}
-use borrow.Author.Tests.{eq-eqb, ne-eqb, lt-ltb}
-use Rattle.layout.specs.Lists.{interval, every, has}
-use Rattle.layout.specs.Limits.{maxDirectory, maxLevels}
+use borrow.Author.Tests.{eq-eqb}
+use Rattle.layout.specs.Limits.{maxLevels}
 use Rattle.layout.specs.Bytes.{be32, part, zeros}
-use Rattle.layout.specs.Geometry.{blockCount, tableBlocks, rootBlock, inVolume}
-use Rattle.layout.specs.Table.{next}
-use Rattle.layout.specs.Directory.{slots, typeOf, blocksOf}
+use Rattle.layout.specs.Geometry.{blockCount, tableBlocks, rootBlock}
+use Rattle.layout.specs.Directory.{slots, blocksOf}
 use Rattle.layout.specs.Walks.Shapes.{Shape}
 use Rattle.layout.specs.Walks.Slots.{entryAt}
-use Rattle.layout.proofs.Laws.Tests.{and-join}
-use Rattle.layout.proofs.Laws.Lists.{false-has}
 use Rattle.layout.proofs.Laws.Bytes.{getD-zeros}
 use Rattle.layout.proofs.Walks.Shapes.{shape-blockCount}
 use Rattle.salvage.specs.Walks.{MarksOf}
-use Rattle.salvage.proofs.Walks.Claims.{unmarked-out}
 use Rattle.salvage_tree.specs.SalvageTree.{State, coded, putDirectory, takeSlots, takeChild, adopt, directoryBlocks, rootBlocks, treeDone, hungAt}
-use Rattle.salvage_tree.specs.Walks.{st, Reached, IsGood, Chose, Own, PutDone, Adopted, readied, SlotsDone, RootDone, hungState, HungIn}
+use Rattle.salvage_tree.specs.Walks.{st, Reached, Chose, Own, PutDone, Adopted, readied, SlotsDone, RootDone, hungState, HungIn}
 use Rattle.salvage_tree.proofs.Walks.Blocks.{chose-own, chose-first, good-marked}
 use Rattle.salvage_tree.proofs.Walks.Entries.{front, chose-some}
 

@@ -1,17 +1,16 @@
 -- A directory's slots, and the child of a slot.
 use Prim.Native.Nat.{ℕ, suc, _+_, _-_, _*_, _≤_, _<_}
 use mathlib.Core.Bool.{Bool, true, false}
-use mathlib.Core.List.{List, [], _∷_}
+use mathlib.Core.List.{List}
 use mathlib.Core.Path.{_≡_, refl, sym, ap, _∙_, subst}
 use native.Mathlib.Omega.{arith}
 use lib.ListN.{length, getD, take, drop}
 use Rattle.layout.specs.Lists.{interval}
 use Rattle.layout.specs.Bytes.{zeros, splice}
 use Rattle.layout.specs.Directory.{slotAt, slots}
-use Rattle.layout.specs.Walks.Slots.{entryAt}
 use Rattle.layout.proofs.Laws.Lists.{interval-next}
 use Rattle.salvage.specs.Walks.{MarksOf}
-use Rattle.salvage_tree.specs.SalvageTree.{State, coded, dropped, takeSlot, takeSlots, takeChild}
+use Rattle.salvage_tree.specs.SalvageTree.{State, coded, takeSlot, takeSlots, takeChild}
 use Rattle.salvage_tree.specs.Walks.{st, Reached, Ready, Own, EntryTaken, Entered, SlotDone, SlotsDone}
 use Rattle.salvage_tree.proofs.Walks.Entries.{dropped-is, front}
 

@@ -1,6 +1,6 @@
 -- Lost folders: the tests in the code's order, one block, and all.
-use Prim.Native.Nat.{ℕ, suc, _+_, _-_, _*_, _≤_, _<_}
-use mathlib.Core.Bool.{Bool, true, false, not, cond, _&&_, _||_}
+use Prim.Native.Nat.{ℕ, _+_, _-_, _*_, _≤_, _<_}
+use mathlib.Core.Bool.{Bool, true, false, not, _&&_}
 use mathlib.Core.List.{List, [], _∷_}
 use mathlib.Core.Path.{_≡_, refl, sym, ap, _∙_, subst}
 use native.Mathlib.Omega.{arith}
@@ -8,10 +8,10 @@ use lib.Dec.{eqb}
 use lib.ListN.{length, getD, take, drop}
 use lib.Seq.{take-all}
 use borrow.Author.Tests.{eq-eqb, ne-eqb, eqb-true}
-use Rattle.layout.specs.Lists.{interval, every, has, same}
+use Rattle.layout.specs.Lists.{interval, every, has}
 use Rattle.layout.specs.Bytes.{be32, part, zeros, splice}
 use Rattle.layout.specs.Table.{next, chain}
-use Rattle.layout.specs.Directory.{slotAt, slots, typeOf, isFree, selfOf, parentOf, blocksOf, nameOf, nameOk, goodName, freeSlot, directory, rootOf}
+use Rattle.layout.specs.Directory.{slotAt, typeOf, selfOf, parentOf, blocksOf, nameOf, nameOk, goodName, freeSlot, directory, rootOf}
 use Rattle.layout.specs.Walks.Entries.{fieldOk}
 use Rattle.layout.specs.Walks.Slots.{Stands, entryAt}
 use Rattle.layout.specs.Limits.{minBlocks, maxBlocks}

@@ -1,20 +1,19 @@
 -- Names: the length of one, and the loop that looks for it.
-use Prim.Native.Nat.{ℕ, zero, suc, _+_, _-_, _*_, _/_, _%_, _≤_, _<_}
-use mathlib.Core.Bool.{Bool, true, false, not, _&&_, _||_}
-use mathlib.Core.List.{List, [], _∷_}
-use mathlib.Core.Logic.{_⊎_, inl, inr, ⊎-elim}
-use mathlib.Core.Path.{_≡_, refl, sym, ap, _∙_, subst}
+use Prim.Native.Nat.{ℕ, suc, _+_, _-_, _/_, _≤_, _<_}
+use mathlib.Core.Bool.{Bool, true, false, not, _&&_}
+use mathlib.Core.List.{List}
+use mathlib.Core.Logic.{_⊎_, ⊎-elim}
+use mathlib.Core.Path.{_≡_, refl, sym, ap, _∙_}
 use native.Mathlib.Omega.{arith}
-use lib.Dec.{eqb}
 use lib.ListN.{length, getD, take, drop}
-use lib.Seq.{drop-length, getD-drop}
+use lib.Seq.{drop-length}
 use borrow.Author.Tests.{eq-eqb, ne-eqb}
 use Rattle.layout.specs.Lists.{interval, every, same}
 use Rattle.layout.specs.Bytes.{part}
-use Rattle.layout.specs.Directory.{slotAt, typeOf, isFree, unpadded, goodName, nameOf, nameOk}
+use Rattle.layout.specs.Directory.{slotAt, typeOf, unpadded, goodName, nameOf, nameOk}
 use Rattle.layout.specs.Check.{slotOk, newName, fileOk, directoryEntryOk}
 use Rattle.layout.specs.Walks.Slots.{entryAt}
-use Rattle.layout.proofs.Laws.Tests.{and-split, true-not-false}
+use Rattle.layout.proofs.Laws.Tests.{and-split}
 use Rattle.layout.proofs.Laws.Lists.{interval-next}
 use Rattle.layout.proofs.Laws.Names.{take-unpadded}
 use Rattle.layout.proofs.Laws.Sound.{slotOk-split}

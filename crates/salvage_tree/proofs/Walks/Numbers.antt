@@ -12,7 +12,7 @@ use Rattle.layout.specs.Bytes.{be32, bytes4, part, splice}
 use Rattle.layout.specs.Table.{next, setNext}
 use Rattle.layout.specs.Walks.Slots.{entryAt}
 use Rattle.layout.proofs.Laws.Tests.{is-false, true-not-false}
-use Rattle.layout.proofs.Laws.Bytes.{sets-splice, be32-splice}
+use Rattle.layout.proofs.Laws.Bytes.{sets-splice}
 use Rattle.layout.proofs.Laws.Names.{same-eq, same-refl}
 use Rattle.salvage_tree.specs.SalvageTree.{coded, putNumber, putByte, putField, putValue}
 use Rattle.salvage_tree.proofs.Laws.Puts.{number-is, byte-is}

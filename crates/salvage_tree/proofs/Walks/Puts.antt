@@ -1,30 +1,29 @@
 -- A directory put right: what its chain and its self entry were, and what comes of image, marks and codes.
-use Prim.Native.Nat.{ℕ, zero, suc, _+_, _-_, _*_, _/_, _%_, _≤_, _<_}
+use Prim.Native.Nat.{ℕ, suc, _+_, _-_, _*_, _/_, _%_, _≤_, _<_}
 use mathlib.Core.Bool.{Bool, true, false, cond, _&&_}
-use mathlib.Core.List.{List, [], _∷_, _++_}
-use mathlib.Core.Logic.{_⊎_, inl, inr, ⊎-elim}
+use mathlib.Core.List.{List, [], _∷_}
+use mathlib.Core.Logic.{inl, inr}
 use mathlib.Core.Path.{_≡_, refl, sym, ap, _∙_, subst}
 use native.Mathlib.Omega.{arith}
 use lib.Dec.{eqb}
 use lib.ListN.{length, getD, drop}
 use lib.Seq.{drop-cons, drop-length}
 use borrow.Author.Tests.{eq-eqb, eqb-true, ne-eqb}
-use Rattle.layout.specs.Lists.{same, every, distinct}
-use Rattle.layout.specs.Limits.{minBlocks, maxBlocks, maxDirectory}
+use Rattle.layout.specs.Lists.{same, every}
+use Rattle.layout.specs.Limits.{maxDirectory}
 use Rattle.layout.specs.Bytes.{be32, part, splice}
-use Rattle.layout.specs.Geometry.{tableBlocks, rootBlock, inVolume}
+use Rattle.layout.specs.Geometry.{tableBlocks, inVolume}
 use Rattle.layout.specs.Table.{next, chain, endsAfter}
 use Rattle.layout.specs.Directory.{slotAt, typeOf, selfOf, parentOf, blocksOf}
 use Rattle.layout.specs.Walks.Shapes.{Shape}
 use Rattle.layout.specs.Walks.Slots.{entryAt}
-use Rattle.layout.proofs.Laws.Tests.{and-split, and-join, true-not-false}
-use Rattle.layout.proofs.Laws.Lists.{In, every-in, getD-in}
+use Rattle.layout.proofs.Laws.Tests.{and-split, and-join}
+use Rattle.layout.proofs.Laws.Lists.{In, every-in}
 use Rattle.layout.proofs.Laws.Chains.{inVolume-split}
 use Rattle.layout.proofs.Laws.Names.{same-eq, same-refl}
 use Rattle.salvage.specs.Salvage.{endAt}
-use Rattle.salvage.specs.Walks.{MarksOf}
-use Rattle.salvage_tree.specs.SalvageTree.{State, coded, note, putNumber, putByte, putField, putValue, linkFrom, linked, selfPut, putDirectory, sized}
-use Rattle.salvage_tree.specs.Walks.{st, Reached, Own, MarkedToo, linksFrom, linksRight, selfRight, PutDone, readied, Adopted}
+use Rattle.salvage_tree.specs.SalvageTree.{coded, note, putNumber, putByte, putField, putValue, linkFrom, linked, selfPut, putDirectory, sized}
+use Rattle.salvage_tree.specs.Walks.{st, Own, MarkedToo, linksFrom, linksRight, selfRight, PutDone, Adopted}
 use Rattle.salvage_tree.proofs.Laws.Puts.{SelfIs, self-is, LinkedIs, links}
 use Rattle.salvage_tree.proofs.Laws.Steps.{next-behind}
 use Rattle.salvage_tree.proofs.Walks.Numbers.{both-ways, number-left, byte-left, byte-set, byte-flag, field-left, value-left, number-flag}

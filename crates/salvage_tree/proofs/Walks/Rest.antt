@@ -1,8 +1,8 @@
 -- The rest: codes of freed blocks, the table, the header, and whether anything of them was different.
-use Prim.Native.Nat.{ℕ, zero, suc, _+_, _-_, _*_, _/_, _≤_, _<_}
-use mathlib.Core.Bool.{Bool, true, false, not, cond, _&&_, _||_, or-true}
-use mathlib.Core.List.{List, [], _∷_}
-use mathlib.Core.Logic.{_⊎_, inl, inr, ⊎-elim, _≢_}
+use Prim.Native.Nat.{ℕ, zero, suc, _+_, _-_, _*_, _/_, _<_}
+use mathlib.Core.Bool.{Bool, true, false, cond, _&&_, _||_, or-true}
+use mathlib.Core.List.{List}
+use mathlib.Core.Logic.{_≢_}
 use mathlib.Core.Path.{_≡_, refl, sym, ap, _∙_, subst}
 use native.Mathlib.Omega.{arith}
 use lib.Dec.{eqb}
@@ -16,19 +16,17 @@ use Rattle.layout.specs.Table.{next, allOnes}
 use Rattle.layout.specs.Check.{stage1, stage2, stage3, stage7}
 use Rattle.layout.specs.Walks.Shapes.{Shape}
 use Rattle.layout.specs.Walks.Stages.{headStage}
-use Rattle.layout.specs.Refusals.{require}
-use Rattle.layout.proofs.Laws.Tests.{and-split, and-join, is-false, true-not-false, true-or-false, require-zero, within-join}
-use Rattle.layout.proofs.Laws.Lists.{In, interval-next, every-interval, interval-every, in-has-eqb, has-eqb-in, false-has}
+use Rattle.layout.proofs.Laws.Tests.{and-split, and-join, is-false, true-not-false, require-zero, within-join}
+use Rattle.layout.proofs.Laws.Lists.{interval-next, interval-every, in-has-eqb, false-has}
 use Rattle.layout.proofs.Laws.Names.{same-eq, same-refl}
 use Rattle.layout.proofs.Walks.Shapes.{shape-blockCount}
 use Rattle.salvage.specs.Salvage.{oneAt, freeAt, inTurn, countsPut}
 use Rattle.salvage.specs.Walks.{MarksOf, EntriesFreed}
 use Rattle.salvage.proofs.Laws.Puts.{Ones, ones-put, Frees, frees-put}
 use Rattle.salvage.proofs.Walks.Turns.{one-left, free-left, counts-left}
-use Rattle.salvage.proofs.Walks.Table.{turn-last, turn-more}
 use Rattle.salvage.proofs.Walks.Claims.{unmarked-out, marked-in}
 use Rattle.salvage_tree.specs.SalvageTree.{coded, putNumber, onesPut, blocksFreed, paddingPut, headPut, freedCodes, rest}
-use Rattle.salvage_tree.specs.Walks.{st, FreedNoted, IsFree, AllFree, signed, BlocksPut, PaddingPut, RestPut}
+use Rattle.salvage_tree.specs.Walks.{FreedNoted, IsFree, AllFree, signed, BlocksPut, PaddingPut, RestPut}
 use Rattle.salvage_tree.proofs.Laws.Rest.{HeadIs, head-is}
 use Rattle.salvage_tree.proofs.Walks.Numbers.{both-ways, number-left, one-set}
 

@@ -1,5 +1,4 @@
 use borrow.Author.Needs.{needs}
-use native.Mathlib.Omega.{arith}
 use Rattle.salvage_tree.proofs.Walks.Blocks.{ends-typed, ends-valued}
 use Rattle.salvage_tree.proofs.blocks.ends_in.Statement.{statement}
 use Rattle.salvage_tree.proofs.blocks.ends_in.Tie as tie

@@ -1,4 +1,3 @@
-use native.Mathlib.Omega.{arith}
 use mathlib.Core.Path.{refl}
 use Rattle.layout.specs.Bytes.{zeros}
 use Rattle.salvage_tree.proofs.blocks.no_blocks.Statement.{statement}

@@ -1,7 +1,6 @@
 use native.Mathlib.Omega.{arith}
 use Prim.Native.Nat.{_-_, _≤_}
 use mathlib.Core.Path.{_∙_, sym}
-use Rattle.layout.specs.Limits.{maxDirectory}
 use Rattle.salvage_tree.proofs.Walks.Blocks.{Reading, reading-start, reading-more, reading-end, reading-below}
 use Rattle.salvage_tree.proofs.blocks.read_blocks.Statement.{statement}
 use Rattle.salvage_tree.proofs.blocks.read_blocks.Tie as tie

@@ -1,6 +1,6 @@
 use borrow.Author.Needs.{needs}
 use native.Mathlib.Omega.{arith}
-use mathlib.Core.Path.{sym, ap, _∙_}
+use mathlib.Core.Path.{ap, _∙_}
 use lib.ListN.{length}
 use Rattle.layout.proofs.Laws.Bytes.{length-zeros}
 use Rattle.salvage_tree.proofs.Walks.Lost.{root-read, lent-blocks, lent-long, unnamed-is, good-self}

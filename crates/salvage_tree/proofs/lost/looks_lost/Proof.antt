@@ -1,6 +1,5 @@
 use borrow.Author.Needs.{needs}
 use native.Mathlib.Omega.{arith}
-use mathlib.Core.Path.{sym, _∙_}
 use Rattle.layout.proofs.Walks.Fingerprints.{field-long}
 use Rattle.salvage_tree.proofs.Walks.Lost.{lost-marked, lost-free, lost-type, lost-self, lost-parent, lost-named}
 use Rattle.salvage_tree.proofs.lost.looks_lost.Statement.{statement}

@@ -1,5 +1,4 @@
 use borrow.Author.Needs.{needs}
-use native.Mathlib.Omega.{arith}
 use Rattle.layout.specs.Walks.Slots.{entryAt}
 use Rattle.layout.proofs.Walks.Fingerprints.{field-long}
 use mathlib.Core.Path.{sym, _∙_}

@@ -1,5 +1,4 @@
 use borrow.Author.Needs.{needs}
-use native.Mathlib.Omega.{arith}
 use Rattle.salvage_tree.proofs.Walks.Names.{named-part}
 use Rattle.layout.specs.Walks.Slots.{entryAt}
 use Rattle.salvage_tree.proofs.names.name_at.Statement.{statement}

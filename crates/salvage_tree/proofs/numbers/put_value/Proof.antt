@@ -1,5 +1,4 @@
 use borrow.Author.Needs.{needs}
-use native.Mathlib.Omega.{arith}
 use mathlib.Core.Path.{sym, _∙_}
 use Rattle.salvage_tree.proofs.Walks.Numbers.{value-left, value-set}
 use Rattle.salvage_tree.proofs.numbers.put_value.Statement.{statement}

@@ -1,6 +1,6 @@
 use native.Mathlib.Omega.{arith}
 use Prim.Native.Nat.{_-_}
-use mathlib.Core.Path.{refl, sym, _∙_}
+use mathlib.Core.Path.{refl}
 use lib.ListN.{length}
 use Rattle.salvage_tree.specs.SalvageTree.{linked}
 use Rattle.salvage_tree.proofs.Walks.Puts.{Writing, writing-start, writing-on, writing-end, linked-long}

@@ -1,5 +1,3 @@
-use borrow.Author.Needs.{needs}
-use native.Mathlib.Omega.{arith}
 use mathlib.Core.Path.{refl}
 use Rattle.layout.specs.Bytes.{zeros}
 use Rattle.salvage_tree.proofs.put.no_field.Statement.{statement}

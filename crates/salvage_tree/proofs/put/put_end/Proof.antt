@@ -1,9 +1,5 @@
 use borrow.Author.Needs.{needs}
 use native.Mathlib.Omega.{arith}
-use mathlib.Core.Path.{sym, ap, _∙_}
-use mathlib.Core.List.{List}
-use Prim.Native.Nat.{ℕ, _+_, _*_}
-use lib.Dec.{eqb}
 use Rattle.salvage_tree.proofs.Walks.Puts.{end-right, end-wrong, end-kept, end-stored}
 use Rattle.salvage_tree.proofs.put.put_end.Statement.{statement}
 use Rattle.salvage_tree.proofs.put.put_end.Tie as tie

@@ -1,5 +1,4 @@
 use borrow.Author.Needs.{needs}
-use native.Mathlib.Omega.{arith}
 use Rattle.salvage_tree.proofs.Walks.Puts.{self-steps}
 use Rattle.salvage_tree.proofs.put.put_self.Statement.{statement}
 use Rattle.salvage_tree.proofs.put.put_self.Tie as tie

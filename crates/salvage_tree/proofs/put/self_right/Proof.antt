@@ -1,5 +1,4 @@
 use borrow.Author.Needs.{needs}
-use native.Mathlib.Omega.{arith}
 use Rattle.salvage_tree.proofs.Walks.Puts.{self-type, self-self, self-parent, self-size, self-field}
 use Rattle.salvage_tree.proofs.put.self_right.Statement.{statement}
 use Rattle.salvage_tree.proofs.put.self_right.Tie as tie

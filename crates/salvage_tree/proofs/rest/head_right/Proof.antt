@@ -1,5 +1,4 @@
 use borrow.Author.Needs.{needs}
-use native.Mathlib.Omega.{arith}
 use mathlib.Core.Path.{sym, _∙_}
 use Rattle.salvage_tree.proofs.Walks.Rest.{head-bad, head-counted}
 use Rattle.salvage_tree.proofs.rest.head_right.Statement.{statement}

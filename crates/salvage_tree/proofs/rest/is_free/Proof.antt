@@ -1,5 +1,4 @@
 use borrow.Author.Needs.{needs}
-use native.Mathlib.Omega.{arith}
 use Rattle.salvage_tree.proofs.Walks.Rest.{free-marked, free-valued}
 use Rattle.salvage_tree.proofs.rest.is_free.Statement.{statement}
 use Rattle.salvage_tree.proofs.rest.is_free.Tie as tie

@@ -1,5 +1,4 @@
 use borrow.Author.Needs.{needs}
-use native.Mathlib.Omega.{arith}
 use mathlib.Core.Path.{_∙_}
 use Rattle.salvage_tree.proofs.Walks.Rest.{signed-left, signed-set}
 use Rattle.salvage_tree.proofs.rest.sign.Statement.{statement}

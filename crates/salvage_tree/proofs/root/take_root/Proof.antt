@@ -1,10 +1,8 @@
 use borrow.Author.Needs.{needs}
 use native.Mathlib.Omega.{arith}
-use mathlib.Core.Path.{sym, ap, _∙_, _≡_}
-use mathlib.Core.List.{List}
-use Prim.Native.Nat.{ℕ, _+_, _<_}
-use lib.ListN.{length, getD}
-use Rattle.layout.proofs.Laws.Bytes.{length-zeros, getD-zeros}
+use mathlib.Core.Path.{ap, _∙_}
+use lib.ListN.{length}
+use Rattle.layout.proofs.Laws.Bytes.{length-zeros}
 use Rattle.salvage_tree.proofs.Walks.Folders.{folder-own, root-done, no-mark}
 use Rattle.salvage_tree.proofs.Walks.Levels.{ready-again}
 use Rattle.salvage_tree.proofs.root.take_root.Statement.{statement}

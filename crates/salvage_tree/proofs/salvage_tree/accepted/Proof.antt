@@ -1,5 +1,4 @@
 use borrow.Author.Needs.{needs}
-use native.Mathlib.Omega.{arith}
 use Rattle.salvage_tree.proofs.salvage_tree.accepted.Statement.{statement}
 use Rattle.salvage_tree.proofs.salvage_tree.accepted.Tie as tie
 

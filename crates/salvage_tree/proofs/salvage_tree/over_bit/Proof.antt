@@ -1,6 +1,5 @@
 use borrow.Author.Needs.{needs}
-use native.Mathlib.Omega.{arith}
-use mathlib.Core.Path.{ap, sym, refl}
+use mathlib.Core.Path.{ap, sym}
 use Rattle.salvage_tree.specs.Walks.{one}
 use Rattle.salvage_tree.proofs.Walks.Counts.{over-code, over-was}
 use Rattle.salvage_tree.proofs.salvage_tree.over_bit.Statement.{statement}

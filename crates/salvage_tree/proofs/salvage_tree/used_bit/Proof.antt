@@ -1,5 +1,3 @@
-use borrow.Author.Needs.{needs}
-use native.Mathlib.Omega.{arith}
 use Rattle.salvage_tree.proofs.Walks.Counts.{bit-free, bit-used}
 use Rattle.salvage_tree.proofs.salvage_tree.used_bit.Statement.{statement}
 use Rattle.salvage_tree.proofs.salvage_tree.used_bit.Tie as tie

@@ -1,5 +1,4 @@
 use borrow.Author.Needs.{needs}
-use native.Mathlib.Omega.{arith}
 use Rattle.salvage_tree.proofs.Walks.Counts.{used-is}
 use Rattle.salvage_tree.proofs.salvage_tree.used_slots.Statement.{statement}
 use Rattle.salvage_tree.proofs.salvage_tree.used_slots.Tie as tie

@@ -1,5 +1,4 @@
 use borrow.Author.Needs.{needs}
-use native.Mathlib.Omega.{arith}
 use Rattle.salvage_tree.proofs.Walks.Counts.{was-0, was-1, was-2, was-3}
 use Rattle.salvage_tree.proofs.salvage_tree.was_used.Statement.{statement}
 use Rattle.salvage_tree.proofs.salvage_tree.was_used.Tie as tie

@@ -1,5 +1,4 @@
 use borrow.Author.Needs.{needs}
-use native.Mathlib.Omega.{arith}
 use Rattle.salvage_tree.proofs.slots.drop_slot.Statement.{statement}
 use Rattle.salvage_tree.proofs.slots.drop_slot.Tie as tie
 

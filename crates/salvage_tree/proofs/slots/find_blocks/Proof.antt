@@ -1,6 +1,6 @@
 use borrow.Author.Needs.{needs}
 use native.Mathlib.Omega.{arith}
-use mathlib.Core.Path.{refl, sym, _∙_}
+use mathlib.Core.Path.{refl}
 use borrow.Author.Tests.{not-true, not-false}
 use Rattle.layout.specs.Walks.Slots.{entryAt}
 use Rattle.salvage_tree.proofs.Walks.Entries.{found-bad, found-none, found-some, chose-some, lent-own, lent-first}

@@ -2,7 +2,7 @@ use borrow.Author.Needs.{needs}
 use native.Mathlib.Omega.{arith}
 use Prim.Native.Nat.{_-_}
 use lib.ListN.{length}
-use mathlib.Core.Path.{refl, sym, _∙_}
+use mathlib.Core.Path.{refl}
 use Rattle.layout.specs.Walks.Slots.{entryAt}
 use Rattle.salvage_tree.proofs.Walks.Entries.{witness-self, witness-name, witness-size, witness-end}
 use Rattle.salvage_tree.proofs.slots.is_witnessed.Statement.{statement}

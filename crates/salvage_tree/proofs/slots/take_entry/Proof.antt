@@ -2,7 +2,7 @@ use borrow.Author.Needs.{needs}
 use native.Mathlib.Omega.{arith}
 use Prim.Native.Nat.{_/_}
 use Rattle.salvage_tree.proofs.Walks.Names.{own-blocks}
-use mathlib.Core.Path.{sym, _∙_}
+use mathlib.Core.Path.{_∙_}
 use borrow.Author.Tests.{not-true, not-false}
 use Rattle.salvage_tree.proofs.Walks.Entries.{entry-free, entry-bad, entry-file, entry-child}
 use Rattle.salvage_tree.proofs.slots.take_entry.Statement.{statement}

@@ -1,6 +1,5 @@
 use borrow.Author.Needs.{needs}
 use native.Mathlib.Omega.{arith}
-use mathlib.Core.Path.{_∙_}
 use borrow.Author.Tests.{not-true, not-false}
 use Rattle.layout.specs.Walks.Slots.{entryAt}
 use Rattle.layout.proofs.Walks.Shapes.{shape-blockCount}

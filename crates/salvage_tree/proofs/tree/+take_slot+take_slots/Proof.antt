@@ -1,7 +1,7 @@
 -- The one proof of the cycle {take_slots, take_slot}. A directory calls its slots with the levels that are left, a slot its child with one less: the falling number is
 -- 2·left + 1 for a directory and 2·left for a slot. The loop over the slots falls by the slots that are left.
 use Prim.Native.Nat.{ℕ, _+_, _-_, _*_, _/_, _<_}
-use mathlib.Core.Path.{_≡_, refl, ap, _∙_}
+use mathlib.Core.Path.{refl, ap, _∙_}
 use native.Mathlib.Omega.{arith}
 use lib.ListN.{length}
 use borrow.Author.Needs.{needs}
