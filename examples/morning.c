@@ -81,16 +81,16 @@ static void sha256(const uint8_t *bytes, size_t length, uint8_t hash[32])
 
 /* ---- the note ---- */
 
-/* The sector for the note: the one that has an older note, else the first of zeros; or NULL. */
+/* The sector for the note: the one that has an older note, else the last of zeros; or NULL. */
 static uint8_t *sector_for_note(uint8_t *own, size_t own_len)
 {
     static const uint8_t zeros[SECTOR];
     for (size_t at = 0; at < own_len; at += SECTOR)
         if (memcmp(own + at, signature, sizeof signature) == 0)
             return own + at;
-    for (size_t at = 0; at < own_len; at += SECTOR)
-        if (memcmp(own + at, zeros, SECTOR) == 0)
-            return own + at;
+    for (size_t at = own_len; at >= SECTOR; at -= SECTOR)
+        if (memcmp(own + at - SECTOR, zeros, SECTOR) == 0)
+            return own + at - SECTOR;
     return NULL;
 }
 

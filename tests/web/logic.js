@@ -1,5 +1,5 @@
 // node logic.js BULGEFS.wasm FOLDER: what the page reads in plain JavaScript, against the library; and what it does with a volume. FOLDER holds what `run`
-// made with the tool and the C layer: van.volume, before.img, and morning.volume, a copy of van.volume as it was this morning.
+// made with the tool and examples/morning.c: van.volume, before.img, and morning.volume, a copy of van.volume as it was this morning.
 const fs = require("fs"), path = require("path"), crypto = require("crypto"), assert = require("assert");
 const Bulgefs = require("../../web/bulgefs.js"), Tree = require("../../web/tree.js"), Mark = require("../../web/mark.js"), Words = require("../../web/words.js"), Counter = require("../../web/counter.js");
 const Make = require("./make.js");
@@ -187,10 +187,11 @@ async function main() {
   await judge("where a volume is damaged", () => findsFaults(library));
   await judge("any bytes", () => readsAnything(library));
   await judge("the note that the C program writes", async () => {
-    const counter = await Counter.open(library, [{ name: "m", bytes: file("morning.volume") }]), { mark, changes, time, hash } = Mark.find(counter.volume.own);
+    const counter = await Counter.open(library, [{ name: "m", bytes: file("morning.volume") }]), own = counter.volume.own, { at, mark, changes, time, hash } = Mark.find(own);
     assert.deepStrictEqual([mark, changes, time, Mark.hex(hash)], [counter.journal.used, counter.journal.records, 1700000000000n, crypto.createHash("sha256").update(file("before.img")).digest("hex")]);
     assert(counter.answer().equal);
-    assert(Tree.equal(Make.note(counter.volume, 1700000000000n), counter.volume.own));
+    assert.strictEqual(at, own.length - Mark.SECTOR);
+    assert(Tree.equal(Make.note(counter.volume, 1700000000000n), own.slice(at)));
   });
   await judge("the README's van: back, and the hash is equal", () => van(library));
   await judge("what was saved opens, and is as it was this morning", async () => {

@@ -48,10 +48,11 @@ static void put_sum(const store *s, uint8_t *to)
 /* What was kept for this very pair; length 0 if nothing was. */
 bytes redo_kept(const store *s)
 {
-    const uint8_t *at = s->own.length > STEPS_ROOM + KEPT_AT ? s->own.bytes + STEPS_ROOM : NULL;
+    size_t room = steps_own(&s->own);
+    const uint8_t *at = room > STEPS_ROOM + KEPT_AT ? s->own.bytes + STEPS_ROOM : NULL;
     bytes kept = { NULL, 0 };
     uint8_t sum[8];
-    if (!at || memcmp(at, MARK, 8) || number_at(at + LENGTH_AT) > s->own.length - STEPS_ROOM - KEPT_AT) return kept;
+    if (!at || memcmp(at, MARK, 8) || number_at(at + LENGTH_AT) > room - STEPS_ROOM - KEPT_AT) return kept;
     put_sum(s, sum);
     if (memcmp(at + SUM_AT, sum, 8)) return kept;
     kept.length = number_at(at + LENGTH_AT);
@@ -63,12 +64,12 @@ bytes redo_kept(const store *s)
 /* Own bytes of another program have no mark of steps. */
 static int has_room(const store *s, size_t length)
 {
-    return s->own.length >= STEPS_ROOM + KEPT_AT + length && !memcmp(s->own.bytes, "BulgeSte", 8);
+    return steps_own(&s->own) >= STEPS_ROOM + KEPT_AT + length && !memcmp(s->own.bytes, "BulgeSte", 8);
 }
 
 void redo_clear(store *s)
 {
-    if (has_room(s, 0)) memset(s->own.bytes + STEPS_ROOM, 0, s->own.length - STEPS_ROOM);
+    if (has_room(s, 0)) memset(s->own.bytes + STEPS_ROOM, 0, steps_own(&s->own) - STEPS_ROOM);
 }
 
 int redo_write(store *s, const bytes *kept)

@@ -23,12 +23,17 @@ static void list_records(const bytes *journal, bulgefs_journal info, record_list
     }
 }
 
+size_t steps_own(const bytes *own)
+{
+    return own->length < 2 * NOTE_ROOM ? 0 : own->length - NOTE_ROOM;
+}
+
 /* How many records there are bits for: none in bytes of another program, which neither begin with the mark nor are all 0. */
 static size_t bits(const bytes *own)
 {
-    size_t length = own->length < STEPS_ROOM ? own->length : STEPS_ROOM;
-    if (length < 512) return 0;
-    for (size_t i = 0; memcmp(own->bytes, MARK, 8) && i < own->length; i++) {
+    size_t room = steps_own(own), length = room < STEPS_ROOM ? room : STEPS_ROOM;
+    if (!length) return 0;
+    for (size_t i = 0; memcmp(own->bytes, MARK, 8) && i < room; i++) {
         if (own->bytes[i]) return 0;
     }
     return 8 * (length - BITS_AT);

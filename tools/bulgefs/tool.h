@@ -110,12 +110,15 @@ size_t usual_journal(size_t image_length);
  * The first bytes of own: "BulgeSte", how many records they tell of, the journal's
  * used length behind these, then a bit for each record: 1 if it goes on with the
  * step of the record before.  Each record is a step where these do not fit the
- * journal, or where own is another program's.
+ * journal, or where own is another program's.  The last sector of own is never the
+ * tool's: it is for a note of another program, such as that of this morning.
  */
-enum { STEPS_ROOM = 16384, OWN_ROOM = 65536 };
+enum { STEPS_ROOM = 16384, OWN_ROOM = 65536, NOTE_ROOM = 512 };
 typedef struct { uint32_t start, length, blocks, step; } record;   /* step counts from 1 */
 typedef struct { record *records; size_t count; uint32_t used, steps; } record_list;
 
+/* How many bytes of own are the tool's. */
+size_t steps_own(const bytes *own);
 /* The records, oldest first; 0, or the refusal of bulgefs_journal_info.  Free records after use. */
 uint32_t steps_list(const store *, record_list *);
 /* Makes what the journal got since the store was opened one step. */
