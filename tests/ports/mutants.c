@@ -1,8 +1,8 @@
 /*
  * mutants.c - the walk with single faults in the C form of the calls (mutants.awk).
- * mutants LIST CALLS SEED PART PARTS FIRST makes the walk once without a fault and
- * notes its hash every 50 calls, then once with each fault of the list from FIRST on
- * whose number leaves the rest PART, until the hash is another one.  It prints `NUMBER CALLS` for a fault
+ * mutants LIST CALLS SEED PART PARTS makes the walk once without a fault and notes
+ * its hash every 50 calls, then once with each fault of the list whose line leaves
+ * the rest PART, until the hash is another one.  It prints `NUMBER CALLS` for a fault
  * that was found within so many calls, and `NUMBER not found` for another.  A fault
  * by which the program ends or hangs is found.
  */
@@ -57,15 +57,16 @@ static int survives(int m, uint64_t calls, uint64_t seed)
 
 int main(int argc, char **argv)
 {
-    FILE *list = argc > 6 ? fopen(argv[1], "r") : NULL;
+    FILE *list = argc > 5 ? fopen(argv[1], "r") : NULL;
     uint64_t calls = list ? strtoull(argv[2], 0, 10) : 0, seed = list ? strtoull(argv[3], 0, 10) : 0;
-    int part = list ? atoi(argv[4]) : 0, parts = list ? atoi(argv[5]) : 1, first = list ? atoi(argv[6]) : 1;
+    int part = list ? atoi(argv[4]) : 0, parts = list ? atoi(argv[5]) : 1;
     char line[300];
     shared = mmap(NULL, sizeof *shared, PROT_READ | PROT_WRITE, MAP_SHARED | MAP_ANONYMOUS, -1, 0);
     if (!list || shared == MAP_FAILED || calls >= (uint64_t)STEP * MOST || !survives(0, calls, seed))
         return 2;
-    for (int m = 1; fgets(line, sizeof line, list); m++) {
-        if (m % parts != part || m < first)
+    for (int tried = 0; fgets(line, sizeof line, list); tried++) {
+        int m = atoi(line);
+        if (tried % parts != part)
             continue;
         if (survives(m, calls, seed))
             printf("%d not found\n", m);
