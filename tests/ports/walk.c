@@ -962,7 +962,7 @@ static void file_damage(void)
 
 /* The walk. */
 
-enum { CHANGES = 16, STEPS = 44 };
+enum { CHANGES = 16, STEPS = 45 };
 
 /* The first CHANGES steps are those that add records to the journal. */
 static const struct {
