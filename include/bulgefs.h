@@ -72,7 +72,8 @@
  *   BSD), for 64-bit ARM and RISC-V on Linux, for Windows on x86-64 and for
  *   WebAssembly; docs/PORTS.md says what is proved and what is trusted on each.
  *   An archive needs memset, the calls for settings memcpy too, and nothing else;
- *   on Windows also the stack probe of the compiler's own library.  Every function
+ *   on RISC-V the salvage of a tree needs memmove, and on Windows all need the stack
+ *   probe of the compiler's own library.  Every function
  *   has a section of its own: with -Wl,--gc-sections a program that only checks,
  *   finds and reads gets just the reader, which needs memset alone.
  *   The code for x86-64 uses the red zone (the 128 bytes below the stack pointer)

@@ -15,6 +15,17 @@ void *memcpy(void *to, const void *from, __SIZE_TYPE__ n)
     return to;
 }
 
+/* Some machines' compilers copy a large value with memmove. */
+void *memmove(void *to, const void *from, __SIZE_TYPE__ n);
+void *memmove(void *to, const void *from, __SIZE_TYPE__ n)
+{
+    volatile uint8_t *p = to;
+    const uint8_t *q = from;
+    if ((const uint8_t *)to <= q) return memcpy(to, from, n);
+    while (n--) p[n] = q[n];
+    return to;
+}
+
 #if defined(__i386__)
 /* A machine of 32 bits divides 64-bit numbers by a function of the compiler's own library. */
 static uint64_t divide(uint64_t a, uint64_t b, uint64_t *rest)
