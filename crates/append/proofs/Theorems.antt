@@ -4,12 +4,12 @@ use mathlib.Core.Path.{◌≡◌}
 use mathlib.Core.Logic.{◌≢◌}
 use mathlib.Core.List.{List, []}
 use lib.ListN.{length}
-use Rattle.layout.specs.Directory.{isFile}
+use Rattle.layout.specs.Directory.{is_file}
 use Rattle.layout.specs.Paths.{entry_of}
-use Rattle.volume.specs.Write.{writeAtRefusal}
+use Rattle.volume.specs.Write.{write_at_refusal}
 use Rattle.journal.specs.Run.{State}
-use Rattle.append.specs.Append.{fileEnd}
-use Rattle.append.specs.Pieces.{AllAccepted, joinedPieces, PiecesTheorem}
+use Rattle.append.specs.Append.{file_end}
+use Rattle.append.specs.Pieces.{AllAccepted, joined_pieces, PiecesTheorem}
 use Rattle.append.specs.Runs.{PieceRunTheorem}
 use Rattle.append.proofs.Laws.Runs as runs
 use Rattle.append.proofs.Laws.Pieces as pieces
@@ -19,8 +19,8 @@ use Rattle.append.proofs.Laws.Pieces as pieces
 pub pieces-joined : PiecesTheorem
 pieces-joined = pieces.pieces-joined
 
-pub pieces-accepted : (p : State) (path : List ℕ) (xs : List (List ℕ)) (time : ℕ) → AllAccepted p path xs time → joinedPieces xs ≢ []
-    → writeAtRefusal p.image (entry_of isFile p.image path) (fileEnd p.image path) (length (joinedPieces xs)) ≡ 0
+pub pieces-accepted : (p : State) (path : List ℕ) (xs : List (List ℕ)) (time : ℕ) → AllAccepted p path xs time → joined_pieces xs ≢ []
+    → write_at_refusal p.image (entry_of is_file p.image path) (file_end p.image path) (length (joined_pieces xs)) ≡ 0
 pieces-accepted = pieces.pieces-accepted
 
 -- DEMAND 3 over runs with pieces: image and whole journal are those of the run with the pieces as writes and of the replay, every answer the replay's.

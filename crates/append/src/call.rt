@@ -3,8 +3,8 @@ ghost use Rattle.std.specs.Prelude.{◌≡◌, []};
 ghost use Rattle.layout.specs.Check.{check};
 ghost use Rattle.store.specs.Change.{write, refusal};
 ghost use Rattle.journal.specs.Run.{changed, state};
-ghost use Rattle.journal.specs.Answers.{changedAnswer, ChangeNumbered};
-ghost use Rattle.append.specs.Append.{fileEnd, appendAnswer, afterAppend};
+ghost use Rattle.journal.specs.Answers.{changed_answer, ChangeNumbered};
+ghost use Rattle.append.specs.Append.{file_end, append_answer, after_append};
 
 use journal::calls::Changed;
 use store::change::Change;
@@ -13,7 +13,7 @@ use volume::change::Change as VolumeChange;
 // Where the file of a path ends; 0 if there is none.
 fn file_end(image: &[u8], path: &[u8]) -> usize
     requires { check image.now ≡ 0 }
-    ensures { result ≡ fileEnd image.now path.now }
+    ensures { result ≡ file_end image.now path.now }
 {
     layout::file::open_file(image, path).size
 }
@@ -21,7 +21,7 @@ fn file_end(image: &[u8], path: &[u8]) -> usize
 // The answer to an empty piece: the refusal of its write, or nothing done.
 fn append_nothing(image: &[u8], path: &[u8], offset: usize, time: u64) -> Changed
     requires { check image.now ≡ 0 }
-    ensures answer { changedAnswer result ≡ changed (refusal image.now (write path.now offset [] time)) 0 0 }
+    ensures answer { changed_answer result ≡ changed (refusal image.now (write path.now offset [] time)) 0 0 }
     ensures numbered { ChangeNumbered result }
 {
     let what = VolumeChange::Write {
@@ -37,8 +37,8 @@ fn append_nothing(image: &[u8], path: &[u8], offset: usize, time: u64) -> Change
 
 // Appends a piece to a file.
 pub fn append(image: &mut [u8], journal: &mut [u8], path: &[u8], piece: &[u8], time: u64) -> Changed
-    ensures answer { changedAnswer result ≡ appendAnswer (state image.old journal.old) path.now piece.now time }
-    ensures state { state image.new journal.new ≡ afterAppend (state image.old journal.old) path.now piece.now time }
+    ensures answer { changed_answer result ≡ append_answer (state image.old journal.old) path.now piece.now time }
+    ensures state { state image.new journal.new ≡ after_append (state image.old journal.old) path.now piece.now time }
     ensures numbered { ChangeNumbered result }
 {
     let unready = journal::calls::ready_refusal(image, journal);

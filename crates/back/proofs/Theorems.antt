@@ -6,23 +6,23 @@ use lib.ListN.{length}
 use mathlib.Core.Path.{◌≡◌}
 use Rattle.layout.specs.Bytes.{be32}
 use Rattle.store.specs.Change.{Change}
-use Rattle.journal.specs.Journal.{records, wellFormed}
-use Rattle.journal.specs.Run.{State, Call, undone, undoRefusal, undoAnswer, run}
+use Rattle.journal.specs.Journal.{records, well_formed}
+use Rattle.journal.specs.Run.{State, Call, undone, undo_refusal, undo_answer, run}
 use Rattle.journal.specs.Kinds.{Kind, Reached, StandsFor}
 use Rattle.journal.specs.Back.{undos}
-use Rattle.back.specs.Marks.{marks, journalInfo}
-use Rattle.back.specs.UndoTo.{back_by, undoTo, Undoable}
+use Rattle.back.specs.Marks.{marks, journal_info}
+use Rattle.back.specs.UndoTo.{back_by, undo_to, Undoable}
 use Rattle.back.specs.Runs.{InfoRunTheorem, BackRunTheorem, ToldTheorem, ToStartTheorem, ToMarkTheorem, NeverBelow, StillStand, NeverBelowTheorem}
 use Rattle.back.proofs.Laws.Marks as ends
 use Rattle.back.proofs.Laws.Runs as runs
 
 -- The marks of a well-formed journal are 5 and where each of its records ends, in their order. (A record's first four bytes are its length.)
-pub marks-end : (j : List ℕ) (n : ℕ) → wellFormed j n ≡ true → marks j ≡ 5 ∷ map (λ at. at + be32 j at) (records j)
+pub marks-end : (j : List ℕ) (n : ℕ) → well_formed j n ≡ true → marks j ≡ 5 ∷ map (λ at. at + be32 j at) (records j)
 marks-end = ends.marks-end
 
 -- On every state that a run reaches, image and whole journal are those of single undos, each with its check, as many as the call says it did. (On any bytes that pass
 -- 1 to 8 they are `back_by`, the rule of undo so many times without the check: that is the contract.)
-pub back-run : (p : State) → Reached p → (mark : ℕ) → (undoTo p mark).state ≡ run p (undos (undoTo p mark).done)
+pub back-run : (p : State) → Reached p → (mark : ℕ) → (undo_to p mark).state ≡ run p (undos (undo_to p mark).done)
 back-run = runs.back-run
 
 -- On any image and journal, where so many single undos are accepted, what they leave is the rule so many times.
@@ -30,7 +30,7 @@ pub back-undos : (k : ℕ) (p : State) → Undoable p k → back_by p k ≡ run 
 back-undos = runs.back-undos
 
 -- On any image and journal, the length that an info tells of the last record is what an undo answers, if it is accepted.
-pub undo-told : (p : State) → undoRefusal p ≡ 0 → undoAnswer p ≡ undone 0 (journalInfo p).last
+pub undo-told : (p : State) → undo_refusal p ≡ 0 → undo_answer p ≡ undone 0 (journal_info p).last
 undo-told = runs.undo-told
 
 -- DEMAND 3 over runs with infos, and over runs with undos to marks.

@@ -3,8 +3,8 @@ ghost use Rattle.std.specs.Prelude.{◌≤◌, ◌≡◌, true, eqb, length};
 ghost use Rattle.layout.specs.Lists.{has};
 ghost use Rattle.journal.specs.Run.{state};
 ghost use Rattle.journal.specs.Walks.Changes.{Ready};
-ghost use Rattle.back.specs.Marks.{marks, behind, info, journalInfo};
-ghost use Rattle.back.specs.UndoTo.{back_by, backed, undoTo};
+ghost use Rattle.back.specs.Marks.{marks, behind, info, journal_info};
+ghost use Rattle.back.specs.UndoTo.{back_by, backed, undo_to};
 ghost use Rattle.back.specs.Walks.Right.{Whole, Noted};
 
 // What a journal answers: the refusal, 1 to 8, or 0 and its used length, how many records stand, and the length of the last one.
@@ -27,7 +27,7 @@ pub struct Backed {
 
 // Journal info, a look; its used length is a mark.
 pub fn journal_info(image: &[u8], journal: &[u8]) -> Info
-    ensures { info result.number result.used result.records result.last ≡ journalInfo (state image.now journal.now) }
+    ensures { info result.number result.used result.records result.last ≡ journal_info (state image.now journal.now) }
 {
     let unready = journal::calls::ready_refusal(image, journal);
     if unready != 0 {
@@ -94,7 +94,7 @@ fn take_to(image: &mut [u8], journal: &mut [u8], mark: usize) -> u32
 
 // Undo to a mark. Image and journal are checked once: a record taken back leaves whole blocks and a well-formed journal.
 pub fn undo_to(image: &mut [u8], journal: &mut [u8], mark: usize) -> Backed
-    ensures { backed (state image.new journal.new) result.number result.done ≡ undoTo (state image.old journal.old) mark }
+    ensures { backed (state image.new journal.new) result.number result.done ≡ undo_to (state image.old journal.old) mark }
 {
     let unready = journal::calls::ready_refusal(image, journal);
     if unready != 0 {

@@ -3,7 +3,7 @@ ghost use Rattle.std.specs.Prelude.{◌≤◌, ◌≡◌, true, eqb, length};
 ghost use Rattle.layout.specs.Lists.{has};
 ghost use Rattle.layout.specs.Bytes.{zeros};
 ghost use Rattle.journal.specs.Journal.{records};
-ghost use Rattle.back.specs.Marks.{marks, behind, lastLength};
+ghost use Rattle.back.specs.Marks.{marks, behind, last_length};
 ghost use Rattle.back.specs.Walks.Right.{Right, Noted};
 
 // How many records stand, and the length of the last one, 0 if there is none.
@@ -16,7 +16,7 @@ pub struct Counted {
 pub fn tally(journal: &[u8]) -> Counted
     requires { Right journal.now }
     ensures records { result.records ≡ length (records journal.now) }
-    ensures last { result.last ≡ lastLength journal.now }
+    ensures last { result.last ≡ last_length journal.now }
 {
     let used = layout::number::get32(journal, 1) as usize;
     let mut count = 0;

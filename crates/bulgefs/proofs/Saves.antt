@@ -6,20 +6,20 @@ use mathlib.Core.Path.{◌≡◌, refl, sym, ap, subst, ◌∙◌}
 use native.Mathlib.Omega.{arith}
 use lib.ListN.{length}
 use Rattle.layout.specs.Bytes.{block}
-use Rattle.layout.specs.Limits.{minJournal, maxJournal}
-use Rattle.layout.specs.Geometry.{blockCount}
+use Rattle.layout.specs.Limits.{min_journal, max_journal}
+use Rattle.layout.specs.Geometry.{block_count}
 use Rattle.layout.proofs.Laws.Bytes.{length_part}
 use Rattle.layout.proofs.Laws.Sound.{sound}
 use Rattle.journal.specs.Journal.{started}
 use Rattle.journal.specs.Run.{Call, State, state, run}
 use Rattle.journal.specs.Replay.{RunInvariant}
 use Rattle.journal.proofs.Theorems.{run-keeps}
-use Rattle.journal.specs.Kinds.{Kind, KindCall, step_of, run_of, FitsRun, AllFit, asCalls, standingOf, one_of}
-use Rattle.back.specs.UndoTo.{backed, undoTo as undoToMark}
-use Rattle.volume_file.specs.Format.{imageSectors, journalSectors, ownSectors, homeSectors, image_of, journalOf, own_of, home_of}
+use Rattle.journal.specs.Kinds.{Kind, KindCall, step_of, run_of, FitsRun, AllFit, as_calls, standing_of, one_of}
+use Rattle.back.specs.UndoTo.{backed, undo_to as undoToMark}
+use Rattle.volume_file.specs.Format.{image_sectors_of, journal_sectors_of, own_sectors_of, home_sectors, image_of, journal_of, own_of, home_of}
 use Rattle.volume_file.proofs.Laws.Facts.{file-facts}
 use Rattle.volume_file.proofs.Laws.Refused.{prepare-lengths, lengths-ok}
-use Rattle.volume_file.specs.Save.{homeWith, changes, prepareRefusal, committed, recovered}
+use Rattle.volume_file.specs.Save.{home_with, changes, prepare_refusal, committed, recovered}
 use Rattle.volume_file.specs.Cuts.{Quiet, Cut, RecoveryCuts}
 use Rattle.volume_file.proofs.Laws.Parts.{accepted-held, same-image, same-journal, journal-sized}
 use Rattle.volume_file.proofs.Theorems.{prepare-accepts, nothing-to-save, whole-save, cut-save}
@@ -76,9 +76,9 @@ module _ {start : State} {head : List ℕ} {p : State} {file : List ℕ} {saved 
   after-off : Good start head (pair_of file) file saved
   after-off = record { quiet = g.quiet; header = g.header; whole = g.whole; reached = g.all (pair_of file) g.whole; all = g.all }
 
-  module _ (own : List ℕ) (ok : prepareRefusal file p.image p.journal own ≡ 0) where
+  module _ (own : List ℕ) (ok : prepare_refusal file p.image p.journal own ≡ 0) where
     abbrev new : List ℕ
-    new = homeWith p.image p.journal own
+    new = home_with p.image p.journal own
 
     -- a file with the same header and the new home holds the pair
     held : (e : List ℕ) → Quiet e → block e 0 ≡ block file 0 → home_of e ≡ new → pair_of e ≡ p
@@ -138,20 +138,20 @@ good begun b _ file saved (off {p = p} l) = after-off (good begun b p file saved
 
 -- and so every pair of a life leads back to its beginning
 module _ (again : EveryStartTheorem) (begun : List ℕ) (b : Begun begun) where
-  sized : (minJournal ≤ length (journalOf begun)) × (length (journalOf begun) ≤ maxJournal)
+  sized : (min_journal ≤ length (journal_of begun)) × (length (journal_of begun) ≤ max_journal)
   sized = journal-sized b.quiet
 
   abbrev fresh : State
-  fresh = record { image = image_of begun; journal = started (length (journalOf begun)) }
+  fresh = record { image = image_of begun; journal = started (length (journal_of begun)) }
 
   is-fresh : pair_of begun ≡ fresh
   is-fresh = ap (λ (j : List ℕ). state (image_of begun) j) b.fresh
 
   reach-back : (q : State) → Reach (pair_of begun) q → BackToBegin begun q
   reach-back q r =
-      let k : ℕ = length (standingOf fresh [] r.made) in
+      let k : ℕ = length (standing_of fresh [] r.made) in
       let f : AllFit fresh r.made = subst (λ (s : State). AllFit s r.made) is-fresh r.fit in
-      let e : undoToMark (run_of fresh r.made) 5 ≡ backed fresh 0 k = again (image_of begun) (length (journalOf begun)) r.made b.sound sized.0 sized.1 f in
+      let e : undoToMark (run_of fresh r.made) 5 ≡ backed fresh 0 k = again (image_of begun) (length (journal_of begun)) r.made b.sound sized.0 sized.1 f in
       (k, ap (λ (s : State). undoToMark s 5) (r.is ∙ ap (λ (s : State). run_of s r.made) is-fresh) ∙ e ∙ ap (λ (s : State). backed s 0 k) (sym is-fresh))
 
   pub life-kept : (p : State) (file : List ℕ) (saved : List State) → Life begun p file saved → Kept begun p file saved
@@ -166,14 +166,14 @@ module _ (again : EveryStartTheorem) (begun : List ℕ) (b : Begun begun) where
       }
 
   -- the parts of the beginning fill their sectors
-  parts-long : (length (image_of begun) ≡ 512 * imageSectors (block begun 0)) × (length (journalOf begun) ≡ 512 * journalSectors (block begun 0))
-      × (length (own_of begun) ≡ 512 * ownSectors (block begun 0))
-  unfolding image_of journalOf own_of homeSectors
+  parts-long : (length (image_of begun) ≡ 512 * image_sectors_of (block begun 0)) × (length (journal_of begun) ≡ 512 * journal_sectors_of (block begun 0))
+      × (length (own_of begun) ≡ 512 * own_sectors_of (block begun 0))
+  unfolding image_of journal_of own_of home_sectors
   parts-long =
       let f = file-facts begun b.quiet.ok in
-      let n = imageSectors (block begun 0) in
-      let m = journalSectors (block begun 0) in
-      let x = ownSectors (block begun 0) in (
+      let n = image_sectors_of (block begun 0) in
+      let m = journal_sectors_of (block begun 0) in
+      let x = own_sectors_of (block begun 0) in (
         length_part begun 1024 (512 * n) (omega (arith, f.size)),
         length_part begun (1024 + 512 * n) (512 * m) (omega (arith, f.size)),
         length_part begun (1024 + 512 * n + 512 * m) (512 * x) (omega (arith, f.size)),
@@ -181,24 +181,24 @@ module _ (again : EveryStartTheorem) (begun : List ℕ) (b : Begun begun) where
 
   -- and a run keeps their lengths
   module _ (runs : EveryRunTheorem) where
-    reach-long : (q : State) → Reach (pair_of begun) q → (length q.image ≡ length (image_of begun)) × (length q.journal ≡ length (journalOf begun))
+    reach-long : (q : State) → Reach (pair_of begun) q → (length q.image ≡ length (image_of begun)) × (length q.journal ≡ length (journal_of begun))
     reach-long q r =
-        let size : ℕ = length (journalOf begun) in
+        let size : ℕ = length (journal_of begun) in
         let f : AllFit fresh r.made = subst (λ (s : State). AllFit s r.made) is-fresh r.fit in
-        let made : List Call = asCalls fresh r.made in
+        let made : List Call = as_calls fresh r.made in
         let e : q ≡ run fresh made = r.is ∙ ap (λ (s : State). run_of s r.made) is-fresh ∙ (runs (image_of begun) size r.made b.sound sized.0 sized.1 f).as-calls in
-        let i : RunInvariant (blockCount (image_of begun)) size q =
-        subst (RunInvariant (blockCount (image_of begun)) size) (sym e) (run-keeps (image_of begun) size made b.sound sized.0 sized.1) in
-        let k : blockCount q.image ≡ blockCount (image_of begun) = i.blocks in
+        let i : RunInvariant (block_count (image_of begun)) size q =
+        subst (RunInvariant (block_count (image_of begun)) size) (sym e) (run-keeps (image_of begun) size made b.sound sized.0 sized.1) in
+        let k : block_count q.image ≡ block_count (image_of begun) = i.blocks in
         ((sound q.image i.sound).whole ∙ ap (λ (n : ℕ). 512 * n) k ∙ sym (sound (image_of begun) b.sound).whole, i.long)
 
     pub accepted : (p : State) (file : List ℕ) (saved : List State) → Life begun p file saved
-        → (own : List ℕ) → length own ≡ length (own_of begun) → prepareRefusal file p.image p.journal own ≡ 0
+        → (own : List ℕ) → length own ≡ length (own_of begun) → prepare_refusal file p.image p.journal own ≡ 0
     accepted p file saved l own o =
         let g = good begun b.quiet p file saved l in
         let a = reach-long p g.reached in
         let s = parts-long in
-        let i : length p.image ≡ 512 * imageSectors (block file 0) = rw g.header (a.0 ∙ s.0) in
-        let j : length p.journal ≡ 512 * journalSectors (block file 0) = rw g.header (a.1 ∙ s.1) in
-        let x : length own ≡ 512 * ownSectors (block file 0) = rw g.header (o ∙ s.2) in
+        let i : length p.image ≡ 512 * image_sectors_of (block file 0) = rw g.header (a.0 ∙ s.0) in
+        let j : length p.journal ≡ 512 * journal_sectors_of (block file 0) = rw g.header (a.1 ∙ s.1) in
+        let x : length own ≡ 512 * own_sectors_of (block file 0) = rw g.header (o ∙ s.2) in
         sym (prepare-lengths file p.image p.journal own 0 (sym g.quiet.ok) refl g.quiet.none 0 (sym (lengths-ok (block file 0) p.image p.journal own i j x)))

@@ -3,7 +3,7 @@ use mathlib.Core.Path.{refl}
 use Rattle.journal.specs.Run.{step, run}
 use Rattle.journal.specs.Kinds.{StandsFor, one_of}
 use Rattle.journal.proofs.Laws.Kinds.{one-of, one-tells}
-use Rattle.journal.specs.Replay.{standingAfter, standing}
+use Rattle.journal.specs.Replay.{standing_after, standing}
 use Rattle.journal.specs.Back.{KindBackTheorem, TellsRight}
 use Rattle.journal.proofs.Theorems.{every-kind-run, undone-all-kinds, undone-counted-kinds}
 use Rattle.write_list.proofs.Laws.Runs.{lists-stand, lists-told}
@@ -13,7 +13,7 @@ use Rattle.back.proofs.Laws.Runs.{infos-stand, backs-stand, infos-told, backs-to
 use Rattle.back.proofs.Theorems as back
 use Rattle.bulgefs.specs.Saves.{EveryLifeTheorem, SaveAcceptedTheorem}
 use Rattle.bulgefs.proofs.Saves.{life-kept, accepted}
-use Rattle.bulgefs.specs.Runs.{FurtherKind, list, append, read_on, table, journalInfo, undoTo, readings, kind_of, tellOf, EveryRunTheorem, EveryCountTheorem, EveryInfoTheorem, EveryStartTheorem, EveryMarkTheorem, EveryNeverBelowTheorem}
+use Rattle.bulgefs.specs.Runs.{FurtherKind, list, append, read_on, table, journal_info, undo_to, readings, kind_of, tell_of, EveryRunTheorem, EveryCountTheorem, EveryInfoTheorem, EveryStartTheorem, EveryMarkTheorem, EveryNeverBelowTheorem}
 
 readings-stand : StandsFor readings
 unfolding run step
@@ -24,8 +24,8 @@ kinds-stand list = lists-stand
 kinds-stand append = pieces-stand
 kinds-stand read_on = readings-stand
 kinds-stand table = transfers-stand
-kinds-stand journalInfo = infos-stand
-kinds-stand undoTo = backs-stand
+kinds-stand journal_info = infos-stand
+kinds-stand undo_to = backs-stand
 
 -- EVERY RUN OF CALLS, of any kinds in any order: image and whole journal are those of the replay of the standing changes, every answer is the replay's.
 pub every-run : EveryRunTheorem
@@ -35,22 +35,22 @@ every-run = every-kind-run (one_of kind_of) (one-of kind_of kinds-stand)
 pub undone-all : KindBackTheorem (one_of kind_of)
 undone-all = undone-all-kinds (one_of kind_of) (one-of kind_of kinds-stand)
 
-readings-told : TellsRight readings (tellOf read_on)
-unfolding standing standingAfter
+readings-told : TellsRight readings (tell_of read_on)
+unfolding standing standing_after
 readings-told start changes r = refl
 
-kinds-told : (i : FurtherKind) → TellsRight (kind_of i) (tellOf i)
+kinds-told : (i : FurtherKind) → TellsRight (kind_of i) (tell_of i)
 kinds-told list = lists-told
 kinds-told append = pieces-told
 kinds-told read_on = readings-told
 kinds-told table = transfers-told
-kinds-told journalInfo = infos-told
-kinds-told undoTo = backs-told
+kinds-told journal_info = infos-told
+kinds-told undo_to = backs-told
 
 -- As many as a program counts by its answers do it too: one more at a change that answers 0, one less at an undo that answers 0, as many more as a list did, one
 -- more at an append with a record's length, as many less as an undo to a mark took back.
 pub undone-counted : EveryCountTheorem
-undone-counted = undone-counted-kinds (one_of kind_of) (one-of kind_of kinds-stand) (λ k r. tellOf r.0 k r.1) (one-tells kind_of tellOf kinds-told)
+undone-counted = undone-counted-kinds (one_of kind_of) (one-of kind_of kinds-stand) (λ k r. tell_of r.0 k r.1) (one-tells kind_of tell_of kinds-told)
 
 -- After every such run, an info of the journal answers 0 and as many records as changes stand.
 pub all_told : EveryInfoTheorem

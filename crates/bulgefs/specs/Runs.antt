@@ -3,13 +3,13 @@
 -- and salvage are no calls of a run, which begins with what they leave. The plain check answers what the check does, and is the same look.
 use Rattle.std.specs.Prelude.{ℕ, ◌+◌, List, [], ◌∷◌}
 use Rattle.layout.specs.Looks.{ReadAnswer, read}
-use Rattle.journal.specs.Run.{look, readFile}
+use Rattle.journal.specs.Run.{look, read_file}
 use Rattle.journal.specs.Kinds.{Kind, KindRunTheorem, one_of}
 use Rattle.journal.specs.Back.{Tell, KindCountTheorem}
-use Rattle.write_list.specs.Runs.{lists, listTell}
-use Rattle.append.specs.Runs.{pieces, pieceTell}
-use Rattle.chain_table.specs.Runs.{transfers, transferTell}
-use Rattle.back.specs.Runs.{infos, backs, infoTell, backTell, ToldTheorem, ToStartTheorem, ToMarkTheorem, NeverBelowTheorem}
+use Rattle.write_list.specs.Runs.{lists, list_tell}
+use Rattle.append.specs.Runs.{pieces, piece_tell}
+use Rattle.chain_table.specs.Runs.{transfers, transfer_tell}
+use Rattle.back.specs.Runs.{infos, backs, info_tell, back_tell, ToldTheorem, ToStartTheorem, ToMarkTheorem, NeverBelowTheorem}
 
 -- Read on (FORMAT.md, 7.3): "the reader answers as 01's read at its place, which moves on by the count". The place is the caller's, and the next one part of the answer.
 pub record Reading : Type 0 where
@@ -27,7 +27,7 @@ readings = record {
   Reply = ReadingAnswer;
   after = λ p r. p;
   reply = λ p r. let a : ReadAnswer = read p.image r.path r.position r.buffer in record { answer = a; next = r.position + a.count };
-  calls = λ p r. look (readFile r.path r.position r.buffer) ∷ [];
+  calls = λ p r. look (read_file r.path r.position r.buffer) ∷ [];
   Fits = λ p r. Unit {0};
 }
 
@@ -37,32 +37,32 @@ pub data FurtherKind : Type 0 where
   append : FurtherKind
   read_on : FurtherKind
   table : FurtherKind
-  journalInfo : FurtherKind
-  undoTo : FurtherKind
+  journal_info : FurtherKind
+  undo_to : FurtherKind
 
 abbrev pub kind_of : FurtherKind → Kind
 kind_of list = lists
 kind_of append = pieces
 kind_of read_on = readings
 kind_of table = transfers
-kind_of journalInfo = infos
-kind_of undoTo = backs
+kind_of journal_info = infos
+kind_of undo_to = backs
 
 -- DEMAND 3 over every run of calls; only a store of other numbers than the image's own ends one
 abbrev pub EveryRunTheorem : Type 0
 EveryRunTheorem = KindRunTheorem (one_of kind_of)
 
 -- how a program counts the changes that stand by the answers of each kind: after every such run as many undos give image and whole journal of the start
-abbrev pub tellOf : (i : FurtherKind) → Tell (kind_of i)
-tellOf list = listTell
-tellOf append = pieceTell
-tellOf read_on = λ k r. k
-tellOf table = transferTell
-tellOf journalInfo = infoTell
-tellOf undoTo = backTell
+abbrev pub tell_of : (i : FurtherKind) → Tell (kind_of i)
+tell_of list = list_tell
+tell_of append = piece_tell
+tell_of read_on = λ k r. k
+tell_of table = transfer_tell
+tell_of journal_info = info_tell
+tell_of undo_to = back_tell
 
 abbrev pub EveryCountTheorem : Type 0
-EveryCountTheorem = KindCountTheorem (one_of kind_of) (λ k r. tellOf r.0 k r.1)
+EveryCountTheorem = KindCountTheorem (one_of kind_of) (λ k r. tell_of r.0 k r.1)
 
 -- After every such run, an info answers 0 and as many records as changes stand
 abbrev pub EveryInfoTheorem : Type 0

@@ -6,21 +6,21 @@ use Rattle.layout.specs.Check.{check}
 use Rattle.journal.specs.Journal.{started}
 use Rattle.journal.specs.Run.{State, state}
 use Rattle.journal.specs.Kinds.{KindCall, step_of, FitsRun, one_of}
-use Rattle.back.specs.UndoTo.{backed, undoTo as undoToMark}
-use Rattle.volume_file.specs.Format.{image_of, journalOf, own_of}
-use Rattle.volume_file.specs.Save.{homeWith, changes, prepareRefusal, committed, recovered}
+use Rattle.back.specs.UndoTo.{backed, undo_to as undoToMark}
+use Rattle.volume_file.specs.Format.{image_of, journal_of, own_of}
+use Rattle.volume_file.specs.Save.{home_with, changes, prepare_refusal, committed, recovered}
 use Rattle.volume_file.specs.Cuts.{Quiet, Cut, RecoveryCuts}
 use Rattle.bulgefs.specs.Runs.{kind_of}
 
 -- the pair that a file holds; its journal has 512·m bytes, the m sectors that it stands in
 abbrev pub pair_of : List ℕ → State
-pair_of file = state (image_of file) (journalOf file)
+pair_of file = state (image_of file) (journal_of file)
 
 -- a file as it was begun: its log does not wait, its image is sound, and its journal was just started
 pub record Begun (file : List ℕ) : Type 0 where
   pub quiet : Quiet file
   pub sound : check (image_of file) ≡ 0
-  pub fresh : journalOf file ≡ started (length (journalOf file))
+  pub fresh : journal_of file ≡ started (length (journal_of file))
 
 -- A LIFE of a file `begun`: the pair p in memory, the file, and the pairs of the moments at which a save was made or cut, from the last one made on.
 pub data Life (begun : List ℕ) : (p : State) (file : List ℕ) (saved : List State) → Type 0 where
@@ -31,16 +31,16 @@ pub data Life (begun : List ℕ) : (p : State) (file : List ℕ) (saved : List S
       → (c : KindCall (one_of kind_of)) → FitsRun p c → Life begun (step_of p c) file saved
   -- a save that is made: its four steps
   saves : {p : State} {file : List ℕ} {saved : List State} → Life begun p file saved
-      → (own : List ℕ) → prepareRefusal file p.image p.journal own ≡ 0
-      → Life begun p (recovered (committed file (homeWith p.image p.journal own))) (p ∷ [])
+      → (own : List ℕ) → prepare_refusal file p.image p.journal own ≡ 0
+      → Life begun p (recovered (committed file (home_with p.image p.journal own))) (p ∷ [])
   -- a save that finds nothing to write, since no sector differs
   finds : {p : State} {file : List ℕ} {saved : List State} → Life begun p file saved
-      → (own : List ℕ) → prepareRefusal file p.image p.journal own ≡ 0
-      → length (changes file (homeWith p.image p.journal own)) ≡ 0 → Life begun p file (p ∷ [])
+      → (own : List ℕ) → prepare_refusal file p.image p.journal own ≡ 0
+      → length (changes file (home_with p.image p.journal own)) ≡ 0 → Life begun p file (p ∷ [])
   -- a save that is cut, and recovery, cut any number of times before it comes to its end
   cut : {p : State} {file : List ℕ} {saved : List State} → Life begun p file saved
-      → (own : List ℕ) → prepareRefusal file p.image p.journal own ≡ 0
-      → {left found : List ℕ} → Cut file (homeWith p.image p.journal own) left → RecoveryCuts left found
+      → (own : List ℕ) → prepare_refusal file p.image p.journal own ≡ 0
+      → {left found : List ℕ} → Cut file (home_with p.image p.journal own) left → RecoveryCuts left found
       → Life begun (pair_of (recovered found)) (recovered found) (p ∷ saved)
   -- power fails while nothing is written
   off : {p : State} {file : List ℕ} {saved : List State} → Life begun p file saved → Life begun (pair_of file) file saved
@@ -71,4 +71,4 @@ EveryLifeTheorem =
 abbrev pub SaveAcceptedTheorem : Type 0
 SaveAcceptedTheorem =
     (begun : List ℕ) → Begun begun → (p : State) (file : List ℕ) (saved : List State) → Life begun p file saved
-    → (own : List ℕ) → length own ≡ length (own_of begun) → prepareRefusal file p.image p.journal own ≡ 0
+    → (own : List ℕ) → length own ≡ length (own_of begun) → prepare_refusal file p.image p.journal own ≡ 0

@@ -2,26 +2,26 @@
 // for C. Nothing is asked of the caller but buffers that do not overlap.
 ghost use Rattle.std.specs.Prelude.{◌+◌, ◌≡◌};
 ghost use Rattle.layout.specs.Check.{check};
-ghost use Rattle.layout.specs.Looks.{LookupAnswer, ReadAnswer, Extent, lookup, read, extentOf, readAttributes, volumeInfo, nextEntry};
-ghost use Rattle.layout.specs.Answers.{volumeAnswer, entryAnswer};
-ghost use Rattle.store.specs.Change.{Change as ChangeAsked, create, write, delete, createDirectory, deleteDirectory, setAttributes, clearAttributes, clearFlags, shorten, replace, move, put_in, put, slotGiven};
-ghost use Rattle.store.specs.Get.{theLatest, theNumber, gotAnswer, getIn, get};
-ghost use Rattle.volume.specs.Format.{formatRefusal, formatted};
-ghost use Rattle.chain_table.specs.Transfer.{loadTable, storeTable};
-ghost use Rattle.append.specs.Append.{afterAppend, appendAnswer};
-ghost use Rattle.write_list.specs.List.{listed, writeList};
-ghost use Rattle.back.specs.Marks.{info, journalInfo};
-ghost use Rattle.back.specs.UndoTo.{backed, undoTo};
-ghost use Rattle.volume_file.specs.Format.{fileSize, fileRefusal};
-ghost use Rattle.volume_file.specs.Begin.{beginRefusal, afterBegin};
-ghost use Rattle.volume_file.specs.Save.{afterPrepare, commitRefusal, afterCommit, afterRecover};
-ghost use Rattle.volume_file.specs.Answers.{PartsAnswer, parts_of, prepareAnswered, prepareAnswer, recoverAnswered, recoverAnswer, homeExtent};
+ghost use Rattle.layout.specs.Looks.{LookupAnswer, ReadAnswer, Extent, lookup, read, extent_of, read_attributes, volume_info, next_entry};
+ghost use Rattle.layout.specs.Answers.{volume_answer, entry_answer};
+ghost use Rattle.store.specs.Change.{Change as ChangeAsked, create, write, delete, create_directory, delete_directory, set_attributes, clear_attributes, clear_flags, shorten, replace, move, put_in, put, slot_given};
+ghost use Rattle.store.specs.Get.{the_latest, the_number, got_answer, get_in, get};
+ghost use Rattle.volume.specs.Format.{format_refusal, formatted};
+ghost use Rattle.chain_table.specs.Transfer.{load_table, store_table};
+ghost use Rattle.append.specs.Append.{after_append, append_answer};
+ghost use Rattle.write_list.specs.List.{listed, write_list};
+ghost use Rattle.back.specs.Marks.{info, journal_info};
+ghost use Rattle.back.specs.UndoTo.{backed, undo_to};
+ghost use Rattle.volume_file.specs.Format.{file_size, file_refusal};
+ghost use Rattle.volume_file.specs.Begin.{begin_refusal, after_begin};
+ghost use Rattle.volume_file.specs.Save.{after_prepare, commit_refusal, after_commit, after_recover};
+ghost use Rattle.volume_file.specs.Answers.{PartsAnswer, parts_of, prepare_answered, prepare_answer, recover_answered, recover_answer, home_extent};
 ghost use Rattle.salvage.specs.Salvage.{SalvageAnswer, salvage};
-ghost use Rattle.salvage_tree.specs.SalvageTree.{TreeAnswer, salvageTree};
-ghost use Rattle.journal.specs.Journal.{startRefusal, afterStart};
-ghost use Rattle.journal.specs.Answers.{changedAnswer};
+ghost use Rattle.salvage_tree.specs.SalvageTree.{TreeAnswer, salvage_tree};
+ghost use Rattle.journal.specs.Journal.{start_refusal, after_start};
+ghost use Rattle.journal.specs.Answers.{changed_answer};
 ghost use Rattle.bulgefs.specs.Version.{version};
-ghost use Rattle.journal.specs.Run.{State, state, changed, undone, changeAnswer, afterChange, undoAnswer, afterUndo};
+ghost use Rattle.journal.specs.Run.{State, state, changed, undone, change_answer, after_change, undo_answer, after_undo};
 
 // Sixteen bytes by value: C cannot pass an array so.
 #[repr(C)]
@@ -170,7 +170,7 @@ pub extern "C" fn bulgefs_read_next<'x>(
 
 #[unsafe(no_mangle)]
 pub extern "C" fn bulgefs_read_attributes(image: &[u8], path: &[u8], buffer: &mut [u8]) -> Filled
-    ensures { ◌≡◌ {A = ReadAnswer} (record { number = result.number; count = result.count; buffer = buffer.new }) (readAttributes image.now path.now buffer.old) }
+    ensures { ◌≡◌ {A = ReadAnswer} (record { number = result.number; count = result.count; buffer = buffer.new }) (read_attributes image.now path.now buffer.old) }
 {
     match layout::reading::read_attributes(image, path, buffer) {
         layout::reading::Filled::Bytes(count) => Filled {
@@ -186,7 +186,7 @@ pub extern "C" fn bulgefs_read_attributes(image: &[u8], path: &[u8], buffer: &mu
 
 #[unsafe(no_mangle)]
 pub extern "C" fn bulgefs_look_in_place(image: &[u8], path: &[u8], index: u64) -> Part
-    ensures { ◌≡◌ {A = Extent} (record { start = result.start; size = result.length }) (extentOf image.now path.now index) }
+    ensures { ◌≡◌ {A = Extent} (record { start = result.start; size = result.length }) (extent_of image.now path.now index) }
 {
     let x = layout::reading::extent_in_place(image, path, index as usize);
     Part {
@@ -198,7 +198,7 @@ pub extern "C" fn bulgefs_look_in_place(image: &[u8], path: &[u8], index: u64) -
 // Structs of numbers are handed on as the layout gives them.
 #[unsafe(no_mangle)]
 pub extern "C" fn bulgefs_info(image: &[u8], labels: &mut [u8]) -> layout::overview::VolumeInfo
-    ensures { volumeAnswer result labels.new ≡ volumeInfo image.now labels.old }
+    ensures { volume_answer result labels.new ≡ volume_info image.now labels.old }
 {
     layout::overview::info(image, labels)
 }
@@ -210,7 +210,7 @@ pub extern "C" fn bulgefs_entry(
     slot: u32,
     name: &mut [u8],
 ) -> layout::overview::EntryInfo
-    ensures { entryAnswer result name.new ≡ nextEntry image.now path.now slot name.old }
+    ensures { entry_answer result name.new ≡ next_entry image.now path.now slot name.old }
 {
     layout::overview::next_entry(image, path, slot as usize, name)
 }
@@ -223,7 +223,7 @@ pub extern "C" fn bulgefs_format(
     uuid: Uuid,
     name: &[u8],
 ) -> u32
-    ensures number { result ≡ formatRefusal image.old root_blocks name.now }
+    ensures number { result ≡ format_refusal image.old root_blocks name.now }
     ensures bytes { image.new ≡ formatted image.old root_blocks uuid.bytes name.now time }
 {
     let bytes = uuid.bytes;
@@ -232,8 +232,8 @@ pub extern "C" fn bulgefs_format(
 
 #[unsafe(no_mangle)]
 pub extern "C" fn bulgefs_journal_start(journal: &mut [u8]) -> u32
-    ensures number { result ≡ startRefusal journal.old }
-    ensures bytes { journal.new ≡ afterStart journal.old }
+    ensures number { result ≡ start_refusal journal.old }
+    ensures bytes { journal.new ≡ after_start journal.old }
 {
     journal::start::start(journal)
 }
@@ -247,7 +247,7 @@ pub extern "C" fn bulgefs_salvage(image: &mut [u8], report: &mut [u8]) -> u32
 
 #[unsafe(no_mangle)]
 pub extern "C" fn bulgefs_salvage_tree(image: &mut [u8], report: &mut [u8]) -> Salvaged
-    ensures { ◌≡◌ {A = TreeAnswer} (record { number = result.number; zeroed = result.dropped; freed = result.freed; image = image.new; report = report.new }) (salvageTree image.old report.old) }
+    ensures { ◌≡◌ {A = TreeAnswer} (record { number = result.number; zeroed = result.dropped; freed = result.freed; image = image.new; report = report.new }) (salvage_tree image.old report.old) }
 {
     let a = salvage_tree::salvage_tree::salvage_tree(image, report);
     Salvaged {
@@ -259,7 +259,7 @@ pub extern "C" fn bulgefs_salvage_tree(image: &mut [u8], report: &mut [u8]) -> S
 
 // The answer of a change, by its fields.
 fn with_slot(c: journal::calls::Changed) -> Created
-    ensures { changed result.number result.slot result.size ≡ changedAnswer c }
+    ensures { changed result.number result.slot result.size ≡ changed_answer c }
 {
     match c {
         journal::calls::Changed::Done { slot, size } => Created {
@@ -277,7 +277,7 @@ fn with_slot(c: journal::calls::Changed) -> Created
 
 // The same of a change that gives no slot.
 fn slotless(c: journal::calls::Changed) -> Changed
-    ensures { (p : State) (x : ChangeAsked) → slotGiven p.image x ≡ 0 → changedAnswer c ≡ changeAnswer p x → changed result.number 0 result.size ≡ changeAnswer p x }
+    ensures { (p : State) (x : ChangeAsked) → slot_given p.image x ≡ 0 → changed_answer c ≡ change_answer p x → changed result.number 0 result.size ≡ change_answer p x }
 {
     match c {
         journal::calls::Changed::Done { slot: _, size } => Changed {
@@ -303,8 +303,8 @@ pub extern "C" fn bulgefs_create(
     flags: u32,
     time: u64,
 ) -> Created
-    ensures answer { changed result.number result.slot result.size ≡ changeAnswer (state image.old journal.old) (create path.now kind user group permissions flags time) }
-    ensures state { state image.new journal.new ≡ afterChange (state image.old journal.old) (create path.now kind user group permissions flags time) }
+    ensures answer { changed result.number result.slot result.size ≡ change_answer (state image.old journal.old) (create path.now kind user group permissions flags time) }
+    ensures state { state image.new journal.new ≡ after_change (state image.old journal.old) (create path.now kind user group permissions flags time) }
 {
     with_slot(journal::calls::create(
         image,
@@ -328,16 +328,16 @@ pub extern "C" fn bulgefs_write(
     bytes: &[u8],
     time: u64,
 ) -> Changed
-    ensures answer { changed result.number 0 result.size ≡ changeAnswer (state image.old journal.old) (write path.now offset bytes.now time) }
-    ensures state { state image.new journal.new ≡ afterChange (state image.old journal.old) (write path.now offset bytes.now time) }
+    ensures answer { changed result.number 0 result.size ≡ change_answer (state image.old journal.old) (write path.now offset bytes.now time) }
+    ensures state { state image.new journal.new ≡ after_change (state image.old journal.old) (write path.now offset bytes.now time) }
 {
     slotless(journal::calls::write(image, journal, path, offset as usize, bytes, time))
 }
 
 #[unsafe(no_mangle)]
 pub extern "C" fn bulgefs_delete(image: &mut [u8], journal: &mut [u8], path: &[u8]) -> Changed
-    ensures answer { changed result.number 0 result.size ≡ changeAnswer (state image.old journal.old) (delete path.now) }
-    ensures state { state image.new journal.new ≡ afterChange (state image.old journal.old) (delete path.now) }
+    ensures answer { changed result.number 0 result.size ≡ change_answer (state image.old journal.old) (delete path.now) }
+    ensures state { state image.new journal.new ≡ after_change (state image.old journal.old) (delete path.now) }
 {
     slotless(journal::calls::delete(image, journal, path))
 }
@@ -355,8 +355,8 @@ pub extern "C" fn bulgefs_create_directory(
     blocks: u32,
     time: u64,
 ) -> Created
-    ensures answer { changed result.number result.slot result.size ≡ changeAnswer (state image.old journal.old) (createDirectory path.now kind user group permissions flags time blocks) }
-    ensures state { state image.new journal.new ≡ afterChange (state image.old journal.old) (createDirectory path.now kind user group permissions flags time blocks) }
+    ensures answer { changed result.number result.slot result.size ≡ change_answer (state image.old journal.old) (create_directory path.now kind user group permissions flags time blocks) }
+    ensures state { state image.new journal.new ≡ after_change (state image.old journal.old) (create_directory path.now kind user group permissions flags time blocks) }
 {
     with_slot(journal::calls::create_directory(
         image,
@@ -378,8 +378,8 @@ pub extern "C" fn bulgefs_delete_directory(
     journal: &mut [u8],
     path: &[u8],
 ) -> Changed
-    ensures answer { changed result.number 0 result.size ≡ changeAnswer (state image.old journal.old) (deleteDirectory path.now) }
-    ensures state { state image.new journal.new ≡ afterChange (state image.old journal.old) (deleteDirectory path.now) }
+    ensures answer { changed result.number 0 result.size ≡ change_answer (state image.old journal.old) (delete_directory path.now) }
+    ensures state { state image.new journal.new ≡ after_change (state image.old journal.old) (delete_directory path.now) }
 {
     slotless(journal::calls::delete_directory(image, journal, path))
 }
@@ -391,8 +391,8 @@ pub extern "C" fn bulgefs_set_attributes(
     path: &[u8],
     bytes: &[u8],
 ) -> Changed
-    ensures answer { changed result.number 0 result.size ≡ changeAnswer (state image.old journal.old) (setAttributes path.now bytes.now) }
-    ensures state { state image.new journal.new ≡ afterChange (state image.old journal.old) (setAttributes path.now bytes.now) }
+    ensures answer { changed result.number 0 result.size ≡ change_answer (state image.old journal.old) (set_attributes path.now bytes.now) }
+    ensures state { state image.new journal.new ≡ after_change (state image.old journal.old) (set_attributes path.now bytes.now) }
 {
     slotless(journal::calls::set_attributes(image, journal, path, bytes))
 }
@@ -403,16 +403,16 @@ pub extern "C" fn bulgefs_clear_attributes(
     journal: &mut [u8],
     path: &[u8],
 ) -> Changed
-    ensures answer { changed result.number 0 result.size ≡ changeAnswer (state image.old journal.old) (clearAttributes path.now) }
-    ensures state { state image.new journal.new ≡ afterChange (state image.old journal.old) (clearAttributes path.now) }
+    ensures answer { changed result.number 0 result.size ≡ change_answer (state image.old journal.old) (clear_attributes path.now) }
+    ensures state { state image.new journal.new ≡ after_change (state image.old journal.old) (clear_attributes path.now) }
 {
     slotless(journal::calls::clear_attributes(image, journal, path))
 }
 
 #[unsafe(no_mangle)]
 pub extern "C" fn bulgefs_clear_flags(image: &mut [u8], journal: &mut [u8], path: &[u8]) -> Changed
-    ensures answer { changed result.number 0 result.size ≡ changeAnswer (state image.old journal.old) (clearFlags path.now) }
-    ensures state { state image.new journal.new ≡ afterChange (state image.old journal.old) (clearFlags path.now) }
+    ensures answer { changed result.number 0 result.size ≡ change_answer (state image.old journal.old) (clear_flags path.now) }
+    ensures state { state image.new journal.new ≡ after_change (state image.old journal.old) (clear_flags path.now) }
 {
     slotless(journal::calls::clear_flags(image, journal, path))
 }
@@ -425,8 +425,8 @@ pub extern "C" fn bulgefs_shorten(
     size: u64,
     time: u64,
 ) -> Changed
-    ensures answer { changed result.number 0 result.size ≡ changeAnswer (state image.old journal.old) (shorten path.now size time) }
-    ensures state { state image.new journal.new ≡ afterChange (state image.old journal.old) (shorten path.now size time) }
+    ensures answer { changed result.number 0 result.size ≡ change_answer (state image.old journal.old) (shorten path.now size time) }
+    ensures state { state image.new journal.new ≡ after_change (state image.old journal.old) (shorten path.now size time) }
 {
     slotless(journal::calls::shorten(image, journal, path, size as usize, time))
 }
@@ -439,8 +439,8 @@ pub extern "C" fn bulgefs_replace(
     bytes: &[u8],
     time: u64,
 ) -> Changed
-    ensures answer { changed result.number 0 result.size ≡ changeAnswer (state image.old journal.old) (replace path.now bytes.now time) }
-    ensures state { state image.new journal.new ≡ afterChange (state image.old journal.old) (replace path.now bytes.now time) }
+    ensures answer { changed result.number 0 result.size ≡ change_answer (state image.old journal.old) (replace path.now bytes.now time) }
+    ensures state { state image.new journal.new ≡ after_change (state image.old journal.old) (replace path.now bytes.now time) }
 {
     slotless(journal::calls::replace(image, journal, path, bytes, time))
 }
@@ -452,8 +452,8 @@ pub extern "C" fn bulgefs_move(
     path: &[u8],
     to: &[u8],
 ) -> Created
-    ensures answer { changed result.number result.slot result.size ≡ changeAnswer (state image.old journal.old) (move path.now to.now) }
-    ensures state { state image.new journal.new ≡ afterChange (state image.old journal.old) (move path.now to.now) }
+    ensures answer { changed result.number result.slot result.size ≡ change_answer (state image.old journal.old) (move path.now to.now) }
+    ensures state { state image.new journal.new ≡ after_change (state image.old journal.old) (move path.now to.now) }
 {
     with_slot(journal::calls::move_file(image, journal, path, to))
 }
@@ -467,8 +467,8 @@ pub extern "C" fn bulgefs_put_settings(
     bytes: &[u8],
     time: u64,
 ) -> Created
-    ensures answer { changed result.number result.slot result.size ≡ changeAnswer (state image.old journal.old) (put serial.now time bytes.now) }
-    ensures state { state image.new journal.new ≡ afterChange (state image.old journal.old) (put serial.now time bytes.now) }
+    ensures answer { changed result.number result.slot result.size ≡ change_answer (state image.old journal.old) (put serial.now time bytes.now) }
+    ensures state { state image.new journal.new ≡ after_change (state image.old journal.old) (put serial.now time bytes.now) }
 {
     with_slot(journal::calls::put_settings(image, journal, serial, bytes, time))
 }
@@ -480,7 +480,7 @@ pub extern "C" fn bulgefs_get_settings(
     revision: u32,
     buffer: &mut [u8],
 ) -> store::get::Got
-    ensures { gotAnswer result.number result.revision result.length buffer.new ≡ get image.now serial.now (theNumber revision) buffer.old }
+    ensures { got_answer result.number result.revision result.length buffer.new ≡ get image.now serial.now (the_number revision) buffer.old }
 {
     store::get::get(image, serial, revision, buffer)
 }
@@ -491,7 +491,7 @@ pub extern "C" fn bulgefs_get_latest_settings(
     serial: &[u8],
     buffer: &mut [u8],
 ) -> store::get::Got
-    ensures { gotAnswer result.number result.revision result.length buffer.new ≡ get image.now serial.now theLatest buffer.old }
+    ensures { got_answer result.number result.revision result.length buffer.new ≡ get image.now serial.now the_latest buffer.old }
 {
     store::get::get_latest(image, serial, buffer)
 }
@@ -506,8 +506,8 @@ pub extern "C" fn bulgefs_put_settings_in(
     bytes: &[u8],
     time: u64,
 ) -> Created
-    ensures answer { changed result.number result.slot result.size ≡ changeAnswer (state image.old journal.old) (put_in directory.now serial.now time bytes.now) }
-    ensures state { state image.new journal.new ≡ afterChange (state image.old journal.old) (put_in directory.now serial.now time bytes.now) }
+    ensures answer { changed result.number result.slot result.size ≡ change_answer (state image.old journal.old) (put_in directory.now serial.now time bytes.now) }
+    ensures state { state image.new journal.new ≡ after_change (state image.old journal.old) (put_in directory.now serial.now time bytes.now) }
 {
     with_slot(journal::calls::put_settings_in(image, journal, directory, serial, bytes, time))
 }
@@ -520,7 +520,7 @@ pub extern "C" fn bulgefs_get_settings_in(
     revision: u32,
     buffer: &mut [u8],
 ) -> store::get::Got
-    ensures { gotAnswer result.number result.revision result.length buffer.new ≡ getIn image.now directory.now serial.now (theNumber revision) buffer.old }
+    ensures { got_answer result.number result.revision result.length buffer.new ≡ get_in image.now directory.now serial.now (the_number revision) buffer.old }
 {
     store::get::get_in(image, directory, serial, revision, buffer)
 }
@@ -532,15 +532,15 @@ pub extern "C" fn bulgefs_get_latest_settings_in(
     serial: &[u8],
     buffer: &mut [u8],
 ) -> store::get::Got
-    ensures { gotAnswer result.number result.revision result.length buffer.new ≡ getIn image.now directory.now serial.now theLatest buffer.old }
+    ensures { got_answer result.number result.revision result.length buffer.new ≡ get_in image.now directory.now serial.now the_latest buffer.old }
 {
     store::get::get_latest_in(image, directory, serial, buffer)
 }
 
 #[unsafe(no_mangle)]
 pub extern "C" fn bulgefs_undo(image: &mut [u8], journal: &mut [u8]) -> Changed
-    ensures answer { undone result.number result.size ≡ undoAnswer (state image.old journal.old) }
-    ensures state { state image.new journal.new ≡ afterUndo (state image.old journal.old) }
+    ensures answer { undone result.number result.size ≡ undo_answer (state image.old journal.old) }
+    ensures state { state image.new journal.new ≡ after_undo (state image.old journal.old) }
 {
     match journal::calls::undo(image, journal) {
         journal::calls::Undone::Done(size) => Changed {
@@ -560,14 +560,14 @@ pub extern "C" fn bulgefs_undo_to(
     journal: &mut [u8],
     mark: u32,
 ) -> back::call::Backed
-    ensures { backed (state image.new journal.new) result.number result.done ≡ undoTo (state image.old journal.old) mark }
+    ensures { backed (state image.new journal.new) result.number result.done ≡ undo_to (state image.old journal.old) mark }
 {
     back::call::undo_to(image, journal, mark as usize)
 }
 
 #[unsafe(no_mangle)]
 pub extern "C" fn bulgefs_journal_info<'x>(image: &'x [u8], journal: &'x [u8]) -> back::call::Info
-    ensures { info result.number result.used result.records result.last ≡ journalInfo (state image.now journal.now) }
+    ensures { info result.number result.used result.records result.last ≡ journal_info (state image.now journal.now) }
 {
     back::call::journal_info(image, journal)
 }
@@ -580,8 +580,8 @@ pub extern "C" fn bulgefs_append(
     piece: &[u8],
     time: u64,
 ) -> Changed
-    ensures answer { changed result.number 0 result.size ≡ appendAnswer (state image.old journal.old) path.now piece.now time }
-    ensures state { state image.new journal.new ≡ afterAppend (state image.old journal.old) path.now piece.now time }
+    ensures answer { changed result.number 0 result.size ≡ append_answer (state image.old journal.old) path.now piece.now time }
+    ensures state { state image.new journal.new ≡ after_append (state image.old journal.old) path.now piece.now time }
 {
     let c = with_slot(append::call::append(image, journal, path, piece, time));
     Changed {
@@ -592,7 +592,7 @@ pub extern "C" fn bulgefs_append(
 
 #[unsafe(no_mangle)]
 pub extern "C" fn bulgefs_write_list(image: &mut [u8], journal: &mut [u8], list: &[u8]) -> Listed
-    ensures { listed (state image.new journal.new) result.number result.done ≡ writeList (state image.old journal.old) list.now }
+    ensures { listed (state image.new journal.new) result.number result.done ≡ write_list (state image.old journal.old) list.now }
 {
     let w = write_list::call::write_list(image, journal, list);
     Listed {
@@ -603,16 +603,16 @@ pub extern "C" fn bulgefs_write_list(image: &mut [u8], journal: &mut [u8], list:
 
 #[unsafe(no_mangle)]
 pub extern "C" fn bulgefs_load_table(image: &[u8], entries: &mut [u32]) -> u32
-    ensures number { result ≡ (loadTable image.now entries.old).number }
-    ensures entries { entries.new ≡ (loadTable image.now entries.old).numbers }
+    ensures number { result ≡ (load_table image.now entries.old).number }
+    ensures entries { entries.new ≡ (load_table image.now entries.old).numbers }
 {
     chain_table::transfer::load_table(image, entries)
 }
 
 #[unsafe(no_mangle)]
 pub extern "C" fn bulgefs_store_table(image: &mut [u8], entries: &[u32]) -> u32
-    ensures number { result ≡ (storeTable image.old entries.now).number }
-    ensures image { image.new ≡ (storeTable image.old entries.now).image }
+    ensures number { result ≡ (store_table image.old entries.now).number }
+    ensures image { image.new ≡ (store_table image.old entries.now).image }
 {
     chain_table::transfer::store_table(image, entries)
 }
@@ -624,7 +624,7 @@ pub extern "C" fn bulgefs_file_size(
     journal_sectors: u32,
     own_sectors: u32,
 ) -> u64
-    ensures { result ≡ fileSize image_sectors journal_sectors own_sectors }
+    ensures { result ≡ file_size image_sectors journal_sectors own_sectors }
 {
     volume_file::parts::file_size(image_sectors, journal_sectors, own_sectors) as u64
 }
@@ -636,22 +636,22 @@ pub extern "C" fn bulgefs_file_begin(
     journal_sectors: u32,
     own_sectors: u32,
 ) -> u32
-    ensures number { result ≡ beginRefusal file.old image_sectors journal_sectors own_sectors }
-    ensures file { file.new ≡ afterBegin file.old image_sectors journal_sectors own_sectors }
+    ensures number { result ≡ begin_refusal file.old image_sectors journal_sectors own_sectors }
+    ensures file { file.new ≡ after_begin file.old image_sectors journal_sectors own_sectors }
 {
     volume_file::begin::begin(file, image_sectors, journal_sectors, own_sectors)
 }
 
 #[unsafe(no_mangle)]
 pub extern "C" fn bulgefs_file_check(file: &[u8]) -> u32
-    ensures { result ≡ fileRefusal file.now }
+    ensures { result ≡ file_refusal file.now }
 {
     volume_file::check::refusal(file)
 }
 
 #[unsafe(no_mangle)]
 pub extern "C" fn bulgefs_file_parts(file: &[u8]) -> volume_file::parts::Parts
-    ensures { ◌≡◌ {A = PartsAnswer} (record { number = result.number; waits = result.waits; imageStart = result.image_start; imageLength = result.image_length; journalStart = result.journal_start; journalLength = result.journal_length; ownStart = result.own_start; ownLength = result.own_length }) (parts_of file.now) }
+    ensures { ◌≡◌ {A = PartsAnswer} (record { number = result.number; waits = result.waits; image_start = result.image_start; image_length = result.image_length; journal_start = result.journal_start; journal_length = result.journal_length; own_start = result.own_start; own_length = result.own_length }) (parts_of file.now) }
 {
     volume_file::parts::parts_of(file)
 }
@@ -663,31 +663,31 @@ pub extern "C" fn bulgefs_file_prepare<'x>(
     journal: &'x [u8],
     own: &'x [u8],
 ) -> volume_file::saving::Prepared
-    ensures answer { prepareAnswered result.number result.sectors result.numbers_start result.numbers_length result.sectors_start result.sectors_length ≡ prepareAnswer file.old image.now journal.now own.now }
-    ensures file { file.new ≡ afterPrepare file.old image.now journal.now own.now }
+    ensures answer { prepare_answered result.number result.sectors result.numbers_start result.numbers_length result.sectors_start result.sectors_length ≡ prepare_answer file.old image.now journal.now own.now }
+    ensures file { file.new ≡ after_prepare file.old image.now journal.now own.now }
 {
     volume_file::saving::prepare(file, image, journal, own)
 }
 
 #[unsafe(no_mangle)]
 pub extern "C" fn bulgefs_file_commit(file: &mut [u8]) -> u32
-    ensures number { result ≡ commitRefusal file.old }
-    ensures file { file.new ≡ afterCommit file.old }
+    ensures number { result ≡ commit_refusal file.old }
+    ensures file { file.new ≡ after_commit file.old }
 {
     volume_file::saving::commit(file)
 }
 
 #[unsafe(no_mangle)]
 pub extern "C" fn bulgefs_file_recover(file: &mut [u8]) -> volume_file::recovery::Recovered
-    ensures answer { recoverAnswered result.number result.waited result.sectors ≡ recoverAnswer file.old }
-    ensures file { file.new ≡ afterRecover file.old }
+    ensures answer { recover_answered result.number result.waited result.sectors ≡ recover_answer file.old }
+    ensures file { file.new ≡ after_recover file.old }
 {
     volume_file::recovery::recover(file)
 }
 
 #[unsafe(no_mangle)]
 pub extern "C" fn bulgefs_file_home(file: &[u8], index: u32) -> volume_file::parts::Extent
-    ensures { ◌≡◌ {A = Extent} (record { start = result.start; size = result.length }) (homeExtent file.now index) }
+    ensures { ◌≡◌ {A = Extent} (record { start = result.start; size = result.length }) (home_extent file.now index) }
 {
     volume_file::parts::home_extent(file, index as usize)
 }

@@ -7,10 +7,10 @@ use Rattle.layout.specs.Lists.{every, same}
 use Rattle.journal.specs.Journal.{started}
 use Rattle.journal.specs.Run.{State}
 use Rattle.layout.specs.Bytes.{be64}
-use Rattle.journal.specs.Kinds.{step_of, answer_of, run_of, answersOf}
-use Rattle.script.specs.Script.{name_at, dataAt, changeAt, call_at, itemCall, itemOk, itemsFrom, callsFrom, encoded, encodedItem, answerSize, itemRoom, answersSize, Status, done, malformed, noRoom, given, outcome}
+use Rattle.journal.specs.Kinds.{step_of, answer_of, run_of, answers_of}
+use Rattle.script.specs.Script.{name_at, data_at, change_at, call_at, item_call, item_ok, items_from, calls_from, encoded, encoded_item, answer_size, item_room, answers_size, Status, done, malformed, no_room, given, outcome}
 use Rattle.samples.proofs.Rules.{rules}
-use Rattle.samples.proofs.Samples.{formattedAs, samples}
+use Rattle.samples.proofs.Samples.{formatted_as, samples}
 
 -- a header: op and the four bytes after it; low bytes of offset and time, and of the two lengths; the other bytes are 0
 header : List ℕ → ℕ → ℕ → ℕ → ℕ → List ℕ
@@ -32,13 +32,13 @@ expected =
     ++ (replicate 10 0 ++ (8 ∷ 0x14 ∷ replicate 4 0))))
 
 start : State
-start = record { image = formattedAs 16 2; journal = started 2593 }
+start = record { image = formatted_as 16 2; journal = started 2593 }
 
 -- a status as a number, to compare
 code : Status → ℕ
 code done = 0
 code malformed = 1
-code noRoom = 2
+code no_room = 2
 
 pub table : List (List ℕ × List ℕ)
 table =
@@ -50,5 +50,5 @@ table =
     ∷ []
 
 pub example-holds : T (every (λ row. same row.0 row.1) table)
-unfolding table header script expected start samples be64 name_at dataAt changeAt call_at itemCall itemOk itemsFrom callsFrom encoded encodedItem answerSize itemRoom answersSize step_of answer_of run_of answersOf code given outcome rules Rattle.script.specs.Script.numbers
+unfolding table header script expected start samples be64 name_at data_at change_at call_at item_call item_ok items_from calls_from encoded encoded_item answer_size item_room answers_size step_of answer_of run_of answers_of code given outcome rules Rattle.script.specs.Script.numbers
 example-holds = tt

@@ -5,7 +5,7 @@ use Rattle.journal.specs.Run.{State, state}
 use Rattle.journal.specs.Kinds.{Kind, KindRunTheorem}
 use Rattle.journal.specs.Back.{Tell}
 use Rattle.chain_table.specs.Numbers.{Own}
-use Rattle.chain_table.specs.Transfer.{Loaded, tableRefusal, loadTable, storeTable}
+use Rattle.chain_table.specs.Transfer.{Loaded, table_refusal, load_table, store_table}
 
 -- a load or a store, with its numbers; and the answers
 pub data TableCall : Type 0 where
@@ -17,26 +17,26 @@ pub data TableAnswer : Type 0 where
   stored : (number : ℕ) → TableAnswer
 
 -- by the rules
-unfoldable pub tableStep : State → TableCall → State
-tableStep p (load xs) = p
-tableStep p (store xs) = state (storeTable p.image xs).image p.journal
+unfoldable pub table_step : State → TableCall → State
+table_step p (load xs) = p
+table_step p (store xs) = state (store_table p.image xs).image p.journal
 
-unfoldable pub tableAnswer : State → TableCall → TableAnswer
-tableAnswer p (load xs) = loaded (loadTable p.image xs)
-tableAnswer p (store xs) = stored (storeTable p.image xs).number
+unfoldable pub table_answer : State → TableCall → TableAnswer
+table_answer p (load xs) = loaded (load_table p.image xs)
+table_answer p (store xs) = stored (store_table p.image xs).number
 
 -- a store that does not end the run: of the image's own numbers, or refused
 unfoldable pub OnlyLooks : State → TableCall → Type 0
 OnlyLooks p (load xs) = Unit {0}
-OnlyLooks p (store xs) = Own p.image xs ⊎ (tableRefusal p.image (length xs) ≡ 0 → ⊥)
+OnlyLooks p (store xs) = Own p.image xs ⊎ (table_refusal p.image (length xs) ≡ 0 → ⊥)
 
 -- the loads and stores
 abbrev pub transfers : Kind
 transfers = record {
   Further = TableCall;
   Reply = TableAnswer;
-  after = tableStep;
-  reply = tableAnswer;
+  after = table_step;
+  reply = table_answer;
   calls = λ p c. [];
   Fits = OnlyLooks;
 }
@@ -45,5 +45,5 @@ abbrev pub TableRunTheorem : Type 0
 TableRunTheorem = KindRunTheorem transfers
 
 -- how a program counts the changes that stand: neither changes the count
-abbrev pub transferTell : Tell transfers
-transferTell k r = k
+abbrev pub transfer_tell : Tell transfers
+transfer_tell k r = k

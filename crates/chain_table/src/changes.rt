@@ -1,6 +1,6 @@
 // The changes of a chain table, made on its numbers. A block past the last number has no entry to change.
 ghost use Rattle.std.specs.Prelude.{◌≡◌, set};
-ghost use Rattle.chain_table.specs.Numbers.{linkedIn, takenIn, freedIn};
+ghost use Rattle.chain_table.specs.Numbers.{linked_in, taken_in, freed_in};
 
 // Sets entry b to v.
 pub fn set(numbers: &mut [u32], b: usize, v: u32)
@@ -14,7 +14,7 @@ pub fn set(numbers: &mut [u32], b: usize, v: u32)
 
 // Links block b after the block `last`; 0: there is none.
 pub fn link(numbers: &mut [u32], last: u32, b: u32)
-    ensures { numbers.new ≡ linkedIn numbers.old last b }
+    ensures { numbers.new ≡ linked_in numbers.old last b }
 {
     if last == 0 {
         return;
@@ -24,7 +24,7 @@ pub fn link(numbers: &mut [u32], last: u32, b: u32)
 
 // Takes block b: it becomes the last of the chain that ends at `last`.
 pub fn take(numbers: &mut [u32], last: u32, b: u32)
-    ensures { numbers.new ≡ takenIn numbers.old last b }
+    ensures { numbers.new ≡ taken_in numbers.old last b }
 {
     set(numbers, b as usize, 1);
     link(numbers, last, b);
@@ -32,7 +32,7 @@ pub fn take(numbers: &mut [u32], last: u32, b: u32)
 
 // Frees block b.
 pub fn free(numbers: &mut [u32], b: u32)
-    ensures { numbers.new ≡ freedIn numbers.old b }
+    ensures { numbers.new ≡ freed_in numbers.old b }
 {
     set(numbers, b as usize, 0);
 }

@@ -1,14 +1,14 @@
 // The questions about a chain table, asked of its numbers. Past the last number an entry reads 0.
 ghost use Rattle.std.specs.Prelude.{not, ◌||◌, ◌≡◌, ◌+◌, ◌-◌, eqb, length, get_or};
 ghost use Rattle.layout.specs.Lists.{last_or};
-ghost use Rattle.layout.specs.Geometry.{tableBlocks};
-ghost use Rattle.layout.specs.Table.{chain, endsAfter, occupied, allOnes, restFree};
-ghost use Rattle.volume.specs.Search.{lowestFree};
-ghost use Rattle.chain_table.specs.Numbers.{valueIn};
+ghost use Rattle.layout.specs.Geometry.{table_blocks};
+ghost use Rattle.layout.specs.Table.{chain, ends_after, occupied, all_ones, rest_free};
+ghost use Rattle.volume.specs.Search.{lowest_free};
+ghost use Rattle.chain_table.specs.Numbers.{value_in};
 
 // The value of entry b.
 pub fn value(numbers: &[u32], b: usize) -> u32
-    ensures { result ≡ valueIn numbers.now b }
+    ensures { result ≡ value_in numbers.now b }
 {
     if numbers.len() <= b {
         return 0;
@@ -18,7 +18,7 @@ pub fn value(numbers: &[u32], b: usize) -> u32
 
 // The chain from first on, as many blocks as the buffer holds.
 pub fn chain(numbers: &[u32], first: u32, blocks: &mut [u32])
-    ensures { blocks.new ≡ chain (valueIn numbers.now) first (length blocks.old) }
+    ensures { blocks.new ≡ chain (value_in numbers.now) first (length blocks.old) }
 {
     let mut b = first;
     for i in 0..blocks.len() {
@@ -29,7 +29,7 @@ pub fn chain(numbers: &[u32], first: u32, blocks: &mut [u32])
 
 // Block i of the chain of k blocks from first on; 0 if the chain has no block i.
 pub fn nth(numbers: &[u32], first: u32, k: usize, i: usize) -> u32
-    ensures { result ≡ get_or (chain (valueIn numbers.now) first k) i 0 }
+    ensures { result ≡ get_or (chain (value_in numbers.now) first k) i 0 }
 {
     if k <= i {
         return 0;
@@ -45,7 +45,7 @@ pub fn nth(numbers: &[u32], first: u32, k: usize, i: usize) -> u32
 
 // The last block of the chain of k blocks from first on; 0 if it has none.
 pub fn last(numbers: &[u32], first: u32, k: usize) -> u32
-    ensures { result ≡ last_or 0 (chain (valueIn numbers.now) first k) }
+    ensures { result ≡ last_or 0 (chain (value_in numbers.now) first k) }
 {
     if k == 0 {
         return 0;
@@ -55,7 +55,7 @@ pub fn last(numbers: &[u32], first: u32, k: usize) -> u32
 
 // Whether from b on there are exactly k blocks, all in the volume, and the value of the last is 1.
 pub fn ends_after(numbers: &[u32], first: u32, k: usize) -> bool
-    ensures { result ≡ endsAfter (valueIn numbers.now) (length numbers.now) first k }
+    ensures { result ≡ ends_after (value_in numbers.now) (length numbers.now) first k }
 {
     let n = numbers.len();
     let t = (n + 127) / 128;
@@ -76,7 +76,7 @@ pub fn ends_after(numbers: &[u32], first: u32, k: usize) -> bool
 
 // How many entries are not 0.
 pub fn count_used(numbers: &[u32]) -> usize
-    ensures { result ≡ occupied (valueIn numbers.now) (length numbers.now) }
+    ensures { result ≡ occupied (value_in numbers.now) (length numbers.now) }
 {
     let mut count = 0;
     let mut b = 0;
@@ -93,7 +93,7 @@ pub fn count_used(numbers: &[u32]) -> usize
 
 // The lowest free block from `from` on; n if there is none.
 pub fn lowest_free(numbers: &[u32], from: usize) -> usize
-    ensures { result ≡ lowestFree (valueIn numbers.now) from (length numbers.now) }
+    ensures { result ≡ lowest_free (value_in numbers.now) from (length numbers.now) }
 {
     let n = numbers.len();
     let mut b = from;
@@ -108,7 +108,7 @@ pub fn lowest_free(numbers: &[u32], from: usize) -> usize
 
 // Whether entries 0 to t are 1.
 pub fn first_ones(numbers: &[u32]) -> bool
-    ensures { result ≡ allOnes (valueIn numbers.now) 0 (tableBlocks (length numbers.now) + 1) }
+    ensures { result ≡ all_ones (value_in numbers.now) 0 (table_blocks (length numbers.now) + 1) }
 {
     let mut b = 0;
     let mut left = (numbers.len() + 127) / 128 + 1;
@@ -134,7 +134,7 @@ fn is_marked(marks: &[u8], b: usize) -> bool
 
 // Whether entry b is 0 or its block marked.
 fn free_or_marked(numbers: &[u32], marks: &[u8], b: usize) -> bool
-    ensures { result ≡ (eqb (valueIn numbers.now b) 0 || not (eqb (get_or marks.now b 0) 0)) }
+    ensures { result ≡ (eqb (value_in numbers.now b) 0 || not (eqb (get_or marks.now b 0) 0)) }
 {
     if value(numbers, b) == 0 {
         return true;
@@ -144,7 +144,7 @@ fn free_or_marked(numbers: &[u32], marks: &[u8], b: usize) -> bool
 
 // Whether every entry above t is 0 where its block is not marked.
 pub fn rest_free(numbers: &[u32], marks: &[u8]) -> bool
-    ensures { result ≡ restFree (valueIn numbers.now) marks.now (tableBlocks (length numbers.now) + 1) (length numbers.now - (tableBlocks (length numbers.now) + 1)) }
+    ensures { result ≡ rest_free (value_in numbers.now) marks.now (table_blocks (length numbers.now) + 1) (length numbers.now - (table_blocks (length numbers.now) + 1)) }
 {
     let n = numbers.len();
     let mut b = (n + 127) / 128 + 1;

@@ -2,15 +2,15 @@
 ghost use Rattle.std.specs.Prelude.{◌≡◌, ◌+◌, ◌*◌, ◌≤◌, length};
 ghost use Rattle.layout.specs.Lists.{joined};
 ghost use Rattle.layout.specs.Bytes.{bytes4, splice};
-ghost use Rattle.layout.specs.Geometry.{tableBlocks};
+ghost use Rattle.layout.specs.Geometry.{table_blocks};
 ghost use Rattle.layout.specs.Table.{next};
-ghost use Rattle.layout.specs.Walks.Chains.{entryIn};
-ghost use Rattle.chain_table.specs.Numbers.{entriesOf, stored};
-ghost use Rattle.chain_table.specs.Transfer.{tableRefusal, loadTable, storeTable};
+ghost use Rattle.layout.specs.Walks.Chains.{entry_in};
+ghost use Rattle.chain_table.specs.Numbers.{entries_of, stored};
+ghost use Rattle.chain_table.specs.Transfer.{table_refusal, load_table, store_table};
 
 // The number of the refusal, or 0.
 fn refusal(image: &[u8], count: usize) -> u32
-    ensures { result ≡ tableRefusal image.now count }
+    ensures { result ≡ table_refusal image.now count }
 {
     let number = layout::check::check(image);
     if number != 0 {
@@ -25,7 +25,7 @@ fn refusal(image: &[u8], count: usize) -> u32
 // Loads the first entries of a table block, as many as there are numbers.
 fn load_block(block: &[u8], numbers: &mut [u32])
     requires { 4 * length numbers.old ≤ length block.now }
-    ensures { numbers.new ≡ entriesOf (entryIn block.now) (length numbers.old) }
+    ensures { numbers.new ≡ entries_of (entry_in block.now) (length numbers.old) }
 {
     for j in 0..numbers.len() {
         let at = 4 * j;
@@ -35,8 +35,8 @@ fn load_block(block: &[u8], numbers: &mut [u32])
 
 // Loads as many entries as there are numbers, a table block at a time.
 fn load(image: &[u8], numbers: &mut [u32])
-    requires { 512 * tableBlocks (length numbers.old) + 512 ≤ length image.now }
-    ensures { numbers.new ≡ entriesOf (next image.now) (length numbers.old) }
+    requires { 512 * table_blocks (length numbers.old) + 512 ≤ length image.now }
+    ensures { numbers.new ≡ entries_of (next image.now) (length numbers.old) }
 {
     let n = numbers.len();
     let mut b = 0;
@@ -64,7 +64,7 @@ fn store_block(block: &mut [u8], numbers: &[u32])
 
 // Stores all numbers, a table block at a time.
 fn store(image: &mut [u8], numbers: &[u32])
-    requires { 512 * tableBlocks (length numbers.now) + 512 ≤ length image.old }
+    requires { 512 * table_blocks (length numbers.now) + 512 ≤ length image.old }
     ensures { image.new ≡ stored image.old numbers.now }
 {
     let n = numbers.len();
@@ -81,8 +81,8 @@ fn store(image: &mut [u8], numbers: &[u32])
 
 // Loads the table of an image of n blocks into n numbers, or gives the number of the refusal.
 pub fn load_table(image: &[u8], numbers: &mut [u32]) -> u32
-    ensures number { result ≡ (loadTable image.now numbers.old).number }
-    ensures numbers { numbers.new ≡ (loadTable image.now numbers.old).numbers }
+    ensures number { result ≡ (load_table image.now numbers.old).number }
+    ensures numbers { numbers.new ≡ (load_table image.now numbers.old).numbers }
 {
     let number = refusal(image, numbers.len());
     if number != 0 {
@@ -94,8 +94,8 @@ pub fn load_table(image: &[u8], numbers: &mut [u32]) -> u32
 
 // Stores n numbers as the table of an image of n blocks, or gives the number of the refusal.
 pub fn store_table(image: &mut [u8], numbers: &[u32]) -> u32
-    ensures number { result ≡ (storeTable image.old numbers.now).number }
-    ensures image { image.new ≡ (storeTable image.old numbers.now).image }
+    ensures number { result ≡ (store_table image.old numbers.now).number }
+    ensures image { image.new ≡ (store_table image.old numbers.now).image }
 {
     let number = refusal(image, numbers.len());
     if number != 0 {

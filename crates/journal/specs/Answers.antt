@@ -6,13 +6,13 @@ use Rattle.journal.specs.declared.calls.Undone.{Undone}
 use Rattle.journal.specs.declared.calls.Undone.TheVariants as undos
 use Rattle.journal.specs.Run.{Answer, changed, undone}
 
-abbrev pub changedAnswer : Changed → Answer
-changedAnswer (changes.Done slot size) = changed 0 slot size
-changedAnswer (changes.Refused number) = changed number 0 0
+abbrev pub changed_answer : Changed → Answer
+changed_answer (changes.Done slot size) = changed 0 slot size
+changed_answer (changes.Refused number) = changed number 0 0
 
-abbrev pub undoneAnswer : Undone → Answer
-undoneAnswer (undos.Done size) = undone 0 size
-undoneAnswer (undos.Refused number) = undone number 0
+abbrev pub undone_answer : Undone → Answer
+undone_answer (undos.Done size) = undone 0 size
+undone_answer (undos.Refused number) = undone number 0
 
 -- A refusal has a number: the refused case never holds 0.
 abbrev pub ChangeNumbered : Changed → Type 0

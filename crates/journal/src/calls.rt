@@ -1,10 +1,10 @@
 // The calls that are lent a journal. Each checks the image and scans the journal once.
 ghost use Rattle.std.specs.Prelude.{◌≡◌};
-ghost use Rattle.store.specs.Change.{create, write, delete, createDirectory, deleteDirectory, setAttributes, clearAttributes, clearFlags, shorten, replace, move, put_in, put};
-ghost use Rattle.store.specs.Asked.{askedIn, asked};
-ghost use Rattle.journal.specs.Run.{afterUndo, undoAnswer, afterChange, changeAnswer, state};
-ghost use Rattle.journal.specs.Walks.Changes.{Inspects, Ready, readyRefusal};
-ghost use Rattle.journal.specs.Answers.{changedAnswer, undoneAnswer, ChangeNumbered, UndoNumbered};
+ghost use Rattle.store.specs.Change.{create, write, delete, create_directory, delete_directory, set_attributes, clear_attributes, clear_flags, shorten, replace, move, put_in, put};
+ghost use Rattle.store.specs.Asked.{asked_in, asked};
+ghost use Rattle.journal.specs.Run.{after_undo, undo_answer, after_change, change_answer, state};
+ghost use Rattle.journal.specs.Walks.Changes.{Inspects, Ready, ready_refusal};
+ghost use Rattle.journal.specs.Answers.{changed_answer, undone_answer, ChangeNumbered, UndoNumbered};
 
 use store::change::Change;
 use volume::change::Change as VolumeChange;
@@ -57,15 +57,15 @@ fn inspect(image: &[u8], journal: &[u8]) -> Inspected
 
 // The refusal, 1 to 8, or 0.
 pub fn ready_refusal(image: &[u8], journal: &[u8]) -> u32
-    ensures { result ≡ readyRefusal (state image.now journal.now) }
+    ensures { result ≡ ready_refusal (state image.now journal.now) }
 {
     inspect(image, journal).number
 }
 
 // Undo: takes the last record back.
 pub fn undo(image: &mut [u8], journal: &mut [u8]) -> Undone
-    ensures answer { undoneAnswer result ≡ undoAnswer (state image.old journal.old) }
-    ensures state { state image.new journal.new ≡ afterUndo (state image.old journal.old) }
+    ensures answer { undone_answer result ≡ undo_answer (state image.old journal.old) }
+    ensures state { state image.new journal.new ≡ after_undo (state image.old journal.old) }
     ensures numbered { UndoNumbered result }
 {
     let found = inspect(image, journal);
@@ -92,8 +92,8 @@ fn change_ready_in(
     bytes: &[u8],
 ) -> Changed
     requires { Ready image.old journal.old }
-    ensures answer { changedAnswer result ≡ changeAnswer (state image.old journal.old) (askedIn what directory.now path.now bytes.now) }
-    ensures state { state image.new journal.new ≡ afterChange (state image.old journal.old) (askedIn what directory.now path.now bytes.now) }
+    ensures answer { changed_answer result ≡ change_answer (state image.old journal.old) (asked_in what directory.now path.now bytes.now) }
+    ensures state { state image.new journal.new ≡ after_change (state image.old journal.old) (asked_in what directory.now path.now bytes.now) }
     ensures numbered { ChangeNumbered result }
 {
     let found = store::change::refusal(image, what, directory, path, bytes);
@@ -121,8 +121,8 @@ fn change_in(
     path: &[u8],
     bytes: &[u8],
 ) -> Changed
-    ensures answer { changedAnswer result ≡ changeAnswer (state image.old journal.old) (askedIn what directory.now path.now bytes.now) }
-    ensures state { state image.new journal.new ≡ afterChange (state image.old journal.old) (askedIn what directory.now path.now bytes.now) }
+    ensures answer { changed_answer result ≡ change_answer (state image.old journal.old) (asked_in what directory.now path.now bytes.now) }
+    ensures state { state image.new journal.new ≡ after_change (state image.old journal.old) (asked_in what directory.now path.now bytes.now) }
     ensures numbered { ChangeNumbered result }
 {
     let unready = ready_refusal(image, journal);
@@ -141,8 +141,8 @@ pub fn change_ready(
     bytes: &[u8],
 ) -> Changed
     requires { Ready image.old journal.old }
-    ensures answer { changedAnswer result ≡ changeAnswer (state image.old journal.old) (asked what path.now bytes.now) }
-    ensures state { state image.new journal.new ≡ afterChange (state image.old journal.old) (asked what path.now bytes.now) }
+    ensures answer { changed_answer result ≡ change_answer (state image.old journal.old) (asked what path.now bytes.now) }
+    ensures state { state image.new journal.new ≡ after_change (state image.old journal.old) (asked what path.now bytes.now) }
     ensures numbered { ChangeNumbered result }
 {
     change_ready_in(image, journal, what, b"/", path, bytes)
@@ -156,8 +156,8 @@ pub fn change(
     path: &[u8],
     bytes: &[u8],
 ) -> Changed
-    ensures answer { changedAnswer result ≡ changeAnswer (state image.old journal.old) (asked what path.now bytes.now) }
-    ensures state { state image.new journal.new ≡ afterChange (state image.old journal.old) (asked what path.now bytes.now) }
+    ensures answer { changed_answer result ≡ change_answer (state image.old journal.old) (asked what path.now bytes.now) }
+    ensures state { state image.new journal.new ≡ after_change (state image.old journal.old) (asked what path.now bytes.now) }
     ensures numbered { ChangeNumbered result }
 {
     change_in(image, journal, what, b"/", path, bytes)
@@ -175,8 +175,8 @@ pub fn create(
     flags: u32,
     time: u64,
 ) -> Changed
-    ensures answer { changedAnswer result ≡ changeAnswer (state image.old journal.old) (create path.now kind user group permissions flags time) }
-    ensures state { state image.new journal.new ≡ afterChange (state image.old journal.old) (create path.now kind user group permissions flags time) }
+    ensures answer { changed_answer result ≡ change_answer (state image.old journal.old) (create path.now kind user group permissions flags time) }
+    ensures state { state image.new journal.new ≡ after_change (state image.old journal.old) (create path.now kind user group permissions flags time) }
     ensures numbered { ChangeNumbered result }
 {
     let given = Given {
@@ -200,8 +200,8 @@ pub fn write(
     bytes: &[u8],
     time: u64,
 ) -> Changed
-    ensures answer { changedAnswer result ≡ changeAnswer (state image.old journal.old) (write path.now offset bytes.now time) }
-    ensures state { state image.new journal.new ≡ afterChange (state image.old journal.old) (write path.now offset bytes.now time) }
+    ensures answer { changed_answer result ≡ change_answer (state image.old journal.old) (write path.now offset bytes.now time) }
+    ensures state { state image.new journal.new ≡ after_change (state image.old journal.old) (write path.now offset bytes.now time) }
     ensures numbered { ChangeNumbered result }
 {
     let what = VolumeChange::Write {
@@ -213,8 +213,8 @@ pub fn write(
 
 // Delete: frees a file's blocks and its slot.
 pub fn delete(image: &mut [u8], journal: &mut [u8], path: &[u8]) -> Changed
-    ensures answer { changedAnswer result ≡ changeAnswer (state image.old journal.old) (delete path.now) }
-    ensures state { state image.new journal.new ≡ afterChange (state image.old journal.old) (delete path.now) }
+    ensures answer { changed_answer result ≡ change_answer (state image.old journal.old) (delete path.now) }
+    ensures state { state image.new journal.new ≡ after_change (state image.old journal.old) (delete path.now) }
     ensures numbered { ChangeNumbered result }
 {
     change(
@@ -239,8 +239,8 @@ pub fn create_directory(
     blocks: u32,
     time: u64,
 ) -> Changed
-    ensures answer { changedAnswer result ≡ changeAnswer (state image.old journal.old) (createDirectory path.now kind user group permissions flags time blocks) }
-    ensures state { state image.new journal.new ≡ afterChange (state image.old journal.old) (createDirectory path.now kind user group permissions flags time blocks) }
+    ensures answer { changed_answer result ≡ change_answer (state image.old journal.old) (create_directory path.now kind user group permissions flags time blocks) }
+    ensures state { state image.new journal.new ≡ after_change (state image.old journal.old) (create_directory path.now kind user group permissions flags time blocks) }
     ensures numbered { ChangeNumbered result }
 {
     let given = Given {
@@ -260,8 +260,8 @@ pub fn create_directory(
 
 // Delete directory: frees an empty directory's blocks and its slot.
 pub fn delete_directory(image: &mut [u8], journal: &mut [u8], path: &[u8]) -> Changed
-    ensures answer { changedAnswer result ≡ changeAnswer (state image.old journal.old) (deleteDirectory path.now) }
-    ensures state { state image.new journal.new ≡ afterChange (state image.old journal.old) (deleteDirectory path.now) }
+    ensures answer { changed_answer result ≡ change_answer (state image.old journal.old) (delete_directory path.now) }
+    ensures state { state image.new journal.new ≡ after_change (state image.old journal.old) (delete_directory path.now) }
     ensures numbered { ChangeNumbered result }
 {
     change(
@@ -275,8 +275,8 @@ pub fn delete_directory(image: &mut [u8], journal: &mut [u8], path: &[u8]) -> Ch
 
 // Set attributes: puts whole blocks of data beside a file, in place of those that it has.
 pub fn set_attributes(image: &mut [u8], journal: &mut [u8], path: &[u8], bytes: &[u8]) -> Changed
-    ensures answer { changedAnswer result ≡ changeAnswer (state image.old journal.old) (setAttributes path.now bytes.now) }
-    ensures state { state image.new journal.new ≡ afterChange (state image.old journal.old) (setAttributes path.now bytes.now) }
+    ensures answer { changed_answer result ≡ change_answer (state image.old journal.old) (set_attributes path.now bytes.now) }
+    ensures state { state image.new journal.new ≡ after_change (state image.old journal.old) (set_attributes path.now bytes.now) }
     ensures numbered { ChangeNumbered result }
 {
     change(
@@ -290,8 +290,8 @@ pub fn set_attributes(image: &mut [u8], journal: &mut [u8], path: &[u8], bytes: 
 
 // Clear attributes: frees the blocks of a file's attributes.
 pub fn clear_attributes(image: &mut [u8], journal: &mut [u8], path: &[u8]) -> Changed
-    ensures answer { changedAnswer result ≡ changeAnswer (state image.old journal.old) (clearAttributes path.now) }
-    ensures state { state image.new journal.new ≡ afterChange (state image.old journal.old) (clearAttributes path.now) }
+    ensures answer { changed_answer result ≡ change_answer (state image.old journal.old) (clear_attributes path.now) }
+    ensures state { state image.new journal.new ≡ after_change (state image.old journal.old) (clear_attributes path.now) }
     ensures numbered { ChangeNumbered result }
 {
     change(
@@ -305,8 +305,8 @@ pub fn clear_attributes(image: &mut [u8], journal: &mut [u8], path: &[u8]) -> Ch
 
 // Clear flags: sets a file's system flags to 0.
 pub fn clear_flags(image: &mut [u8], journal: &mut [u8], path: &[u8]) -> Changed
-    ensures answer { changedAnswer result ≡ changeAnswer (state image.old journal.old) (clearFlags path.now) }
-    ensures state { state image.new journal.new ≡ afterChange (state image.old journal.old) (clearFlags path.now) }
+    ensures answer { changed_answer result ≡ change_answer (state image.old journal.old) (clear_flags path.now) }
+    ensures state { state image.new journal.new ≡ after_change (state image.old journal.old) (clear_flags path.now) }
     ensures numbered { ChangeNumbered result }
 {
     change(
@@ -320,8 +320,8 @@ pub fn clear_flags(image: &mut [u8], journal: &mut [u8], path: &[u8]) -> Changed
 
 // Shorten: a file keeps its first bytes.
 pub fn shorten(image: &mut [u8], journal: &mut [u8], path: &[u8], size: usize, time: u64) -> Changed
-    ensures answer { changedAnswer result ≡ changeAnswer (state image.old journal.old) (shorten path.now size time) }
-    ensures state { state image.new journal.new ≡ afterChange (state image.old journal.old) (shorten path.now size time) }
+    ensures answer { changed_answer result ≡ change_answer (state image.old journal.old) (shorten path.now size time) }
+    ensures state { state image.new journal.new ≡ after_change (state image.old journal.old) (shorten path.now size time) }
     ensures numbered { ChangeNumbered result }
 {
     let what = VolumeChange::Shorten {
@@ -339,8 +339,8 @@ pub fn replace(
     bytes: &[u8],
     time: u64,
 ) -> Changed
-    ensures answer { changedAnswer result ≡ changeAnswer (state image.old journal.old) (replace path.now bytes.now time) }
-    ensures state { state image.new journal.new ≡ afterChange (state image.old journal.old) (replace path.now bytes.now time) }
+    ensures answer { changed_answer result ≡ change_answer (state image.old journal.old) (replace path.now bytes.now time) }
+    ensures state { state image.new journal.new ≡ after_change (state image.old journal.old) (replace path.now bytes.now time) }
     ensures numbered { ChangeNumbered result }
 {
     let what = VolumeChange::Replace { time: time };
@@ -349,8 +349,8 @@ pub fn replace(
 
 // Move: the file of a path is then the file of another path.
 pub fn move_file(image: &mut [u8], journal: &mut [u8], path: &[u8], to: &[u8]) -> Changed
-    ensures answer { changedAnswer result ≡ changeAnswer (state image.old journal.old) (move path.now to.now) }
-    ensures state { state image.new journal.new ≡ afterChange (state image.old journal.old) (move path.now to.now) }
+    ensures answer { changed_answer result ≡ change_answer (state image.old journal.old) (move path.now to.now) }
+    ensures state { state image.new journal.new ≡ after_change (state image.old journal.old) (move path.now to.now) }
     ensures numbered { ChangeNumbered result }
 {
     change(image, journal, Change::Volume(VolumeChange::Move), path, to)
@@ -365,8 +365,8 @@ pub fn put_settings_in(
     bytes: &[u8],
     time: u64,
 ) -> Changed
-    ensures answer { changedAnswer result ≡ changeAnswer (state image.old journal.old) (put_in directory.now serial.now time bytes.now) }
-    ensures state { state image.new journal.new ≡ afterChange (state image.old journal.old) (put_in directory.now serial.now time bytes.now) }
+    ensures answer { changed_answer result ≡ change_answer (state image.old journal.old) (put_in directory.now serial.now time bytes.now) }
+    ensures state { state image.new journal.new ≡ after_change (state image.old journal.old) (put_in directory.now serial.now time bytes.now) }
     ensures numbered { ChangeNumbered result }
 {
     change_in(
@@ -387,8 +387,8 @@ pub fn put_settings(
     bytes: &[u8],
     time: u64,
 ) -> Changed
-    ensures answer { changedAnswer result ≡ changeAnswer (state image.old journal.old) (put serial.now time bytes.now) }
-    ensures state { state image.new journal.new ≡ afterChange (state image.old journal.old) (put serial.now time bytes.now) }
+    ensures answer { changed_answer result ≡ change_answer (state image.old journal.old) (put serial.now time bytes.now) }
+    ensures state { state image.new journal.new ≡ after_change (state image.old journal.old) (put serial.now time bytes.now) }
     ensures numbered { ChangeNumbered result }
 {
     change(image, journal, Change::Put { time: time }, serial, bytes)

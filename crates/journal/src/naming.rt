@@ -1,12 +1,12 @@
 // Recording a change before it is made: its named blocks are marked, and their bytes saved. What it is about was found.
 ghost use Rattle.std.specs.Prelude.{◌≡◌, ◌≤◌, length};
-ghost use Rattle.layout.specs.Limits.{smallBlocks};
+ghost use Rattle.layout.specs.Limits.{small_blocks};
 ghost use Rattle.layout.specs.Bytes.{zeros};
-ghost use Rattle.layout.specs.Geometry.{blockCount};
+ghost use Rattle.layout.specs.Geometry.{block_count};
 ghost use Rattle.store.specs.Change.{refusal};
-ghost use Rattle.store.specs.Asked.{askedIn};
+ghost use Rattle.store.specs.Asked.{asked_in};
 ghost use Rattle.store.specs.Walks.Targets.{Target};
-ghost use Rattle.journal.specs.Run.{recordOf, state};
+ghost use Rattle.journal.specs.Run.{record_of, state};
 ghost use Rattle.journal.specs.Walks.Changes.{Ready, Recorded};
 
 use super::recording::record_marked;
@@ -25,8 +25,8 @@ fn record_with(
     found: File,
     marks: &mut [u8],
 ) -> u32
-    requires { (Ready image.now journal.old) × (refusal image.now (askedIn what directory.now name.now bytes.now) ≡ 0) × (Target image.now (askedIn what directory.now name.now bytes.now) found.slot found.block found.first found.size found.blocks) × (blockCount image.now ≤ length marks.old) × (marks.old ≡ zeros (length marks.old)) }
-    ensures { Recorded journal.old (recordOf (state image.now journal.old) (askedIn what directory.now name.now bytes.now)) result journal.new }
+    requires { (Ready image.now journal.old) × (refusal image.now (asked_in what directory.now name.now bytes.now) ≡ 0) × (Target image.now (asked_in what directory.now name.now bytes.now) found.slot found.block found.first found.size found.blocks) × (block_count image.now ≤ length marks.old) × (marks.old ≡ zeros (length marks.old)) }
+    ensures { Recorded journal.old (record_of (state image.now journal.old) (asked_in what directory.now name.now bytes.now)) result journal.new }
 {
     store::change::mark_named(image, what, directory, name, bytes, found, marks);
     record_marked(image, journal, marks)
@@ -42,8 +42,8 @@ fn record_small(
     bytes: &[u8],
     found: File,
 ) -> u32
-    requires { (Ready image.now journal.old) × (refusal image.now (askedIn what directory.now name.now bytes.now) ≡ 0) × (Target image.now (askedIn what directory.now name.now bytes.now) found.slot found.block found.first found.size found.blocks) × (blockCount image.now ≤ smallBlocks) }
-    ensures { Recorded journal.old (recordOf (state image.now journal.old) (askedIn what directory.now name.now bytes.now)) result journal.new }
+    requires { (Ready image.now journal.old) × (refusal image.now (asked_in what directory.now name.now bytes.now) ≡ 0) × (Target image.now (asked_in what directory.now name.now bytes.now) found.slot found.block found.first found.size found.blocks) × (block_count image.now ≤ small_blocks) }
+    ensures { Recorded journal.old (record_of (state image.now journal.old) (asked_in what directory.now name.now bytes.now)) result journal.new }
 {
     let mut marks = layout::table::few_marks();
     record_with(
@@ -61,8 +61,8 @@ fn record_large(
     bytes: &[u8],
     found: File,
 ) -> u32
-    requires { (Ready image.now journal.old) × (refusal image.now (askedIn what directory.now name.now bytes.now) ≡ 0) × (Target image.now (askedIn what directory.now name.now bytes.now) found.slot found.block found.first found.size found.blocks) }
-    ensures { Recorded journal.old (recordOf (state image.now journal.old) (askedIn what directory.now name.now bytes.now)) result journal.new }
+    requires { (Ready image.now journal.old) × (refusal image.now (asked_in what directory.now name.now bytes.now) ≡ 0) × (Target image.now (asked_in what directory.now name.now bytes.now) found.slot found.block found.first found.size found.blocks) }
+    ensures { Recorded journal.old (record_of (state image.now journal.old) (asked_in what directory.now name.now bytes.now)) result journal.new }
 {
     let mut marks = layout::table::no_marks();
     record_with(
@@ -79,8 +79,8 @@ pub fn record_change(
     bytes: &[u8],
     found: File,
 ) -> u32
-    requires { (Ready image.now journal.old) × (refusal image.now (askedIn what directory.now name.now bytes.now) ≡ 0) × (Target image.now (askedIn what directory.now name.now bytes.now) found.slot found.block found.first found.size found.blocks) }
-    ensures { Recorded journal.old (recordOf (state image.now journal.old) (askedIn what directory.now name.now bytes.now)) result journal.new }
+    requires { (Ready image.now journal.old) × (refusal image.now (asked_in what directory.now name.now bytes.now) ≡ 0) × (Target image.now (asked_in what directory.now name.now bytes.now) found.slot found.block found.first found.size found.blocks) }
+    ensures { Recorded journal.old (record_of (state image.now journal.old) (asked_in what directory.now name.now bytes.now)) result journal.new }
 {
     if image.len() / 512 <= SMALL_BLOCKS {
         return record_small(image, journal, what, directory, name, bytes, found);

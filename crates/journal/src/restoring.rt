@@ -1,9 +1,9 @@
 // Putting a record's bytes back, and taking the record back.
 ghost use Rattle.std.specs.Prelude.{◌≡◌, ◌+◌, ◌*◌, ◌≤◌, length};
-ghost use Rattle.layout.specs.Limits.{maxJournal};
+ghost use Rattle.layout.specs.Limits.{max_journal};
 ghost use Rattle.layout.specs.Lists.{interval};
 ghost use Rattle.layout.specs.Bytes.{be32, bytes4, zeros, splice};
-ghost use Rattle.journal.specs.Journal.{restored, undoneImage, undoneJournal, lastRecord};
+ghost use Rattle.journal.specs.Journal.{restored, undone_image, undone_journal, last_record};
 ghost use Rattle.journal.specs.Walks.Undoing.{Saved, Last};
 
 // Puts back the bytes of the k blocks of the record at `at`, all below n.
@@ -23,7 +23,7 @@ fn restore(image: &mut [u8], journal: &[u8], n: usize, at: usize, k: usize)
 
 // Zeroes the last record, which has `size` bytes, and lowers the used length to where it began.
 fn drop_record(journal: &mut [u8], at: usize, size: usize)
-    requires { (5 ≤ length journal.old) × (at + size ≤ length journal.old) × (length journal.old ≤ maxJournal) }
+    requires { (5 ≤ length journal.old) × (at + size ≤ length journal.old) × (length journal.old ≤ max_journal) }
     ensures { journal.new ≡ splice (splice journal.old at (zeros size)) 1 (bytes4 at) }
 {
     let e = at + size;
@@ -34,9 +34,9 @@ fn drop_record(journal: &mut [u8], at: usize, size: usize)
 // Takes the last record back, which begins at `at`: its bytes go into the image. Gives its length.
 pub fn take_back(image: &mut [u8], journal: &mut [u8], at: usize) -> u32
     requires { Last image.old journal.old at }
-    ensures size { result ≡ be32 journal.old (lastRecord journal.old) }
-    ensures image { image.new ≡ undoneImage image.old journal.old }
-    ensures journal { journal.new ≡ undoneJournal journal.old }
+    ensures size { result ≡ be32 journal.old (last_record journal.old) }
+    ensures image { image.new ≡ undone_image image.old journal.old }
+    ensures journal { journal.new ≡ undone_journal journal.old }
 {
     let n = image.len() / 512;
     let size = layout::number::get32(journal, at);

@@ -1,9 +1,9 @@
 // Whether a journal is well formed, and where its last record begins.
 ghost use Rattle.std.specs.Prelude.{◌≡◌, ◌+◌, ◌*◌, ◌≤◌, ◌<◌, length};
-ghost use Rattle.layout.specs.Limits.{maxBlocks};
+ghost use Rattle.layout.specs.Limits.{max_blocks};
 ghost use Rattle.layout.specs.Lists.{every};
-ghost use Rattle.journal.specs.Journal.{recordOk, records, wellFormed};
-ghost use Rattle.journal.specs.Walks.Scanning.{Headed, Scans, headOk, blocksRise};
+ghost use Rattle.journal.specs.Journal.{record_ok, records, well_formed};
+ghost use Rattle.journal.specs.Walks.Scanning.{Headed, Scans, head_ok, blocks_rise};
 
 use layout::limits::{MAX_JOURNAL, MIN_JOURNAL};
 
@@ -16,8 +16,8 @@ pub struct Scanned {
 
 // Whether the numbers of the k blocks of the record at `at` rise strictly and are below n.
 fn blocks_rise(journal: &[u8], n: usize, at: usize, k: usize) -> bool
-    requires { (at + 4 + 516 * k ≤ length journal.now) × (n ≤ maxBlocks) }
-    ensures { result ≡ blocksRise journal.now n at 0 0 k }
+    requires { (at + 4 + 516 * k ≤ length journal.now) × (n ≤ max_blocks) }
+    ensures { result ≡ blocks_rise journal.now n at 0 0 k }
 {
     let mut low = 0;
     for i in 0..k {
@@ -36,7 +36,7 @@ fn blocks_rise(journal: &[u8], n: usize, at: usize, k: usize) -> bool
 // Whether a right record stands at `at`; the shortest has 520 bytes.
 fn record_ok(journal: &[u8], used: usize, n: usize, at: usize) -> bool
     requires { (Headed journal.now used n) × (at ≤ used) }
-    ensures { result ≡ recordOk journal.now n at }
+    ensures { result ≡ record_ok journal.now n at }
 {
     if used < at + 520 {
         return false;
@@ -58,7 +58,7 @@ fn record_ok(journal: &[u8], used: usize, n: usize, at: usize) -> bool
 // Goes through the records up to the used length.
 fn scan_records(journal: &[u8], used: usize, n: usize) -> Scanned
     requires { Headed journal.now used n }
-    ensures { Scans journal.now (every (recordOk journal.now n) (records journal.now)) result.ok result.last }
+    ensures { Scans journal.now (every (record_ok journal.now n) (records journal.now)) result.ok result.last }
 {
     let mut last = 0;
     let mut at = 5;
@@ -77,7 +77,7 @@ fn scan_records(journal: &[u8], used: usize, n: usize) -> Scanned
 
 // Whether length, version and used length are right.
 fn head_ok(journal: &[u8]) -> bool
-    ensures { result ≡ headOk journal.now }
+    ensures { result ≡ head_ok journal.now }
 {
     if journal.len() < MIN_JOURNAL {
         return false;
@@ -97,8 +97,8 @@ fn head_ok(journal: &[u8]) -> bool
 
 // The scan of a journal that is lent with an image of n blocks.
 pub fn scan(journal: &[u8], n: usize) -> Scanned
-    requires { n ≤ maxBlocks }
-    ensures { Scans journal.now (wellFormed journal.now n) result.ok result.last }
+    requires { n ≤ max_blocks }
+    ensures { Scans journal.now (well_formed journal.now n) result.ok result.last }
 {
     if !head_ok(journal) {
         return Scanned { ok: false, last: 0 };

@@ -1,13 +1,13 @@
 // Starting a journal.
 ghost use Rattle.std.specs.Prelude.{◌≡◌};
-ghost use Rattle.journal.specs.Journal.{startRefusal, afterStart};
+ghost use Rattle.journal.specs.Journal.{start_refusal, after_start};
 
 use layout::limits::{MAX_JOURNAL, MIN_JOURNAL};
 
 // Zeroes a journal and writes its version and used length; 8 if its length is out of range.
 pub fn start(journal: &mut [u8]) -> u32
-    ensures number { result ≡ startRefusal journal.old }
-    ensures bytes { journal.new ≡ afterStart journal.old }
+    ensures number { result ≡ start_refusal journal.old }
+    ensures bytes { journal.new ≡ after_start journal.old }
 {
     if journal.len() < MIN_JOURNAL {
         return 8;

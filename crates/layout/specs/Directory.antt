@@ -3,8 +3,8 @@
 use Rattle.std.specs.Prelude.{ℕ, zero, suc, ◌+◌, ◌-◌, ◌*◌, ◌/◌, ◌%◌, List, [], ◌∷◌, ◌++◌, map, Bool, not, ◌&&◌, length, get_or, take, eqb}
 use Rattle.layout.specs.Lists.{within, interval, every, select, lowest, same, joined}
 use Rattle.layout.specs.Bytes.{be32, part, block, zeros}
-use Rattle.layout.specs.Limits.{maxName, maxLevels}
-use Rattle.layout.specs.Geometry.{blockCount, rootBlock}
+use Rattle.layout.specs.Limits.{max_name, max_levels}
+use Rattle.layout.specs.Geometry.{block_count, root_block}
 use Rattle.layout.specs.Table.{next, chain}
 
 -- "Slots are counted along the root chain, four in a block." Slot 0 is the self entry, slot 4d−1 the end.
@@ -19,52 +19,52 @@ slots ds = interval 1 (4 * length ds - 2)
 abbrev pub type_of : List ℕ → ℕ → ℕ
 type_of s e = get_or s e 0
 
-abbrev pub firstBlock : List ℕ → ℕ → ℕ
-firstBlock s e = be32 s (e + 4)
+abbrev pub first_block : List ℕ → ℕ → ℕ
+first_block s e = be32 s (e + 4)
 
 abbrev pub size_of : List ℕ → ℕ → ℕ
 size_of s e = be32 s (e + 8)
 
-abbrev pub blocksOf : List ℕ → ℕ → ℕ
-blocksOf s e = be32 s (e + 12)
+abbrev pub blocks_of : List ℕ → ℕ → ℕ
+blocks_of s e = be32 s (e + 12)
 
 -- L6: "Attribute block and attribute size (in blocks) may now name a second chain for a file"
-abbrev pub attributeBlock : List ℕ → ℕ → ℕ
-attributeBlock s e = be32 s (e + 32)
+abbrev pub attribute_block_of : List ℕ → ℕ → ℕ
+attribute_block_of s e = be32 s (e + 32)
 
-abbrev pub attributeSize : List ℕ → ℕ → ℕ
-attributeSize s e = be32 s (e + 36)
+abbrev pub attribute_size_of : List ℕ → ℕ → ℕ
+attribute_size_of s e = be32 s (e + 36)
 
 -- "The self entry has block_self at 4, block_parent at 8, size_blocks at 12."
-abbrev pub selfOf : List ℕ → ℕ → ℕ
-selfOf s e = be32 s (e + 4)
+abbrev pub self_of : List ℕ → ℕ → ℕ
+self_of s e = be32 s (e + 4)
 
 abbrev pub parent_of : List ℕ → ℕ → ℕ
 parent_of s e = be32 s (e + 8)
 
 -- "Types: 0x00 free slot, 0x01 self, 0x60 to 0x9F file, 0xFF end."
-abbrev pub isFree : ℕ → Bool
-isFree type = eqb type 0
+abbrev pub is_free : ℕ → Bool
+is_free type = eqb type 0
 
-abbrev pub isFile : ℕ → Bool
-isFile type = within 0x60 0x9F type
+abbrev pub is_file : ℕ → Bool
+is_file type = within 0x60 0x9F type
 
-abbrev pub isUsed : ℕ → Bool
-isUsed type = not (isFree type)
+abbrev pub is_used : ℕ → Bool
+is_used type = not (is_free type)
 
 -- "Child directories (types 0x20 to 0x5F) join"
-abbrev pub isDirectory : ℕ → Bool
-isDirectory type = within 0x20 0x5F type
+abbrev pub is_directory : ℕ → Bool
+is_directory type = within 0x20 0x5F type
 
 -- "A name is 1 to 80 non-zero bytes, zeros after it if any room is left"; "The byte `/` is no longer part of a name" (FORMAT.md, 3.4)
 abbrev pub slash : ℕ
 slash = 0x2F
 
-abbrev pub nameByte : ℕ → Bool
-nameByte x = not (eqb x 0) && not (eqb x slash)
+abbrev pub name_byte : ℕ → Bool
+name_byte x = not (eqb x 0) && not (eqb x slash)
 
-unfoldable pub goodName : List ℕ → Bool
-goodName name = within 1 maxName (length name) && every nameByte name
+unfoldable pub good_name : List ℕ → Bool
+good_name name = within 1 max_name (length name) && every name_byte name
 
 -- the bytes before the first zero, and a name with its zeros
 abbrev pub unpadded : List ℕ → List ℕ
@@ -79,56 +79,56 @@ padded name = name ++ zeros (80 - length name)
 unfoldable pub name_of : List ℕ → ℕ → List ℕ
 name_of s e = unpadded (part s (e + 48) 80)
 
-unfoldable pub nameOk : List ℕ → ℕ → Bool
-nameOk s e = goodName (name_of s e) && same (part s (e + 48) 80) (padded (name_of s e))
+unfoldable pub name_ok : List ℕ → ℕ → Bool
+name_ok s e = good_name (name_of s e) && same (part s (e + 48) 80) (padded (name_of s e))
 
 -- the slots that hold files; the slot of a name, among those whose type passes, or 0; the lowest free slot, or 0
 unfoldable pub files : List ℕ → List ℕ → List ℕ
-files s ds = select (λ k. isFile (type_of s (slot_at ds k))) (slots ds)
+files s ds = select (λ k. is_file (type_of s (slot_at ds k))) (slots ds)
 
 unfoldable pub slot_of : (ℕ → Bool) → List ℕ → List ℕ → List ℕ → ℕ
 slot_of type s ds name = lowest (λ k. type (type_of s (slot_at ds k)) && same (name_of s (slot_at ds k)) name) (slots ds)
 
-unfoldable pub freeSlot : List ℕ → List ℕ → ℕ
-freeSlot s ds = lowest (λ k. isFree (type_of s (slot_at ds k))) (slots ds)
+unfoldable pub free_slot : List ℕ → List ℕ → ℕ
+free_slot s ds = lowest (λ k. is_free (type_of s (slot_at ds k))) (slots ds)
 
 -- the blocks of the directory that begins at block b, as many as its self entry counts
 unfoldable pub directory : List ℕ → ℕ → List ℕ
-directory s b = chain (next s) b (blocksOf s (512 * b))
+directory s b = chain (next s) b (blocks_of s (512 * b))
 
 -- "only when empty": every slot between the self entry and the end is free
 unfoldable pub is_empty : List ℕ → ℕ → Bool
-is_empty s b = let ds = directory s b in every (λ k. isFree (type_of s (slot_at ds k))) (slots ds)
+is_empty s b = let ds = directory s b in every (λ k. is_free (type_of s (slot_at ds k))) (slots ds)
 
 -- where the root begins, and its blocks
-abbrev pub rootOf : List ℕ → ℕ
-rootOf s = rootBlock (blockCount s)
+abbrev pub root_of : List ℕ → ℕ
+root_of s = root_block (block_count s)
 
 abbrev pub root : List ℕ → List ℕ
-root s = directory s (rootOf s)
+root s = directory s (root_of s)
 
 -- THE TREE. The entries of the child directories of a directory, in slot order; a directory and all below it, each before those below it, as its
 -- first block and the number of levels that may come below it; all of them, from the root on.
 unfoldable pub children : List ℕ → ℕ → List ℕ
-children s b = let ds = directory s b in map (slot_at ds) (select (λ k. isDirectory (type_of s (slot_at ds k))) (slots ds))
+children s b = let ds = directory s b in map (slot_at ds) (select (λ k. is_directory (type_of s (slot_at ds k))) (slots ds))
 
 unfoldable pub below : List ℕ → ℕ → ℕ → List (ℕ × ℕ)
 below s zero b = (b, zero) ∷ []
-below s (suc left) b = (b, suc left) ∷ joined (λ e. below s left (firstBlock s e)) (children s b)
+below s (suc left) b = (b, suc left) ∷ joined (λ e. below s left (first_block s e)) (children s b)
 
 unfoldable pub dirs : List ℕ → List (ℕ × ℕ)
-dirs s = below s maxLevels (rootOf s)
+dirs s = below s max_levels (root_of s)
 
 -- a file's blocks; "A file's bytes are its chain's blocks in chain order, cut at its size."
-unfoldable pub fileBlocks : List ℕ → ℕ → List ℕ
-fileBlocks s e = chain (next s) (firstBlock s e) (blocksOf s e)
+unfoldable pub file_blocks : List ℕ → ℕ → List ℕ
+file_blocks s e = chain (next s) (first_block s e) (blocks_of s e)
 
 unfoldable pub content : List ℕ → ℕ → List ℕ
-content s e = take (size_of s e) (joined (block s) (fileBlocks s e))
+content s e = take (size_of s e) (joined (block s) (file_blocks s e))
 
 -- L6: the blocks of its second chain, and the bytes that they hold
-unfoldable pub attributeBlocks : List ℕ → ℕ → List ℕ
-attributeBlocks s e = chain (next s) (attributeBlock s e) (attributeSize s e)
+unfoldable pub attribute_blocks : List ℕ → ℕ → List ℕ
+attribute_blocks s e = chain (next s) (attribute_block_of s e) (attribute_size_of s e)
 
 unfoldable pub attributes : List ℕ → ℕ → List ℕ
-attributes s e = joined (block s) (attributeBlocks s e)
+attributes s e = joined (block s) (attribute_blocks s e)

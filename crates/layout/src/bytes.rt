@@ -2,8 +2,8 @@
 ghost use Rattle.std.specs.Prelude.{◌+◌, ◌*◌, ◌≤◌, ◌<◌, max, true, cond, ◌≡◌, length, get_or, replicate, eqb};
 ghost use Rattle.layout.specs.Lists.{same};
 ghost use Rattle.layout.specs.Bytes.{part, block, splice};
-ghost use Rattle.layout.specs.Directory.{unpadded, goodName};
-ghost use Rattle.layout.specs.Walks.Entries.{allZero, fieldOk};
+ghost use Rattle.layout.specs.Directory.{unpadded, good_name};
+ghost use Rattle.layout.specs.Walks.Entries.{all_zero, field_ok};
 
 use super::limits::{MAX_NAME, NAME_FIELD};
 
@@ -51,7 +51,7 @@ pub fn equal(a: &[u8], b: &[u8]) -> bool
 
 // Whether every byte is 0.
 pub fn all_zero(s: &[u8]) -> bool
-    ensures { result ≡ allZero s.now }
+    ensures { result ≡ all_zero s.now }
 {
     let mut worst = 0;
     for i in 0..s.len() {
@@ -63,7 +63,7 @@ pub fn all_zero(s: &[u8]) -> bool
 // Whether a field of 80 bytes holds a good name and zeros after it: as many bytes are not 0 as stand up to the last such, and none is `/`.
 pub fn name_ok(field: &[u8]) -> bool
     requires { length field.now ≡ 80 }
-    ensures { result ≡ fieldOk field.now }
+    ensures { result ≡ field_ok field.now }
 {
     let mut count = 0;
     let mut last = 0;
@@ -87,7 +87,7 @@ pub fn name_ok(field: &[u8]) -> bool
 
 // Whether a name has 1 to 80 bytes, none of them 0 or `/`.
 pub fn good_name(name: &[u8]) -> bool
-    ensures { result ≡ goodName name.now }
+    ensures { result ≡ good_name name.now }
 {
     if name.len() < 1 {
         return false;
@@ -118,7 +118,7 @@ fn ends_at(field: &[u8], i: usize) -> bool
 
 // Whether a field of 80 bytes holds a good name. It looks from the end, where names of one kind differ most.
 pub fn holds_name(field: &[u8], name: &[u8]) -> bool
-    requires { (length field.now ≡ 80) × (goodName name.now ≡ true) }
+    requires { (length field.now ≡ 80) × (good_name name.now ≡ true) }
     ensures { result ≡ same (unpadded field.now) name.now }
 {
     let mut i = name.len();

@@ -1,18 +1,18 @@
 // Stage 6: the chains of all directories and files. The directories are known by the marks of their blocks.
 ghost use Rattle.std.specs.Prelude.{◌+◌, ◌-◌, ◌*◌, ◌≤◌, ◌<◌, ◌≡◌, length, get_or};
 ghost use Rattle.layout.specs.Table.{next};
-ghost use Rattle.layout.specs.Directory.{firstBlock, blocksOf};
-ghost use Rattle.layout.specs.Walks.Chains.{walked, follow, countUsed, entryUsed, bit};
+ghost use Rattle.layout.specs.Directory.{first_block, blocks_of};
+ghost use Rattle.layout.specs.Walks.Chains.{walked, follow, count_used, entry_used, bit};
 ghost use Rattle.layout.specs.Walks.Shapes.{Room};
 ghost use Rattle.layout.specs.Walks.Slots.{entry_at};
-ghost use Rattle.layout.specs.Walks.Stages.{followFile, followSlot, followSlots, followBlocks, TableUsed};
+ghost use Rattle.layout.specs.Walks.Stages.{follow_file, follow_slot, follow_slots, follow_blocks, TableUsed};
 
 use super::directory::{number_at, type_at};
 
 // Follows the own chain of slot k, in block b, and marks its blocks.
 fn follow_own(image: &[u8], t: usize, n: usize, b: usize, k: usize, marks: &mut [u8]) -> bool
     requires { (Room image.now t n marks.old) × (b < n) }
-    ensures { walked result marks.new ≡ follow (next image.now) n (blocksOf image.now (entry_at b k)) (firstBlock image.now (entry_at b k)) marks.old }
+    ensures { walked result marks.new ≡ follow (next image.now) n (blocks_of image.now (entry_at b k)) (first_block image.now (entry_at b k)) marks.old }
 {
     let first = number_at(image, b, k, 4);
     let blocks = number_at(image, b, k, 12);
@@ -22,7 +22,7 @@ fn follow_own(image: &[u8], t: usize, n: usize, b: usize, k: usize, marks: &mut 
 // The same of a file, and then the chain of its attributes.
 fn follow_file(image: &[u8], t: usize, n: usize, b: usize, k: usize, marks: &mut [u8]) -> bool
     requires { (Room image.now t n marks.old) × (b < n) }
-    ensures { walked result marks.new ≡ followFile image.now n (entry_at b k) marks.old }
+    ensures { walked result marks.new ≡ follow_file image.now n (entry_at b k) marks.old }
 {
     if !follow_own(image, t, n, b, k, marks) {
         return false;
@@ -34,7 +34,7 @@ fn follow_file(image: &[u8], t: usize, n: usize, b: usize, k: usize, marks: &mut
 // Follows the chains that slot k, in block b, owns, and marks their blocks.
 fn follow_slot(image: &[u8], t: usize, n: usize, b: usize, k: usize, marks: &mut [u8]) -> bool
     requires { (Room image.now t n marks.old) × (b < n) }
-    ensures { walked result marks.new ≡ followSlot image.now n (entry_at b k) marks.old }
+    ensures { walked result marks.new ≡ follow_slot image.now n (entry_at b k) marks.old }
 {
     let ty = type_at(image, b, k);
     if super::directory::is_file(ty) {
@@ -49,7 +49,7 @@ fn follow_slot(image: &[u8], t: usize, n: usize, b: usize, k: usize, marks: &mut
 // Follows the chains of the four slots of block b.
 fn follow_block(image: &[u8], t: usize, n: usize, b: usize, marks: &mut [u8]) -> bool
     requires { (Room image.now t n marks.old) × (b < n) }
-    ensures { walked result marks.new ≡ followSlots image.now n b 0 4 marks.old }
+    ensures { walked result marks.new ≡ follow_slots image.now n b 0 4 marks.old }
 {
     let mut k: usize = 0;
     let mut left: usize = 4;
@@ -66,7 +66,7 @@ fn follow_block(image: &[u8], t: usize, n: usize, b: usize, marks: &mut [u8]) ->
 // The same, if the block is marked in dirs.
 fn follow_marked(image: &[u8], t: usize, n: usize, dirs: &[u8], b: usize, marks: &mut [u8]) -> bool
     requires { (Room image.now t n marks.old) × (b < n) × (n ≤ length dirs.now) }
-    ensures { walked result marks.new ≡ followBlocks image.now n dirs.now b 1 marks.old }
+    ensures { walked result marks.new ≡ follow_blocks image.now n dirs.now b 1 marks.old }
 {
     if dirs[b] == 0 {
         return true;
@@ -85,7 +85,7 @@ fn follow_run(
     marks: &mut [u8],
 ) -> bool
     requires { (Room image.now t n marks.old) × (from + k ≤ n) × (n ≤ length dirs.now) }
-    ensures { walked result marks.new ≡ followBlocks image.now n dirs.now from k marks.old }
+    ensures { walked result marks.new ≡ follow_blocks image.now n dirs.now from k marks.old }
 {
     let mut b = from;
     let mut left = k;
@@ -110,7 +110,7 @@ fn follow_group(
     marks: &mut [u8],
 ) -> bool
     requires { (Room image.now t n marks.old) × (from + k ≤ n) × (n ≤ length dirs.now) }
-    ensures { walked result marks.new ≡ followBlocks image.now n dirs.now from k marks.old }
+    ensures { walked result marks.new ≡ follow_blocks image.now n dirs.now from k marks.old }
 {
     let end = from + k;
     if super::bytes::all_zero(&dirs[from..end]) {
@@ -133,7 +133,7 @@ fn step(left: usize) -> usize
 // Follows the chains of all slots of the blocks that are marked in dirs.
 fn follow_blocks(image: &[u8], t: usize, n: usize, dirs: &[u8], marks: &mut [u8]) -> bool
     requires { (Room image.now t n marks.old) × (n ≤ length dirs.now) }
-    ensures { walked result marks.new ≡ followBlocks image.now n dirs.now 0 n marks.old }
+    ensures { walked result marks.new ≡ follow_blocks image.now n dirs.now 0 n marks.old }
 {
     let mut b = 0;
     let mut left = n;
@@ -150,7 +150,7 @@ fn follow_blocks(image: &[u8], t: usize, n: usize, dirs: &[u8], marks: &mut [u8]
 
 // 1 for a mark that is set, else 0.
 fn set_bit(mark: u8) -> u8
-    ensures { (result ≡ bit (entryUsed mark)) × (result ≤ 1) }
+    ensures { (result ≡ bit (entry_used mark)) × (result ≤ 1) }
 {
     if mark == 0 {
         return 0;
@@ -161,7 +161,7 @@ fn set_bit(mark: u8) -> u8
 // How many of at most 128 marks are set: so few that a byte holds the count, and 16 are added in a step.
 fn set_in(marks: &[u8]) -> u8
     requires { length marks.now ≤ 128 }
-    ensures { (result ≡ countUsed (λ i. get_or marks.now i 0) 0 (length marks.now)) × (result ≤ length marks.now) }
+    ensures { (result ≡ count_used (λ i. get_or marks.now i 0) 0 (length marks.now)) × (result ≤ length marks.now) }
 {
     let mut count = 0;
     let mut i = 0;
@@ -177,7 +177,7 @@ fn set_in(marks: &[u8]) -> u8
 // How many of the first 128·t marks are set.
 fn count_set(marks: &[u8], t: usize) -> usize
     requires { 128 * t ≤ length marks.now }
-    ensures { (result ≡ countUsed (λ b. get_or marks.now b 0) 0 (128 * t)) × (result ≤ 128 * t) }
+    ensures { (result ≡ count_used (λ b. get_or marks.now b 0) 0 (128 * t)) × (result ≤ 128 * t) }
 {
     let mut count = 0;
     let mut b = 0;

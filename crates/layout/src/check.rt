@@ -1,13 +1,13 @@
 // The check, in stages: the number of the first that is not met, or 0.
 ghost use Rattle.std.specs.Prelude.{◌+◌, ◌-◌, ◌*◌, ◌/◌, ◌≤◌, ◌<◌, ◌≡◌, length};
-ghost use Rattle.layout.specs.Limits.{maxBlocks, smallBlocks, tinyBlocks};
+ghost use Rattle.layout.specs.Limits.{max_blocks, small_blocks, tiny_blocks};
 ghost use Rattle.layout.specs.Bytes.{zeros};
-ghost use Rattle.layout.specs.Geometry.{tableBlocks};
+ghost use Rattle.layout.specs.Geometry.{table_blocks};
 ghost use Rattle.layout.specs.Table.{next};
 ghost use Rattle.layout.specs.Check.{check, stage1, stage2, stage7};
-ghost use Rattle.layout.specs.Walks.Chains.{countUsed};
+ghost use Rattle.layout.specs.Walks.Chains.{count_used};
 ghost use Rattle.layout.specs.Walks.Shapes.{Shape, Room};
-ghost use Rattle.layout.specs.Walks.Stages.{visited, walkRoot, headerOk, countsOk, headStage, bodyStage};
+ghost use Rattle.layout.specs.Walks.Stages.{visited, walk_root, header_ok, counts_ok, head_stage, body_stage};
 
 use super::limits::{MAX_BLOCKS, MIN_BLOCKS, SMALL_BLOCKS, TINY_BLOCKS};
 use super::number::get32;
@@ -38,8 +38,8 @@ fn signed(header: &[u8]) -> bool
 
 // Stage 3, of the first block: total, table and root numbers.
 fn numbered(header: &[u8], n: usize) -> bool
-    requires { (512 ≤ length header.now) × (n ≤ maxBlocks) }
-    ensures { result ≡ headerOk header.now n }
+    requires { (512 ≤ length header.now) × (n ≤ max_blocks) }
+    ensures { result ≡ header_ok header.now n }
 {
     if get32(header, 12) as usize != n {
         return false;
@@ -53,7 +53,7 @@ fn numbered(header: &[u8], n: usize) -> bool
 
 // Stages 1 to 3.
 pub fn head(image: &[u8]) -> u32
-    ensures { result ≡ headStage image.now }
+    ensures { result ≡ head_stage image.now }
 {
     if !sized(image) {
         return 1;
@@ -72,7 +72,7 @@ pub fn head(image: &[u8]) -> u32
 // The header's counts, of the first block.
 fn counted(header: &[u8], n: usize, used: usize) -> bool
     requires { (512 ≤ length header.now) × (used ≤ n) }
-    ensures { result ≡ countsOk header.now n used }
+    ensures { result ≡ counts_ok header.now n used }
 {
     if get32(header, 20) as usize != used {
         return false;
@@ -82,7 +82,7 @@ fn counted(header: &[u8], n: usize, used: usize) -> bool
 
 // Stage 7: the counts, when so many entries below n are in use.
 fn counts_ok(image: &[u8], n: usize, used: usize) -> bool
-    requires { (Shape image.now n) × (used ≡ countUsed (next image.now) 0 n) }
+    requires { (Shape image.now n) × (used ≡ count_used (next image.now) 0 n) }
     ensures { result ≡ stage7 image.now }
 {
     counted(super::bytes::block(image, 0), n, used)
@@ -90,9 +90,9 @@ fn counts_ok(image: &[u8], n: usize, used: usize) -> bool
 
 // Stages 6 and 7, when the blocks of all directories are marked in dirs; no block is marked in marks.
 fn tables(image: &[u8], t: usize, n: usize, dirs: &[u8], marks: &mut [u8]) -> u32
-    requires { (Room image.now t n dirs.now) × (visited 0 dirs.now ≡ walkRoot image.now n (zeros (length dirs.now)))
+    requires { (Room image.now t n dirs.now) × (visited 0 dirs.now ≡ walk_root image.now n (zeros (length dirs.now)))
         × (128 * t ≤ length marks.old) × (marks.old ≡ zeros (length marks.old)) }
-    ensures { result ≡ bodyStage image.now }
+    ensures { result ≡ body_stage image.now }
 {
     let used = super::chains::table_used(image, t, n, dirs, marks);
     if used == 0 {
@@ -106,16 +106,16 @@ fn tables(image: &[u8], t: usize, n: usize, dirs: &[u8], marks: &mut [u8]) -> u3
 
 // A mark for each block of a tiny volume, all 0.
 fn fewest_marks() -> [u8; TINY_BLOCKS]
-    ensures { result ≡ zeros tinyBlocks }
+    ensures { result ≡ zeros tiny_blocks }
 {
     [0u8; TINY_BLOCKS]
 }
 
 // Stages 4 to 7, with two marks for each entry of the table, none marked.
 fn body(image: &[u8], n: usize, dirs: &mut [u8], marks: &mut [u8]) -> u32
-    requires { (Shape image.now n) × (128 * tableBlocks n ≤ length dirs.old) × (dirs.old ≡ zeros (length dirs.old))
-        × (128 * tableBlocks n ≤ length marks.old) × (marks.old ≡ zeros (length marks.old)) }
-    ensures { result ≡ bodyStage image.now }
+    requires { (Shape image.now n) × (128 * table_blocks n ≤ length dirs.old) × (dirs.old ≡ zeros (length dirs.old))
+        × (128 * table_blocks n ≤ length marks.old) × (marks.old ≡ zeros (length marks.old)) }
+    ensures { result ≡ body_stage image.now }
 {
     let t = super::geometry::table_blocks(n);
     let why = super::visit::visit(image, t, n, dirs);
@@ -127,8 +127,8 @@ fn body(image: &[u8], n: usize, dirs: &mut [u8], marks: &mut [u8]) -> u32
 
 // The same of a tiny volume.
 fn tiny_body(image: &[u8], n: usize) -> u32
-    requires { (Shape image.now n) × (n ≤ tinyBlocks) }
-    ensures { result ≡ bodyStage image.now }
+    requires { (Shape image.now n) × (n ≤ tiny_blocks) }
+    ensures { result ≡ body_stage image.now }
 {
     let mut dirs = fewest_marks();
     let mut marks = fewest_marks();
@@ -137,8 +137,8 @@ fn tiny_body(image: &[u8], n: usize) -> u32
 
 // The same of a small volume.
 fn small_body(image: &[u8], n: usize) -> u32
-    requires { (Shape image.now n) × (n ≤ smallBlocks) }
-    ensures { result ≡ bodyStage image.now }
+    requires { (Shape image.now n) × (n ≤ small_blocks) }
+    ensures { result ≡ body_stage image.now }
 {
     let mut dirs = super::table::few_marks();
     let mut marks = super::table::few_marks();
@@ -148,7 +148,7 @@ fn small_body(image: &[u8], n: usize) -> u32
 // The same of any volume.
 fn large_body(image: &[u8], n: usize) -> u32
     requires { Shape image.now n }
-    ensures { result ≡ bodyStage image.now }
+    ensures { result ≡ body_stage image.now }
 {
     let mut dirs = super::table::no_marks();
     let mut marks = super::table::no_marks();

@@ -2,23 +2,23 @@
 ghost use Rattle.std.specs.Prelude.{◌+◌, ◌-◌, ◌*◌, ◌≤◌, ◌<◌, ◌&&◌, true, ◌≡◌, length, get_or};
 ghost use Rattle.layout.specs.Lists.{within, same};
 ghost use Rattle.layout.specs.Bytes.{be32, be64, part};
-ghost use Rattle.layout.specs.Table.{next, chain, tableBlockOf};
-ghost use Rattle.layout.specs.Directory.{type_of, isFile, isDirectory, name_of, nameOk, goodName, slot_of, freeSlot, blocksOf, directory, is_empty};
-ghost use Rattle.layout.specs.Check.{attributesOk, fileOk, directoryEntryOk, slotOk};
+ghost use Rattle.layout.specs.Table.{next, chain, table_block_of};
+ghost use Rattle.layout.specs.Directory.{type_of, is_file, is_directory, name_of, name_ok, good_name, slot_of, free_slot, blocks_of, directory, is_empty};
+ghost use Rattle.layout.specs.Check.{attributes_ok, file_ok, directory_entry_ok, slot_ok};
 ghost use Rattle.layout.specs.Walks.Chains.{walked};
-ghost use Rattle.layout.specs.Walks.Entries.{numbersOk, selfOk};
+ghost use Rattle.layout.specs.Walks.Entries.{numbers_ok, self_ok};
 ghost use Rattle.layout.specs.Walks.Shapes.{Room, DirectoryAt};
-ghost use Rattle.layout.specs.Walks.Names.{ending, someHas, mayHold};
-ghost use Rattle.layout.specs.Walks.Slots.{Stands, entry_at, entryNamed, slotBlock, slotIn, allFree};
-ghost use Rattle.layout.specs.Walks.Stages.{followDirectory};
+ghost use Rattle.layout.specs.Walks.Names.{ending, some_has, may_hold};
+ghost use Rattle.layout.specs.Walks.Slots.{Stands, entry_at, entry_named, slot_block, slot_in, all_free};
+ghost use Rattle.layout.specs.Walks.Stages.{follow_directory};
 
 use super::limits::{MAX_ATTRIBUTES, MAX_DIRECTORY, NAME_FIELD};
 use super::number::{get32, word};
 
 // The block of slot k, if b is that of slot k − 1.
 pub fn following(image: &[u8], b: usize, k: usize) -> usize
-    requires { 512 * tableBlockOf b + 512 ≤ length image.now }
-    ensures { result ≡ slotBlock (next image.now) b k }
+    requires { 512 * table_block_of b + 512 ≤ length image.now }
+    ensures { result ≡ slot_block (next image.now) b k }
 {
     if k % 4 == 0 {
         return super::table::entry(image, b);
@@ -28,7 +28,7 @@ pub fn following(image: &[u8], b: usize, k: usize) -> usize
 
 // Whether a type is a file's.
 pub fn is_file(ty: u8) -> bool
-    ensures { result ≡ isFile ty }
+    ensures { result ≡ is_file ty }
 {
     if ty < 0x60 {
         return false;
@@ -38,7 +38,7 @@ pub fn is_file(ty: u8) -> bool
 
 // Whether a type is a child directory's.
 pub fn is_directory(ty: u8) -> bool
-    ensures { result ≡ isDirectory ty }
+    ensures { result ≡ is_directory ty }
 {
     if ty < 0x20 {
         return false;
@@ -59,7 +59,7 @@ pub fn is_within(ty: u8, lo: u8, hi: u8) -> bool
 // Whether the two attribute fields of the file at o are right.
 fn attributes_ok(block: &[u8], o: usize) -> bool
     requires { o + 128 ≤ length block.now }
-    ensures { result ≡ attributesOk block.now o }
+    ensures { result ≡ attributes_ok block.now o }
 {
     let size = get32(block, o + 36);
     if get32(block, o + 32) == 0 {
@@ -74,7 +74,7 @@ fn attributes_ok(block: &[u8], o: usize) -> bool
 // Whether the numbers of the file at o are right.
 fn numbers_ok(block: &[u8], o: usize) -> bool
     requires { o + 128 ≤ length block.now }
-    ensures { result ≡ numbersOk block.now o }
+    ensures { result ≡ numbers_ok block.now o }
 {
     if !attributes_ok(block, o) {
         return false;
@@ -93,7 +93,7 @@ fn numbers_ok(block: &[u8], o: usize) -> bool
 // Whether the entry at o has a good name.
 fn named(block: &[u8], o: usize) -> bool
     requires { o + 128 ≤ length block.now }
-    ensures { result ≡ nameOk block.now o }
+    ensures { result ≡ name_ok block.now o }
 {
     super::bytes::name_ok(field_of(block, o))
 }
@@ -101,7 +101,7 @@ fn named(block: &[u8], o: usize) -> bool
 // Whether the entry at o is a right file's.
 fn file_ok(block: &[u8], o: usize) -> bool
     requires { o + 128 ≤ length block.now }
-    ensures { result ≡ fileOk block.now o }
+    ensures { result ≡ file_ok block.now o }
 {
     if !named(block, o) {
         return false;
@@ -112,7 +112,7 @@ fn file_ok(block: &[u8], o: usize) -> bool
 // Whether the entry at o is a right one of a child directory.
 fn directory_entry_ok(block: &[u8], o: usize) -> bool
     requires { o + 128 ≤ length block.now }
-    ensures { result ≡ directoryEntryOk block.now o }
+    ensures { result ≡ directory_entry_ok block.now o }
 {
     if !named(block, o) {
         return false;
@@ -129,7 +129,7 @@ fn directory_entry_ok(block: &[u8], o: usize) -> bool
 // Whether the slot at o of a directory's block is free, or a right file or child directory.
 fn slot_ok(block: &[u8], o: usize) -> bool
     requires { o + 128 ≤ length block.now }
-    ensures { result ≡ slotOk block.now o }
+    ensures { result ≡ slot_ok block.now o }
 {
     if block[o] == 0 {
         return true;
@@ -146,7 +146,7 @@ fn slot_ok(block: &[u8], o: usize) -> bool
 // Whether the entry at the start of block b is its self entry.
 fn self_ok(block: &[u8], b: usize, parent: usize) -> bool
     requires { 128 ≤ length block.now }
-    ensures { result ≡ selfOk block.now 0 b parent }
+    ensures { result ≡ self_ok block.now 0 b parent }
 {
     if block[0] != 1 {
         return false;
@@ -213,7 +213,7 @@ pub fn number_at(image: &[u8], b: usize, k: usize, at: usize) -> usize
 
 pub fn slot_ok_at(image: &[u8], b: usize, k: usize) -> bool
     requires { 512 * b + 512 ≤ length image.now }
-    ensures { result ≡ slotOk image.now (entry_at b k) }
+    ensures { result ≡ slot_ok image.now (entry_at b k) }
 {
     let o = 128 * (k % 4);
     slot_ok(super::bytes::block(image, b), o)
@@ -248,7 +248,7 @@ pub fn directory_ok(
     marks: &mut [u8],
 ) -> bool
     requires { (Room image.now t n marks.old) × (b < n) }
-    ensures { walked result marks.new ≡ followDirectory image.now n b parent marks.old }
+    ensures { walked result marks.new ≡ follow_directory image.now n b parent marks.old }
 {
     if !self_ok(super::bytes::block(image, b), b, parent) {
         return false;
@@ -259,7 +259,7 @@ pub fn directory_ok(
 
 // Whether the slot at o of a directory's block has a type from lo to hi and a good name.
 fn slot_holds(block: &[u8], o: usize, lo: u8, hi: u8, name: &[u8]) -> bool
-    requires { (o + 128 ≤ length block.now) × (goodName name.now ≡ true) }
+    requires { (o + 128 ≤ length block.now) × (good_name name.now ≡ true) }
     ensures { result ≡ within lo hi (type_of block.now o) && same (name_of block.now o) name.now }
 {
     if !is_within(block[o], lo, hi) {
@@ -269,7 +269,7 @@ fn slot_holds(block: &[u8], o: usize, lo: u8, hi: u8, name: &[u8]) -> bool
 }
 
 fn holds_at(image: &[u8], b: usize, k: usize, lo: u8, hi: u8, name: &[u8]) -> bool
-    requires { (512 * b + 512 ≤ length image.now) × (goodName name.now ≡ true) }
+    requires { (512 * b + 512 ≤ length image.now) × (good_name name.now ≡ true) }
     ensures { result ≡ within lo hi (type_of image.now (entry_at b k)) && same (name_of image.now (entry_at b k)) name.now }
 {
     let o = 128 * (k % 4);
@@ -290,7 +290,7 @@ fn ending(name: &[u8]) -> u32
 // Whether one of the four entries of a directory's block has w at `at`. All four are looked at, so that no branch depends on the names.
 fn some_has(block: &[u8], at: usize, w: u32) -> bool
     requires { at + 388 ≤ length block.now }
-    ensures { result ≡ someHas block.now at w }
+    ensures { result ≡ some_has block.now at w }
 {
     let a = word(block, at);
     let b = word(block, at + 128);
@@ -302,8 +302,8 @@ fn some_has(block: &[u8], at: usize, w: u32) -> bool
 // Whether one of the four entries of a directory's block may have a good name, whose ending is w: in a field, which begins at 48 of its entry, it would
 // stand at 44 and the name's length. Of a name of less than four bytes it tells nothing.
 fn may_hold(block: &[u8], name: &[u8], w: u32) -> bool
-    requires { (length block.now ≡ 512) × (goodName name.now ≡ true) × (w ≡ ending name.now) }
-    ensures { result ≡ mayHold block.now name.now }
+    requires { (length block.now ≡ 512) × (good_name name.now ≡ true) × (w ≡ ending name.now) }
+    ensures { result ≡ may_hold block.now name.now }
 {
     if name.len() < 4 {
         return true;
@@ -314,8 +314,8 @@ fn may_hold(block: &[u8], name: &[u8], w: u32) -> bool
 
 // The slot of a good name, whose ending is w, among the slots k to k + j − 1, which are in block b, or 0.
 fn find_in(image: &[u8], b: usize, k: usize, j: usize, lo: u8, hi: u8, name: &[u8], w: u32) -> usize
-    requires { (512 * b + 512 ≤ length image.now) × (k + j ≤ 256) × (1 ≤ k) × (goodName name.now ≡ true) × (w ≡ ending name.now) }
-    ensures { result ≡ slotIn (entryNamed (within lo hi) image.now name.now) b k j }
+    requires { (512 * b + 512 ≤ length image.now) × (k + j ≤ 256) × (1 ≤ k) × (good_name name.now ≡ true) × (w ≡ ending name.now) }
+    ensures { result ≡ slot_in (entry_named (within lo hi) image.now name.now) b k j }
 {
     if !may_hold(super::bytes::block(image, b), name, w) {
         return 0;
@@ -341,7 +341,7 @@ pub struct Entry {
 
 // The slot of a good name in a directory, among those whose type is from lo to hi. It goes from block to block.
 pub fn find(image: &[u8], n: usize, first: usize, d: usize, lo: u8, hi: u8, name: &[u8]) -> Entry
-    requires { (DirectoryAt image.now n first d) × (goodName name.now ≡ true) }
+    requires { (DirectoryAt image.now n first d) × (good_name name.now ≡ true) }
     ensures { Stands (chain (next image.now) first d) n (slot_of (within lo hi) image.now (chain (next image.now) first d) name.now) result.slot result.block }
 {
     let w = ending(name);
@@ -367,7 +367,7 @@ pub fn find(image: &[u8], n: usize, first: usize, d: usize, lo: u8, hi: u8, name
 // The lowest free slot of a directory.
 pub fn find_free(image: &[u8], n: usize, first: usize, d: usize) -> Entry
     requires { DirectoryAt image.now n first d }
-    ensures { Stands (chain (next image.now) first d) n (freeSlot image.now (chain (next image.now) first d)) result.slot result.block }
+    ensures { Stands (chain (next image.now) first d) n (free_slot image.now (chain (next image.now) first d)) result.slot result.block }
 {
     let mut b = first;
     let mut slot = 1;
@@ -388,8 +388,8 @@ pub fn find_free(image: &[u8], n: usize, first: usize, d: usize) -> Entry
 
 // The lowest free slot of the directory at block b.
 pub fn free_slot(image: &[u8], n: usize, b: usize) -> Entry
-    requires { DirectoryAt image.now n b (blocksOf image.now (512 * b)) }
-    ensures { Stands (directory image.now b) n (freeSlot image.now (directory image.now b)) result.slot result.block }
+    requires { DirectoryAt image.now n b (blocks_of image.now (512 * b)) }
+    ensures { Stands (directory image.now b) n (free_slot image.now (directory image.now b)) result.slot result.block }
 {
     let d = number_at(image, b, 0, 12);
     find_free(image, n, b, d)
@@ -398,7 +398,7 @@ pub fn free_slot(image: &[u8], n: usize, b: usize) -> Entry
 // Whether every slot of a directory from 1 to 4·d − 2 is free.
 fn all_free(image: &[u8], n: usize, first: usize, d: usize) -> bool
     requires { DirectoryAt image.now n first d }
-    ensures { result ≡ allFree image.now (chain (next image.now) first d) 1 (4 * d - 2) }
+    ensures { result ≡ all_free image.now (chain (next image.now) first d) 1 (4 * d - 2) }
 {
     let mut b = first;
     let mut k = 1;
@@ -416,7 +416,7 @@ fn all_free(image: &[u8], n: usize, first: usize, d: usize) -> bool
 
 // Whether the directory at block b is empty.
 pub fn is_empty(image: &[u8], n: usize, b: usize) -> bool
-    requires { DirectoryAt image.now n b (blocksOf image.now (512 * b)) }
+    requires { DirectoryAt image.now n b (blocks_of image.now (512 * b)) }
     ensures { result ≡ is_empty image.now b }
 {
     let d = number_at(image, b, 0, 12);

@@ -1,10 +1,10 @@
 // The file, and the child directory, of a path in a sound image.
 ghost use Rattle.std.specs.Prelude.{◌+◌, ◌*◌, ◌≤◌, ◌≡◌, length};
 ghost use Rattle.layout.specs.Lists.{within};
-ghost use Rattle.layout.specs.Directory.{attributeBlock, attributeSize, isFile, isDirectory};
+ghost use Rattle.layout.specs.Directory.{attribute_block_of, attribute_size_of, is_file, is_directory};
 ghost use Rattle.layout.specs.Check.{check};
-ghost use Rattle.layout.specs.Paths.{fileRefusal, directoryRefusal};
-ghost use Rattle.layout.specs.Walks.Looks.{formRefusal, wholeRefusal, foundRefusal, NoFile, Opens};
+ghost use Rattle.layout.specs.Paths.{file_refusal, directory_refusal};
+ghost use Rattle.layout.specs.Walks.Looks.{form_refusal, whole_refusal, found_refusal, NoFile, Opens};
 ghost use Rattle.layout.specs.Walks.Paths.{PathGiven};
 ghost use Rattle.layout.specs.Walks.Slots.{entry_at};
 
@@ -38,7 +38,7 @@ pub fn refused(number: u32) -> File
 
 // The refusal of a path by itself, 9 or 17, or 0.
 pub fn path_refusal(path: &[u8]) -> u32
-    ensures { result ≡ formRefusal path.now }
+    ensures { result ≡ form_refusal path.now }
 {
     let parts = super::path::path_parts(path);
     if parts == 0 {
@@ -52,7 +52,7 @@ pub fn path_refusal(path: &[u8]) -> u32
 
 // The same of a directory's path, in which the last part counts.
 pub fn whole_path_refusal(path: &[u8]) -> u32
-    ensures { result ≡ wholeRefusal path.now }
+    ensures { result ≡ whole_refusal path.now }
 {
     let parts = super::path::path_parts(path);
     if parts == 0 {
@@ -67,7 +67,7 @@ pub fn whole_path_refusal(path: &[u8]) -> u32
 // The entry of a path whose type is from lo to hi, or the refusal 10.
 fn open_entry(image: &[u8], path: &[u8], lo: u8, hi: u8) -> File
     requires { PathGiven image.now path.now }
-    ensures { Opens (within lo hi) image.now path.now (foundRefusal (within lo hi) image.now path.now) result.number result.slot result.block result.first result.size result.blocks }
+    ensures { Opens (within lo hi) image.now path.now (found_refusal (within lo hi) image.now path.now) result.number result.slot result.block result.first result.size result.blocks }
 {
     let f = super::path::follow_path(image, path, lo, hi);
     let k = f.slot;
@@ -91,7 +91,7 @@ fn open_entry(image: &[u8], path: &[u8], lo: u8, hi: u8) -> File
 // The file of a path, or the refusal, 9, 17 or 10.
 pub fn open_file(image: &[u8], path: &[u8]) -> File
     requires { check image.now ≡ 0 }
-    ensures { Opens isFile image.now path.now (fileRefusal image.now path.now) result.number result.slot result.block result.first result.size result.blocks }
+    ensures { Opens is_file image.now path.now (file_refusal image.now path.now) result.number result.slot result.block result.first result.size result.blocks }
 {
     let form = path_refusal(path);
     if form != 0 {
@@ -103,7 +103,7 @@ pub fn open_file(image: &[u8], path: &[u8]) -> File
 // The child directory of a path, or the refusal, 9, 17 or 10.
 pub fn open_directory(image: &[u8], path: &[u8]) -> File
     requires { check image.now ≡ 0 }
-    ensures { Opens isDirectory image.now path.now (directoryRefusal image.now path.now) result.number result.slot result.block result.first result.size result.blocks }
+    ensures { Opens is_directory image.now path.now (directory_refusal image.now path.now) result.number result.slot result.block result.first result.size result.blocks }
 {
     let form = whole_path_refusal(path);
     if form != 0 {
@@ -122,7 +122,7 @@ pub struct Chain {
 // The attributes' chain of the file in slot k, which is in block b: of no blocks if it has none.
 pub fn attribute_chain(image: &[u8], b: usize, k: usize) -> Chain
     requires { 512 * b + 512 ≤ length image.now }
-    ensures { (result.first ≡ attributeBlock image.now (entry_at b k)) × (result.blocks ≡ attributeSize image.now (entry_at b k)) }
+    ensures { (result.first ≡ attribute_block_of image.now (entry_at b k)) × (result.blocks ≡ attribute_size_of image.now (entry_at b k)) }
 {
     let first = number_at(image, b, k, 32);
     let blocks = number_at(image, b, k, 36);

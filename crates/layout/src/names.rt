@@ -2,13 +2,13 @@
 // field: names whose fingerprints differ are different. A filter with a mark at each fingerprint met tells for most names that no earlier one has
 // theirs; only where there is a mark are the earlier fingerprints looked through, and only where two agree the names.
 ghost use Rattle.std.specs.Prelude.{◌+◌, ◌-◌, ◌*◌, ◌≤◌, ◌<◌, not, true, ◌≡◌, length, get_or};
-ghost use Rattle.layout.specs.Limits.{maxSlots};
+ghost use Rattle.layout.specs.Limits.{max_slots};
 ghost use Rattle.layout.specs.Bytes.{part, zeros};
 ghost use Rattle.layout.specs.Table.{next, chain};
-ghost use Rattle.layout.specs.Check.{slotOk, newName};
+ghost use Rattle.layout.specs.Check.{slot_ok, new_name};
 ghost use Rattle.layout.specs.Walks.Shapes.{DirectoryAt};
 ghost use Rattle.layout.specs.Walks.Slots.{entry_at};
-ghost use Rattle.layout.specs.Walks.Names.{fingerprint, otherName, otherNames, badFrom, filterSize, SlotIn, Used, Noted, Filtered, NoteRoom, Nearest};
+ghost use Rattle.layout.specs.Walks.Names.{fingerprint, other_name, other_names, bad_from, filter_size, SlotIn, Used, Noted, Filtered, NoteRoom, Nearest};
 
 use super::limits::{MAX_SLOTS, NAME_FIELD};
 
@@ -50,8 +50,8 @@ fn nearest(prints: &[usize], p: usize, from: usize, end: usize) -> usize
 // Whether slot i, in block c, is used and has the name of slot k, in block b, which is used. Right names are equal exactly if their fields are.
 fn same_names(image: &[u8], b: usize, k: usize, c: usize, i: usize) -> bool
     requires { (512 * b + 512 ≤ length image.now) × (512 * c + 512 ≤ length image.now)
-        × (Used image.now (entry_at b k)) × (slotOk image.now (entry_at c i) ≡ true) }
-    ensures { result ≡ not (otherName image.now (entry_at b k) (entry_at c i)) }
+        × (Used image.now (entry_at b k)) × (slot_ok image.now (entry_at c i) ≡ true) }
+    ensures { result ≡ not (other_name image.now (entry_at b k) (entry_at c i)) }
 {
     if super::directory::type_at(image, c, i) == 0 {
         return false;
@@ -74,7 +74,7 @@ pub fn name_in(
 ) -> bool
     requires { (Noted image.now (chain (next image.now) first d) prints.now places.now k) × (SlotIn image.now (chain (next image.now) first d) b k)
         × (Used image.now (entry_at b k)) × (get_or prints.now k 0 ≡ fingerprint (part image.now (entry_at b k + 48) 80)) }
-    ensures { result ≡ not (otherNames image.now (chain (next image.now) first d) (entry_at b k) 1 (k - 1)) }
+    ensures { result ≡ not (other_names image.now (chain (next image.now) first d) (entry_at b k) 1 (k - 1)) }
 {
     let p = prints[k];
     let mut i = nearest(prints, p, 1, k);
@@ -100,8 +100,8 @@ fn is_new(
     seen: &mut [u8],
 ) -> bool
     requires { (Noted image.now (chain (next image.now) first d) prints.old places.old k) × (Filtered image.now (chain (next image.now) first d) seen.old mark k)
-        × (SlotIn image.now (chain (next image.now) first d) b k) × (slotOk image.now (entry_at b k) ≡ true) }
-    ensures { (result ≡ newName image.now (chain (next image.now) first d) k)
+        × (SlotIn image.now (chain (next image.now) first d) b k) × (slot_ok image.now (entry_at b k) ≡ true) }
+    ensures { (result ≡ new_name image.now (chain (next image.now) first d) k)
         × (Noted image.now (chain (next image.now) first d) prints.new places.new (k + 1))
         × (Filtered image.now (chain (next image.now) first d) seen.new mark (k + 1)) }
 {
@@ -130,7 +130,7 @@ pub fn bad_slot(
     seen: &mut [u8],
 ) -> usize
     requires { (DirectoryAt image.now n first d) × (NoteRoom prints.old places.old seen.old) }
-    ensures { result ≡ badFrom image.now (chain (next image.now) first d) 1 (4 * d - 2) }
+    ensures { result ≡ bad_from image.now (chain (next image.now) first d) 1 (4 * d - 2) }
 {
     let mark = (first % 255 + 1) as u8;
     let mut b = first;
@@ -152,14 +152,14 @@ pub fn bad_slot(
 
 // Room for a number of each slot: its fingerprint, its block.
 pub fn no_slots() -> [usize; MAX_SLOTS]
-    ensures { result ≡ zeros maxSlots }
+    ensures { result ≡ zeros max_slots }
 {
     [0usize; MAX_SLOTS]
 }
 
 // A filter without a mark.
 pub fn no_names() -> [u8; FILTER]
-    ensures { result ≡ zeros filterSize }
+    ensures { result ≡ zeros filter_size }
 {
     [0u8; FILTER]
 }

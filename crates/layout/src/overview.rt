@@ -1,10 +1,10 @@
 // What a volume and its directories hold: the numbers of the volume, and the entries of a directory one after the other.
 ghost use Rattle.std.specs.Prelude.{◌+◌, ◌*◌, ◌≤◌, ◌<◌, ◌&&◌, [], ◌≡◌, leb, length};
-ghost use Rattle.layout.specs.Directory.{type_of, isUsed, blocksOf, directory};
+ghost use Rattle.layout.specs.Directory.{type_of, is_used, blocks_of, directory};
 ghost use Rattle.layout.specs.Table.{next, chain};
 ghost use Rattle.layout.specs.Check.{check};
-ghost use Rattle.layout.specs.Answers.{volumeAnswer, entryAnswer};
-ghost use Rattle.layout.specs.Looks.{volumeInfo, isRootPath, usedSlot, noEntry, entryFields, nextEntry};
+ghost use Rattle.layout.specs.Answers.{volume_answer, entry_answer};
+ghost use Rattle.layout.specs.Looks.{volume_info, is_root_path, used_slot, no_entry, entry_fields, next_entry};
 ghost use Rattle.layout.specs.Walks.Looks.{Lists};
 ghost use Rattle.layout.specs.Walks.Shapes.{DirectoryAt};
 ghost use Rattle.layout.specs.Walks.Slots.{Stands, entry_at};
@@ -27,7 +27,7 @@ pub struct VolumeInfo {
 // Those of a sound image.
 fn volume_numbers(image: &[u8]) -> VolumeInfo
     requires { check image.now ≡ 0 }
-    ensures { volumeAnswer result [] ≡ volumeInfo image.now [] }
+    ensures { volume_answer result [] ≡ volume_info image.now [] }
 {
     let n = image.len() / 512;
     let root = super::geometry::root_block(n);
@@ -45,7 +45,7 @@ fn volume_numbers(image: &[u8]) -> VolumeInfo
 
 // The volume: its numbers, and into the buffer the UUID and the volume name, as many of their 144 bytes as it holds.
 pub fn info(image: &[u8], buffer: &mut [u8]) -> VolumeInfo
-    ensures { volumeAnswer result buffer.new ≡ volumeInfo image.now buffer.old }
+    ensures { volume_answer result buffer.new ≡ volume_info image.now buffer.old }
 {
     let refusal = super::check::check(image);
     if refusal != 0 {
@@ -72,7 +72,7 @@ struct Listed {
 
 // Whether a path is `/` alone.
 fn is_root_path(path: &[u8]) -> bool
-    ensures { result ≡ isRootPath path.now }
+    ensures { result ≡ is_root_path path.now }
 {
     if path.len() != 1 {
         return false;
@@ -108,7 +108,7 @@ fn open_listed(image: &[u8], path: &[u8]) -> Listed
 // Whether slot k, which is in block b, is from `start` on and not free.
 fn is_used_from(image: &[u8], b: usize, k: usize, start: usize) -> bool
     requires { 512 * b + 512 ≤ length image.now }
-    ensures { result ≡ leb start k && isUsed (type_of image.now (entry_at b k)) }
+    ensures { result ≡ leb start k && is_used (type_of image.now (entry_at b k)) }
 {
     if k < start {
         return false;
@@ -125,7 +125,7 @@ fn find_used(
     start: usize,
 ) -> super::directory::Entry
     requires { DirectoryAt image.now n first d }
-    ensures { Stands (chain (next image.now) first d) n (usedSlot image.now (chain (next image.now) first d) start) result.slot result.block }
+    ensures { Stands (chain (next image.now) first d) n (used_slot image.now (chain (next image.now) first d) start) result.slot result.block }
 {
     let mut b = first;
     let mut k = 1;
@@ -143,8 +143,8 @@ fn find_used(
 
 // The lowest slot from `start` on of the directory at block b that is not free.
 fn used_slot(image: &[u8], n: usize, b: usize, start: usize) -> super::directory::Entry
-    requires { DirectoryAt image.now n b (blocksOf image.now (512 * b)) }
-    ensures { Stands (directory image.now b) n (usedSlot image.now (directory image.now b) start) result.slot result.block }
+    requires { DirectoryAt image.now n b (blocks_of image.now (512 * b)) }
+    ensures { Stands (directory image.now b) n (used_slot image.now (directory image.now b) start) result.slot result.block }
 {
     let d = super::directory::number_at(image, b, 0, 12);
     find_used(image, n, b, d, start)
@@ -172,7 +172,7 @@ pub struct EntryInfo {
 
 // No entry, with the number of the refusal, or 0.
 fn no_entry(number: u32) -> EntryInfo
-    ensures { entryAnswer result [] ≡ noEntry number [] }
+    ensures { entry_answer result [] ≡ no_entry number [] }
 {
     EntryInfo {
         number: number,
@@ -195,7 +195,7 @@ fn no_entry(number: u32) -> EntryInfo
 // The fields of slot k, which is in block b.
 fn entry_fields(image: &[u8], b: usize, k: usize) -> EntryInfo
     requires { (512 * b + 512 ≤ length image.now) × (k < 256) }
-    ensures { entryAnswer result [] ≡ entryFields image.now k (entry_at b k) [] }
+    ensures { entry_answer result [] ≡ entry_fields image.now k (entry_at b k) [] }
 {
     EntryInfo {
         number: 0,
@@ -218,7 +218,7 @@ fn entry_fields(image: &[u8], b: usize, k: usize) -> EntryInfo
 // The entry in the lowest slot from `start` on that is not free, of a path's directory, or of the root's for `/`; into the buffer the field of its
 // name, as many of the 80 bytes as it holds.
 pub fn next_entry(image: &[u8], path: &[u8], start: usize, buffer: &mut [u8]) -> EntryInfo
-    ensures { entryAnswer result buffer.new ≡ nextEntry image.now path.now start buffer.old }
+    ensures { entry_answer result buffer.new ≡ next_entry image.now path.now start buffer.old }
 {
     let o = open_listed(image, path);
     let number = o.number;

@@ -1,16 +1,16 @@
 // Paths: their form, the number of their parts, and the directory that they lead to.
 ghost use Rattle.std.specs.Prelude.{◌+◌, ◌-◌, ◌*◌, ◌≤◌, ◌<◌, true, ◌≡◌, length, drop};
 ghost use Rattle.layout.specs.Lists.{within, every};
-ghost use Rattle.layout.specs.Directory.{blocksOf, goodName, isUsed};
-ghost use Rattle.layout.specs.Paths.{cut, parts, pathOk, leading, lastPart, childOf, resolve, home};
+ghost use Rattle.layout.specs.Directory.{blocks_of, good_name, is_used};
+ghost use Rattle.layout.specs.Paths.{cut, parts, path_ok, leading, last_part, child_of, resolve, home};
 ghost use Rattle.layout.specs.Walks.Shapes.{DirectoryAt};
-ghost use Rattle.layout.specs.Walks.Paths.{firstLength, goodFrom, goodParts, Along, PathGiven, Spotted};
+ghost use Rattle.layout.specs.Walks.Paths.{first_length, good_from, good_parts, Along, PathGiven, Spotted};
 
 use super::directory::number_at;
 
 // How many bytes stand before the first `/`, or all.
 fn part_length(rest: &[u8]) -> usize
-    ensures { (result ≡ firstLength rest.now) × (result ≤ length rest.now) }
+    ensures { (result ≡ first_length rest.now) × (result ≤ length rest.now) }
 {
     for i in 0..rest.len() {
         if rest[i] == b'/' {
@@ -23,14 +23,14 @@ fn part_length(rest: &[u8]) -> usize
 // Where the part that begins at `at` ends.
 fn part_end(rest: &[u8], at: usize) -> usize
     requires { at ≤ length rest.now }
-    ensures { (result ≡ at + firstLength (drop at rest.now)) × (result ≤ length rest.now) }
+    ensures { (result ≡ at + first_length (drop at rest.now)) × (result ≤ length rest.now) }
 {
     at + part_length(&rest[at..])
 }
 
 // How many parts there are, or 0 if one of them is no good name.
 fn count_parts(rest: &[u8]) -> usize
-    ensures { result ≡ goodFrom 0 rest.now }
+    ensures { result ≡ good_from 0 rest.now }
 {
     let mut at = 0;
     let mut count = 0;
@@ -51,7 +51,7 @@ fn count_parts(rest: &[u8]) -> usize
 
 // The number of parts of a path, or 0 if it is none.
 pub fn path_parts(path: &[u8]) -> usize
-    ensures { result ≡ goodParts path.now }
+    ensures { result ≡ good_parts path.now }
 {
     if path.len() == 0 {
         return 0;
@@ -65,7 +65,7 @@ pub fn path_parts(path: &[u8]) -> usize
 
 // Where the last part begins.
 fn last_start(rest: &[u8]) -> usize
-    ensures { (drop result rest.now ≡ lastPart (cut rest.now)) × (result ≤ length rest.now) }
+    ensures { (drop result rest.now ≡ last_part (cut rest.now)) × (result ≤ length rest.now) }
 {
     let mut at = 0;
     let mut end = part_end(rest, at);
@@ -78,8 +78,8 @@ fn last_start(rest: &[u8]) -> usize
 
 // The first block of the child directory of a good name in the directory at block b, or 0.
 fn child_of(image: &[u8], n: usize, b: usize, name: &[u8]) -> usize
-    requires { (DirectoryAt image.now n b (blocksOf image.now (512 * b))) × (goodName name.now ≡ true) }
-    ensures { result ≡ childOf image.now b name.now }
+    requires { (DirectoryAt image.now n b (blocks_of image.now (512 * b))) × (good_name name.now ≡ true) }
+    ensures { result ≡ child_of image.now b name.now }
 {
     let d = number_at(image, b, 0, 12);
     let f = super::directory::find(image, n, b, d, 0x20, 0x5F, name);
@@ -93,7 +93,7 @@ fn child_of(image: &[u8], n: usize, b: usize, name: &[u8]) -> usize
 
 // The first block of the directory that all parts but the last lead to from the one at block b, or 0.
 pub fn resolve(image: &[u8], n: usize, b: usize, rest: &[u8]) -> usize
-    requires { (Along image.now n b (leading (cut rest.now))) × (every goodName (cut rest.now) ≡ true) }
+    requires { (Along image.now n b (leading (cut rest.now))) × (every good_name (cut rest.now) ≡ true) }
     ensures { result ≡ resolve image.now b (leading (cut rest.now)) }
 {
     let k = part_length(rest);
@@ -111,8 +111,8 @@ pub fn resolve(image: &[u8], n: usize, b: usize, rest: &[u8]) -> usize
 
 // The last part of a path.
 pub fn last_part<'a>(path: &'a [u8]) -> &'a [u8]
-    requires { pathOk path.now ≡ true }
-    ensures { result.now ≡ lastPart (parts path.now) }
+    requires { path_ok path.now ≡ true }
+    ensures { result.now ≡ last_part (parts path.now) }
 {
     let z = 1;
     let k = last_start(&path[z..]);
@@ -167,7 +167,7 @@ pub fn follow_path(image: &[u8], path: &[u8], lo: u8, hi: u8) -> Spot
 // Where a path leads, among all entries that are used.
 pub fn follow_used(image: &[u8], path: &[u8]) -> Spot
     requires { PathGiven image.now path.now }
-    ensures { Spotted isUsed image.now path.now result.home result.slot result.block }
+    ensures { Spotted is_used image.now path.now result.home result.slot result.block }
 {
     follow_path(image, path, 1, 0xFF)
 }

@@ -1,8 +1,8 @@
 // The calls that only look.
 ghost use Rattle.std.specs.Prelude.{◌+◌, ◌*◌, ◌/◌, ◌≤◌, ◌<◌, ◌≡◌, length};
-ghost use Rattle.layout.specs.Directory.{isFile};
-ghost use Rattle.layout.specs.Looks.{lookupRefusal, lookup, extentOf, lookInPlace, read, readAttributes};
-ghost use Rattle.layout.specs.Answers.{lookupAnswer, readAnswer, LookupNumbered, ReadNumbered};
+ghost use Rattle.layout.specs.Directory.{is_file};
+ghost use Rattle.layout.specs.Looks.{lookup_refusal, lookup, extent_of, look_in_place, read, read_attributes};
+ghost use Rattle.layout.specs.Answers.{lookup_answer, read_answer, LookupNumbered, ReadNumbered};
 ghost use Rattle.layout.specs.Walks.Looks.{Opens};
 
 // What looking up gives.
@@ -14,7 +14,7 @@ pub enum Found {
 
 // The file of a path, or the refusal, 1 to 7, 9, 17 or 10.
 fn open_file(image: &[u8], path: &[u8]) -> super::file::File
-    ensures { Opens isFile image.now path.now (lookupRefusal image.now path.now) result.number result.slot result.block result.first result.size result.blocks }
+    ensures { Opens is_file image.now path.now (lookup_refusal image.now path.now) result.number result.slot result.block result.first result.size result.blocks }
 {
     let refusal = super::check::check(image);
     if refusal != 0 {
@@ -25,7 +25,7 @@ fn open_file(image: &[u8], path: &[u8]) -> super::file::File
 
 // Look up: slot, size and blocks of the file of a path.
 pub fn lookup(image: &[u8], path: &[u8]) -> Found
-    ensures answer { lookupAnswer result ≡ lookup image.now path.now }
+    ensures answer { lookup_answer result ≡ lookup image.now path.now }
     ensures numbered { LookupNumbered result }
 {
     let o = open_file(image, path);
@@ -52,8 +52,8 @@ pub struct Extent {
 
 // The part that look in place gives, as numbers.
 pub fn extent_in_place(image: &[u8], path: &[u8], index: usize) -> Extent
-    ensures { (result.start ≡ (extentOf image.now path.now index).start)
-        × (result.size ≡ (extentOf image.now path.now index).size)
+    ensures { (result.start ≡ (extent_of image.now path.now index).start)
+        × (result.size ≡ (extent_of image.now path.now index).size)
         × (result.start + result.size ≤ length image.now) }
 {
     let o = open_file(image, path);
@@ -78,8 +78,8 @@ pub fn extent_in_place(image: &[u8], path: &[u8], index: usize) -> Extent
 
 // Look in place: the image's own bytes of the file's block `index`, up to the file's end; empty if there are none.
 pub fn look_in_place<'a>(image: &'a [u8], path: &[u8], index: usize) -> &'a [u8]
-    ensures bytes { result.now ≡ lookInPlace image.now path.now index }
-    ensures place { result.ref_ptr ≡ (image.entry.ref_ptr.0, (extentOf image.now path.now index).start + image.entry.ref_ptr.1) }
+    ensures bytes { result.now ≡ look_in_place image.now path.now index }
+    ensures place { result.ref_ptr ≡ (image.entry.ref_ptr.0, (extent_of image.now path.now index).start + image.entry.ref_ptr.1) }
 {
     let x = extent_in_place(image, path, index);
     let a = x.start;
@@ -96,7 +96,7 @@ pub enum Filled {
 
 // Read: fills the first bytes of the buffer with the file's bytes from offset on.
 pub fn read(image: &[u8], path: &[u8], offset: usize, buffer: &mut [u8]) -> Filled
-    ensures answer { readAnswer result buffer.new ≡ read image.now path.now offset buffer.old }
+    ensures answer { read_answer result buffer.new ≡ read image.now path.now offset buffer.old }
     ensures numbered { ReadNumbered result }
 {
     let o = open_file(image, path);
@@ -119,7 +119,7 @@ pub fn read(image: &[u8], path: &[u8], offset: usize, buffer: &mut [u8]) -> Fill
 
 // Read attributes: fills the first bytes of the buffer with the file's attributes, as many whole blocks as there are and it holds.
 pub fn read_attributes(image: &[u8], path: &[u8], buffer: &mut [u8]) -> Filled
-    ensures answer { readAnswer result buffer.new ≡ readAttributes image.now path.now buffer.old }
+    ensures answer { read_answer result buffer.new ≡ read_attributes image.now path.now buffer.old }
     ensures numbered { ReadNumbered result }
 {
     let o = open_file(image, path);

@@ -1,13 +1,13 @@
 // Stages 4 and 5: from a directory to its entries, and from an entry to a child directory. The blocks of each directory met are marked.
 ghost use Rattle.std.specs.Prelude.{◌+◌, ◌-◌, ◌*◌, ◌≤◌, ◌<◌, ◌≡◌, length};
-ghost use Rattle.layout.specs.Limits.{maxLevels};
+ghost use Rattle.layout.specs.Limits.{max_levels};
 ghost use Rattle.layout.specs.Table.{next, chain};
 ghost use Rattle.layout.specs.Directory.{slot_at, type_of};
 ghost use Rattle.layout.specs.Walks.Chains.{walked};
 ghost use Rattle.layout.specs.Walks.Names.{NoteRoom};
 ghost use Rattle.layout.specs.Walks.Shapes.{Room, DirectoryAt};
 ghost use Rattle.layout.specs.Walks.Slots.{entry_at};
-ghost use Rattle.layout.specs.Walks.Stages.{childEntry, followChild, visited, walkEntry, walkEntries, walkChild, walkRoot};
+ghost use Rattle.layout.specs.Walks.Stages.{child_entry, follow_child, visited, walk_entry, walk_entries, walk_child, walk_root};
 
 use super::directory::number_at;
 use super::limits::MAX_LEVELS;
@@ -15,7 +15,7 @@ use super::limits::MAX_LEVELS;
 // Whether the entry of a child directory, in slot k of block at, and the child's self entry have the same size and name.
 fn child_matches(image: &[u8], n: usize, at: usize, k: usize) -> bool
     requires { (512 * n ≤ length image.now) × (at < n) }
-    ensures { result ≡ childEntry image.now n (entry_at at k) }
+    ensures { result ≡ child_entry image.now n (entry_at at k) }
 {
     let b = number_at(image, at, k, 4);
     if n <= b {
@@ -41,7 +41,7 @@ fn child_ok(
     marks: &mut [u8],
 ) -> bool
     requires { (Room image.now t n marks.old) × (at < n) }
-    ensures { walked result marks.new ≡ followChild image.now n parent (entry_at at k) marks.old }
+    ensures { walked result marks.new ≡ follow_child image.now n parent (entry_at at k) marks.old }
 {
     if !child_matches(image, n, at, k) {
         return false;
@@ -73,9 +73,9 @@ fn directory_check(
     seen: &mut [u8],
     marks: &mut [u8],
 ) -> u32
-    requires { (Room image.now t n marks.old) × (DirectoryAt image.now n b d) × (left ≤ maxLevels) × (NoteRoom prints.old places.old seen.old) }
+    requires { (Room image.now t n marks.old) × (DirectoryAt image.now n b d) × (left ≤ max_levels) × (NoteRoom prints.old places.old seen.old) }
     ensures { visited result marks.new
-        ≡ walkEntries (walkChild left image.now n b) image.now (chain (next image.now) b d) d marks.old }
+        ≡ walk_entries (walk_child left image.now n b) image.now (chain (next image.now) b d) d marks.old }
 {
     if end_type(image, n, b, d) != 0xFF {
         return 5;
@@ -114,8 +114,8 @@ fn entry_check(
     seen: &mut [u8],
     marks: &mut [u8],
 ) -> u32
-    requires { (Room image.now t n marks.old) × (at < n) × (left ≤ maxLevels) × (NoteRoom prints.old places.old seen.old) }
-    ensures { visited result marks.new ≡ walkEntry (walkChild left image.now n b) image.now (entry_at at k) marks.old }
+    requires { (Room image.now t n marks.old) × (at < n) × (left ≤ max_levels) × (NoteRoom prints.old places.old seen.old) }
+    ensures { visited result marks.new ≡ walk_entry (walk_child left image.now n b) image.now (entry_at at k) marks.old }
 {
     if !super::directory::is_directory(super::directory::type_at(image, at, k)) {
         return 0;
@@ -142,7 +142,7 @@ fn visit_with(
     marks: &mut [u8],
 ) -> u32
     requires { (Room image.now t n marks.old) × (NoteRoom prints.old places.old seen.old) }
-    ensures { visited result marks.new ≡ walkRoot image.now n marks.old }
+    ensures { visited result marks.new ≡ walk_root image.now n marks.old }
 {
     let root = t + 1;
     if !super::directory::directory_ok(image, t, n, root, root, marks) {
@@ -157,7 +157,7 @@ fn visit_with(
 // The root and all below it: stages 4 and 5 of the whole tree.
 pub fn visit(image: &[u8], t: usize, n: usize, marks: &mut [u8]) -> u32
     requires { Room image.now t n marks.old }
-    ensures { visited result marks.new ≡ walkRoot image.now n marks.old }
+    ensures { visited result marks.new ≡ walk_root image.now n marks.old }
 {
     let mut prints = super::names::no_slots();
     let mut places = super::names::no_slots();

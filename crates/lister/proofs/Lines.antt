@@ -8,14 +8,14 @@ use lib.ListN.{length, get_or, drop}
 use lib.Seq.{drop-length}
 use Rattle.layout.specs.Lists.{within, keep, joined}
 use Rattle.layout.specs.Bytes.{be32, part}
-use Rattle.layout.specs.Limits.{maxListed}
+use Rattle.layout.specs.Limits.{max_listed}
 use Rattle.layout.specs.Refusals.{require}
-use Rattle.layout.specs.Geometry.{blockCount, rootBlock}
+use Rattle.layout.specs.Geometry.{block_count, root_block}
 use Rattle.layout.specs.Table.{next, chain}
-use Rattle.layout.specs.Directory.{slot_at, type_of, isFile, unpadded, name_of, files, root}
+use Rattle.layout.specs.Directory.{slot_at, type_of, is_file, unpadded, name_of, files, root}
 use Rattle.layout.specs.Check.{check}
-use Rattle.layout.specs.Listing.{entryLine, decimal, printed, fileLine, countLine, refusedLine, listing}
-use Rattle.lister.specs.Text.{slotLine, slotLines}
+use Rattle.layout.specs.Listing.{entry_line, decimal, printed, file_line, count_line, refused_line, listing}
+use Rattle.lister.specs.Text.{slot_line, slot_lines}
 use Rattle.layout.specs.Walks.Slots.{Place, entry_at}
 use Rattle.layout.proofs.Laws.Tests.{require-zero, accept-refused}
 use Rattle.layout.proofs.Walks.Homes.{root-at, root-chain}
@@ -39,78 +39,78 @@ module _ (f : List ℕ) (i : ℕ) where
     name-more x e z = rw (unpadded-next f i h z, e)
 
 -- the lines of slots
-pub entry-line : (s : List ℕ) (e k : ℕ) → e ≡ slot_at (root s) k → entryLine s e k ≡ fileLine s k
-unfolding fileLine
+pub entry-line : (s : List ℕ) (e k : ℕ) → e ≡ slot_at (root s) k → entry_line s e k ≡ file_line s k
+unfolding file_line
 entry-line s e k q = rw q
 
 module _ (s : List ℕ) (e k ty : ℕ) (et : ty ≡ type_of s e) where
-  pub slot-none : false ≡ isFile ty → slotLine s e k ≡ []
-  unfolding slotLine
+  pub slot-none : false ≡ is_file ty → slot_line s e k ≡ []
+  unfolding slot_line
   slot-none h = rw (← et, ← h)
 
-  pub slot-file : true ≡ isFile ty → slotLine s e k ≡ entryLine s e k
-  unfolding slotLine
+  pub slot-file : true ≡ is_file ty → slot_line s e k ≡ entry_line s e k
+  unfolding slot_line
   slot-file h = rw (← et, ← h)
 
 module _ (s : List ℕ) (k j : ℕ) where
-  pub lines_end : j ≡ 0 → slotLines s k j ≡ []
-  unfolding slotLines
+  pub lines_end : j ≡ 0 → slot_lines s k j ≡ []
+  unfolding slot_lines
   lines_end e = rw e
 
-  lines_keep : (t : Bool) (xs : List ℕ) → joined (fileLine s) (keep t k xs) ≡ cond t (fileLine s k) [] ++ joined (fileLine s) xs
+  lines_keep : (t : Bool) (xs : List ℕ) → joined (file_line s) (keep t k xs) ≡ cond t (file_line s k) [] ++ joined (file_line s) xs
   lines_keep true xs = refl
   lines_keep false xs = refl
 
-  pub lines_more : (e : ℕ) → e ≡ slot_at (root s) k → 0 < j → slotLines s k j ≡ slotLine s e k ++ slotLines s (k + 1) (j - 1)
-  unfolding slotLines slotLine
-  lines_more e q h = rw (interval-next k j h, entry-line s e k q, q) (lines_keep (isFile (type_of s (slot_at (root s) k))) _)
+  pub lines_more : (e : ℕ) → e ≡ slot_at (root s) k → 0 < j → slot_lines s k j ≡ slot_line s e k ++ slot_lines s (k + 1) (j - 1)
+  unfolding slot_lines slot_line
+  lines_more e q h = rw (interval-next k j h, entry-line s e k q, q) (lines_keep (is_file (type_of s (slot_at (root s) k))) _)
 
-  pub lines-turn : (first d b : ℕ) → chain (next s) first d ≡ root s → Place (chain (next s) first d) d b k j → 0 < j → slotLines s k j ≡ slotLine s (entry_at b k) k ++ slotLines s (k + 1) (j - 1)
+  pub lines-turn : (first d b : ℕ) → chain (next s) first d ≡ root s → Place (chain (next s) first d) d b k j → 0 < j → slot_lines s k j ≡ slot_line s (entry_at b k) k ++ slot_lines s (k + 1) (j - 1)
   lines-turn first d b e p h = lines_more (entry_at b k) (place-entry (chain (next s) first d) d b k j p ∙ ap (λ (ds : List ℕ). slot_at ds k) e) h
 
 -- the pieces of the lines, as they are written
-abbrev pub afterSize : ℕ → List ℕ → List ℕ
-afterSize blocks name = ((32 ∷ []) ++ decimal blocks) ++ ((32 ∷ []) ++ (printed name ++ (10 ∷ [])))
+abbrev pub after_size : ℕ → List ℕ → List ℕ
+after_size blocks name = ((32 ∷ []) ++ decimal blocks) ++ ((32 ∷ []) ++ (printed name ++ (10 ∷ [])))
 
-abbrev pub afterSlot : ℕ → ℕ → List ℕ → List ℕ
-afterSlot size blocks name = ((32 ∷ []) ++ decimal size) ++ afterSize blocks name
+abbrev pub after_slot : ℕ → ℕ → List ℕ → List ℕ
+after_slot size blocks name = ((32 ∷ []) ++ decimal size) ++ after_size blocks name
 
 pub entry-pieces : (s : List ℕ) (e k size blocks : ℕ) (field : List ℕ) → size ≡ be32 s (e + 8) → blocks ≡ be32 s (e + 12) → field ≡ part s (e + 48) 80
-    → entryLine s e k ≡ decimal k ++ afterSlot size blocks (unpadded field)
-unfolding entryLine name_of
+    → entry_line s e k ≡ decimal k ++ after_slot size blocks (unpadded field)
+unfolding entry_line name_of
 entry-pieces s e k size blocks field es eb ef = rw (es, eb, ef)
 
-abbrev pub afterUsed : ℕ → List ℕ
-afterUsed free = ((32 ∷ 102 ∷ 114 ∷ 101 ∷ 101 ∷ 32 ∷ []) ++ decimal free) ++ (10 ∷ [])
+abbrev pub after_used : ℕ → List ℕ
+after_used free = ((32 ∷ 102 ∷ 114 ∷ 101 ∷ 101 ∷ 32 ∷ []) ++ decimal free) ++ (10 ∷ [])
 
-abbrev pub afterTotal : ℕ → ℕ → List ℕ
-afterTotal used free = ((32 ∷ 117 ∷ 115 ∷ 101 ∷ 100 ∷ 32 ∷ []) ++ decimal used) ++ afterUsed free
+abbrev pub after_total : ℕ → ℕ → List ℕ
+after_total used free = ((32 ∷ 117 ∷ 115 ∷ 101 ∷ 100 ∷ 32 ∷ []) ++ decimal used) ++ after_used free
 
 pub count-pieces : (s : List ℕ) (used free : ℕ) → used ≡ be32 s 20 → free ≡ be32 s 24
-    → countLine s ≡ ((98 ∷ 108 ∷ 111 ∷ 99 ∷ 107 ∷ 115 ∷ 32 ∷ []) ++ decimal (blockCount s)) ++ afterTotal used free
-unfolding countLine
+    → count_line s ≡ ((98 ∷ 108 ∷ 111 ∷ 99 ∷ 107 ∷ 115 ∷ 32 ∷ []) ++ decimal (block_count s)) ++ after_total used free
+unfolding count_line
 count-pieces s used free eu ef = rw (eu, ef)
 
-pub refused-pieces : (number : ℕ) → refusedLine number ≡ ((114 ∷ 101 ∷ 102 ∷ 117 ∷ 115 ∷ 101 ∷ 100 ∷ 32 ∷ []) ++ decimal number) ++ (10 ∷ [])
-unfolding refusedLine
+pub refused-pieces : (number : ℕ) → refused_line number ≡ ((114 ∷ 101 ∷ 102 ∷ 117 ∷ 115 ∷ 101 ∷ 100 ∷ 32 ∷ []) ++ decimal number) ++ (10 ∷ [])
+unfolding refused_line
 refused-pieces number = refl
 
-pub list-pieces : (s : List ℕ) (e : check s ≡ 0) (d : ℕ) → d ≡ be32 s (entry_at (rootBlock (blockCount s)) 0 + 12) → countLine s ++ joined (fileLine s) (files s (root s)) ≡ countLine s ++ slotLines s 1 (4 * d - 2)
-unfolding files slotLines
+pub list-pieces : (s : List ℕ) (e : check s ≡ 0) (d : ℕ) → d ≡ be32 s (entry_at (root_block (block_count s)) 0 + 12) → count_line s ++ joined (file_line s) (files s (root s)) ≡ count_line s ++ slot_lines s 1 (4 * d - 2)
+unfolding files slot_lines
 list-pieces s e d ed =
     let l : length (root s) ≡ d = ap length (sym (root-chain s e d ed)) ∙ (root-at s e d ed).blocks.size in
     rw l
 
 -- the listing
-module _ (s : List ℕ) (number : ℕ) (e : number ≡ require (leb (length s) maxListed) 1 (check s)) where
-  pub refused-listing : (number ≡ 0 → ⊥) → refusedLine number ≡ listing s
+module _ (s : List ℕ) (number : ℕ) (e : number ≡ require (leb (length s) max_listed) 1 (check s)) where
+  pub refused-listing : (number ≡ 0 → ⊥) → refused_line number ≡ listing s
   unfolding listing
-  refused-listing h = rw (← e) (sym (accept-refused number _ (refusedLine number) h))
+  refused-listing h = rw (← e) (sym (accept-refused number _ (refused_line number) h))
 
   module _ (z : number ≡ 0) where
     pub listed-sound : check s ≡ 0
-    listed-sound = (require-zero (leb (length s) maxListed) 0 (check s) (sym e ∙ z)).1
+    listed-sound = (require-zero (leb (length s) max_listed) 0 (check s) (sym e ∙ z)).1
 
-    pub accepted-listing : countLine s ++ joined (fileLine s) (files s (root s)) ≡ listing s
+    pub accepted-listing : count_line s ++ joined (file_line s) (files s (root s)) ≡ listing s
     unfolding listing
     accepted-listing = rw (← e, z)

@@ -2,8 +2,8 @@
 use Rattle.std.specs.Prelude.{ℕ, ◌+◌, ◌*◌, ◌≡◌, List, [], cond, length}
 use Rattle.layout.specs.Lists.{interval, select, joined}
 use Rattle.layout.specs.Bytes.{splice}
-use Rattle.layout.specs.Directory.{slot_at, type_of, isFile, root}
-use Rattle.layout.specs.Listing.{entryLine, fileLine}
+use Rattle.layout.specs.Directory.{slot_at, type_of, is_file, root}
+use Rattle.layout.specs.Listing.{entry_line, file_line}
 
 -- what writing bytes at an offset leaves: the buffer, and the offset after them
 pub record TextPut (before : List ℕ) (at : ℕ) (bytes after : List ℕ) (stop : ℕ) : Type 0 where
@@ -11,12 +11,12 @@ pub record TextPut (before : List ℕ) (at : ℕ) (bytes after : List ℕ) (stop
   pub offset : stop ≡ at + length bytes
 
 -- the longest listing: a line of counts, and a line for each of 254 slots, each number of at most ten digits and each name of at most 80 bytes
-abbrev pub maxListing : ℕ
-maxListing = 50 + 114 * 254
+abbrev pub max_listing : ℕ
+max_listing = 50 + 114 * 254
 
 -- what is written for a slot whose entry is at e, nothing if it is no file; and for the slots k to k + j − 1 of the root
-unfoldable pub slotLine : List ℕ → ℕ → ℕ → List ℕ
-slotLine s e k = cond (isFile (type_of s e)) (entryLine s e k) []
+unfoldable pub slot_line : List ℕ → ℕ → ℕ → List ℕ
+slot_line s e k = cond (is_file (type_of s e)) (entry_line s e k) []
 
-unfoldable pub slotLines : List ℕ → ℕ → ℕ → List ℕ
-slotLines s k j = joined (fileLine s) (select (λ x. isFile (type_of s (slot_at (root s) x))) (interval k j))
+unfoldable pub slot_lines : List ℕ → ℕ → ℕ → List ℕ
+slot_lines s k j = joined (file_line s) (select (λ x. is_file (type_of s (slot_at (root s) x))) (interval k j))

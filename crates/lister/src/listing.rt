@@ -1,14 +1,14 @@
 // The listing of an image.
 ghost use Rattle.std.specs.Prelude.{◌≡◌, ◌++◌, ◌+◌, ◌-◌, ◌*◌, ◌≤◌, ◌<◌, leb, length};
 ghost use Rattle.layout.specs.Bytes.{splice};
-ghost use Rattle.layout.specs.Limits.{maxListed};
+ghost use Rattle.layout.specs.Limits.{max_listed};
 ghost use Rattle.layout.specs.Lists.{joined};
 ghost use Rattle.layout.specs.Refusals.{require};
 ghost use Rattle.layout.specs.Table.{next, chain};
 ghost use Rattle.layout.specs.Directory.{files, root};
 ghost use Rattle.layout.specs.Check.{check};
-ghost use Rattle.layout.specs.Listing.{entryLine, fileLine, countLine, refusedLine, listing};
-ghost use Rattle.lister.specs.Text.{TextPut, maxListing, slotLine, slotLines};
+ghost use Rattle.layout.specs.Listing.{entry_line, file_line, count_line, refused_line, listing};
+ghost use Rattle.lister.specs.Text.{TextPut, max_listing, slot_line, slot_lines};
 ghost use Rattle.layout.specs.Walks.Shapes.{DirectoryAt};
 ghost use Rattle.layout.specs.Walks.Slots.{entry_at};
 
@@ -23,8 +23,8 @@ pub const MAX_LISTING: usize = 50 + 114 * 254;
 
 // The line of the file in slot k, which is in block b.
 fn entry_line(image: &[u8], b: usize, k: usize, out: &mut [u8], at: usize) -> usize
-    requires { (512 * b + 512 ≤ length image.now) × (at + length (entryLine image.now (entry_at b k) k) ≤ length out.old) }
-    ensures { TextPut out.old at (entryLine image.now (entry_at b k) k) out.new result }
+    requires { (512 * b + 512 ≤ length image.now) × (at + length (entry_line image.now (entry_at b k) k) ≤ length out.old) }
+    ensures { TextPut out.old at (entry_line image.now (entry_at b k) k) out.new result }
 {
     let size = number_at(image, b, k, 8);
     let blocks = number_at(image, b, k, 12);
@@ -39,8 +39,8 @@ fn entry_line(image: &[u8], b: usize, k: usize, out: &mut [u8], at: usize) -> us
 
 // The line of slot k, which is in block b, if it is a file.
 fn slot_line(image: &[u8], b: usize, k: usize, out: &mut [u8], at: usize) -> usize
-    requires { (512 * b + 512 ≤ length image.now) × (at + length (slotLine image.now (entry_at b k) k) ≤ length out.old) }
-    ensures { TextPut out.old at (slotLine image.now (entry_at b k) k) out.new result }
+    requires { (512 * b + 512 ≤ length image.now) × (at + length (slot_line image.now (entry_at b k) k) ≤ length out.old) }
+    ensures { TextPut out.old at (slot_line image.now (entry_at b k) k) out.new result }
 {
     if !layout::directory::is_file(layout::directory::type_at(image, b, k)) {
         return at;
@@ -50,8 +50,8 @@ fn slot_line(image: &[u8], b: usize, k: usize, out: &mut [u8], at: usize) -> usi
 
 // The lines of the files of the root, whose d blocks start at `first`.
 fn file_lines(image: &[u8], n: usize, first: usize, d: usize, out: &mut [u8], at: usize) -> usize
-    requires { (DirectoryAt image.now n first d) × (chain (next image.now) first d ≡ root image.now) × (at + length (slotLines image.now 1 (4 * d - 2)) ≤ length out.old) }
-    ensures { TextPut out.old at (slotLines image.now 1 (4 * d - 2)) out.new result }
+    requires { (DirectoryAt image.now n first d) × (chain (next image.now) first d ≡ root image.now) × (at + length (slot_lines image.now 1 (4 * d - 2)) ≤ length out.old) }
+    ensures { TextPut out.old at (slot_lines image.now 1 (4 * d - 2)) out.new result }
 {
     let mut p = at;
     let mut b = first;
@@ -68,8 +68,8 @@ fn file_lines(image: &[u8], n: usize, first: usize, d: usize, out: &mut [u8], at
 
 // "blocks 16 used 6 free 10"
 fn count_line(image: &[u8], out: &mut [u8]) -> usize
-    requires { (512 ≤ length image.now) × (length (countLine image.now) ≤ length out.old) }
-    ensures { TextPut out.old 0 (countLine image.now) out.new result }
+    requires { (512 ≤ length image.now) × (length (count_line image.now) ≤ length out.old) }
+    ensures { TextPut out.old 0 (count_line image.now) out.new result }
 {
     let n = image.len() / 512;
     let used = layout::number::header_number(image, 20);
@@ -82,8 +82,8 @@ fn count_line(image: &[u8], out: &mut [u8]) -> usize
 
 // "refused 5"
 fn refused_line(number: usize, out: &mut [u8]) -> usize
-    requires { length (refusedLine number) ≤ length out.old }
-    ensures { TextPut out.old 0 (refusedLine number) out.new result }
+    requires { length (refused_line number) ≤ length out.old }
+    ensures { TextPut out.old 0 (refused_line number) out.new result }
 {
     let p = text::put_labelled(out, 0, b"refused ", number);
     text::put_byte(out, p, b'\n')
@@ -91,8 +91,8 @@ fn refused_line(number: usize, out: &mut [u8]) -> usize
 
 // The list of a sound image.
 fn list(image: &[u8], out: &mut [u8]) -> usize
-    requires { (check image.now ≡ 0) × (length (countLine image.now ++ joined (fileLine image.now) (files image.now (root image.now))) ≤ length out.old) }
-    ensures { TextPut out.old 0 (countLine image.now ++ joined (fileLine image.now) (files image.now (root image.now))) out.new result }
+    requires { (check image.now ≡ 0) × (length (count_line image.now ++ joined (file_line image.now) (files image.now (root image.now))) ≤ length out.old) }
+    ensures { TextPut out.old 0 (count_line image.now ++ joined (file_line image.now) (files image.now (root image.now))) out.new result }
 {
     let n = image.len() / 512;
     let first = layout::geometry::root_block(n);
@@ -103,7 +103,7 @@ fn list(image: &[u8], out: &mut [u8]) -> usize
 
 // The number of the refusal, or 0.
 fn refusal(image: &[u8]) -> usize
-    ensures { result ≡ require (leb (length image.now) maxListed) 1 (check image.now) }
+    ensures { result ≡ require (leb (length image.now) max_listed) 1 (check image.now) }
 {
     if MAX_LISTED < image.len() {
         return 1;
@@ -113,7 +113,7 @@ fn refusal(image: &[u8]) -> usize
 
 // Writes the listing of an image at the start of a buffer, and gives its length.
 pub fn render(image: &[u8], out: &mut [u8]) -> usize
-    requires { maxListing ≤ length out.old }
+    requires { max_listing ≤ length out.old }
     ensures { (out.new ≡ splice out.old 0 (listing image.now)) × (result ≡ length (listing image.now)) }
 {
     let number = refusal(image);

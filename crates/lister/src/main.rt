@@ -1,6 +1,6 @@
 // The lister: reads an image from standard input, and writes its listing or the refusal to standard output. A read that fails ends the input.
 ghost use Rattle.std.specs.Prelude.{◌≡◌, length};
-ghost use Rattle.lister.specs.Text.{maxListing};
+ghost use Rattle.lister.specs.Text.{max_listing};
 
 mod listing;
 mod text;
@@ -15,7 +15,7 @@ fn input_buffer() -> [u8; INPUT]
 }
 
 fn listing_buffer() -> [u8; listing::MAX_LISTING]
-    ensures { maxListing ≡ length result }
+    ensures { max_listing ≡ length result }
 {
     [0; listing::MAX_LISTING]
 }

@@ -5,14 +5,14 @@ use mathlib.Core.Bool.{true}
 use mathlib.Core.List.{List, [], ◌∷◌}
 use lib.ListN.{replicate}
 use Rattle.layout.specs.Bytes.{splice}
-use Rattle.layout.specs.Directory.{goodName}
-use Rattle.layout.specs.Paths.{cut, parts, pathOk, shallow}
-use Rattle.volume.specs.Change.{create, write, delete, createDirectory, move}
+use Rattle.layout.specs.Directory.{good_name}
+use Rattle.layout.specs.Paths.{cut, parts, path_ok, shallow}
+use Rattle.volume.specs.Change.{create, write, delete, create_directory, move}
 use Rattle.volume.specs.Views.{subject as path-of, further as path-further}
 use Rattle.store.specs.Change.{plain, subject, further}
 use Rattle.model.specs.Model.{Model, empty, set_at, becomes, step}
-use Rattle.model.specs.Looks.{noFile, readIn}
-use Rattle.model.specs.Refusals.{inFolder, newNumber, roomNumber, refusalIn}
+use Rattle.model.specs.Looks.{no_file, read_in}
+use Rattle.model.specs.Refusals.{in_folder, new_number, room_number, refusal_in}
 
 abbrev a : List ℕ
 a = 47 ∷ 65 ∷ []
@@ -30,35 +30,35 @@ two_blocks : m.free ≡ 8
 unfolding step set_at becomes subject path-of further path-further splice
 two_blocks = refl
 
-last_byte : readIn m a 512 (0 ∷ 0 ∷ []) ≡ record { number = 0; count = 1; buffer = 9 ∷ 0 ∷ [] }
-unfolding step set_at becomes subject path-of further path-further splice readIn noFile parts cut pathOk shallow goodName
+last_byte : read_in m a 512 (0 ∷ 0 ∷ []) ≡ record { number = 0; count = 1; buffer = 9 ∷ 0 ∷ [] }
+unfolding step set_at becomes subject path-of further path-further splice read_in no_file parts cut path_ok shallow good_name
 last_byte = refl
 
-taken : refusalIn true true m (plain (create a 0x60 0 0 0 0 9)) ≡ 11
-unfolding step set_at becomes subject path-of further path-further splice refusalIn newNumber inFolder parts cut pathOk shallow goodName
+taken : refusal_in true true m (plain (create a 0x60 0 0 0 0 9)) ≡ 11
+unfolding step set_at becomes subject path-of further path-further splice refusal_in new_number in_folder parts cut path_ok shallow good_name
 taken = refl
 
-no-parent : refusalIn true true m (plain (create inside 0x60 0 0 0 0 9)) ≡ 10
-unfolding step set_at becomes subject path-of further path-further splice refusalIn newNumber inFolder parts cut pathOk shallow goodName
+no-parent : refusal_in true true m (plain (create inside 0x60 0 0 0 0 9)) ≡ 10
+unfolding step set_at becomes subject path-of further path-further splice refusal_in new_number in_folder parts cut path_ok shallow good_name
 no-parent = refl
 
-beyond : refusalIn true true m (plain (write a 514 [] 9)) ≡ 12
-unfolding step set_at becomes subject path-of further path-further splice refusalIn noFile parts cut pathOk shallow goodName
+beyond : refusal_in true true m (plain (write a 514 [] 9)) ≡ 12
+unfolding step set_at becomes subject path-of further path-further splice refusal_in no_file parts cut path_ok shallow good_name
 beyond = refl
 
-no_room : refusalIn true true m (plain (createDirectory (47 ∷ 66 ∷ []) 0x20 0 0 0 0 9 9)) ≡ 14
-unfolding step set_at becomes subject path-of further path-further splice refusalIn roomNumber newNumber inFolder parts cut pathOk shallow goodName
-no_room = refl
+no-room : refusal_in true true m (plain (create_directory (47 ∷ 66 ∷ []) 0x20 0 0 0 0 9 9)) ≡ 14
+unfolding step set_at becomes subject path-of further path-further splice refusal_in room_number new_number in_folder parts cut path_ok shallow good_name
+no-room = refl
 
 abbrev n : Model
 n = step m (plain (move a b))
 
-moved-there : readIn n b 512 (0 ∷ 0 ∷ []) ≡ record { number = 0; count = 1; buffer = 9 ∷ 0 ∷ [] }
-unfolding step set_at becomes subject path-of further path-further splice readIn noFile parts cut pathOk shallow goodName
+moved-there : read_in n b 512 (0 ∷ 0 ∷ []) ≡ record { number = 0; count = 1; buffer = 9 ∷ 0 ∷ [] }
+unfolding step set_at becomes subject path-of further path-further splice read_in no_file parts cut path_ok shallow good_name
 moved-there = refl
 
-moved-away : refusalIn true true n (plain (delete a)) ≡ 10
-unfolding step set_at becomes subject path-of further path-further splice refusalIn noFile parts cut pathOk shallow goodName
+moved-away : refusal_in true true n (plain (delete a)) ≡ 10
+unfolding step set_at becomes subject path-of further path-further splice refusal_in no_file parts cut path_ok shallow good_name
 moved-away = refl
 
 moved-free : n.free ≡ 8

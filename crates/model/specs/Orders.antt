@@ -12,7 +12,7 @@ asks (creates path type user group permissions flags time) = create path type us
 asks (writes path offset bytes time) = write path offset bytes time
 asks (deletes path) = delete path
 
-abbrev pub pathOf : Clerk → List ℕ
-pathOf (creates path type user group permissions flags time) = path
-pathOf (writes path offset bytes time) = path
-pathOf (deletes path) = path
+abbrev pub path_of : Clerk → List ℕ
+path_of (creates path type user group permissions flags time) = path
+path_of (writes path offset bytes time) = path
+path_of (deletes path) = path

@@ -2,14 +2,14 @@
 // Tests joined by `&` and `|` are all made; one after `&&` is made only where those before it hold.
 ghost use Rattle.std.specs.Prelude.{◌+◌, ◌-◌, ◌*◌, ◌/◌, ◌%◌, ◌≤◌, ◌<◌, true, ◌&&◌, ◌≡◌, length, get_or, eqb, ltb};
 ghost use Rattle.layout.specs.Lists.{interval, every};
-ghost use Rattle.layout.specs.Limits.{maxBlocks};
+ghost use Rattle.layout.specs.Limits.{max_blocks};
 ghost use Rattle.layout.specs.Bytes.{be32};
-ghost use Rattle.layout.specs.Geometry.{rootBlock};
-ghost use Rattle.layout.specs.Table.{next, chain, chainOk};
-ghost use Rattle.layout.specs.Directory.{firstBlock, blocksOf, nameOk, directory};
-ghost use Rattle.layout.specs.Check.{check, stage1, stage2, stage3, stage7, fileOk, directoryEntryOk, slotOk};
-ghost use Rattle.plain_check.specs.Plain.{one, holds, plainDirectoryOk, plainChildOk, count, meet, toured, tourEntries, tourChild, askTree, answer, counted, plainStage6};
-ghost use Rattle.plain_check.specs.Walks.{far, word, after, sameField, newField, newFrom, fileAnswer, Volume, Stands, Upto};
+ghost use Rattle.layout.specs.Geometry.{root_block};
+ghost use Rattle.layout.specs.Table.{next, chain, chain_ok};
+ghost use Rattle.layout.specs.Directory.{first_block, blocks_of, name_ok, directory};
+ghost use Rattle.layout.specs.Check.{check, stage1, stage2, stage3, stage7, file_ok, directory_entry_ok, slot_ok};
+ghost use Rattle.plain_check.specs.Plain.{one, holds, plain_directory_ok, plain_child_ok, count, meet, toured, tour_entries, tour_child, ask_tree, answer, counted, plain_stage6};
+ghost use Rattle.plain_check.specs.Walks.{far, word, after, same_field, new_field, new_from, file_answer, Volume, Stands, Upto};
 
 use layout::{directory, limits};
 
@@ -81,8 +81,8 @@ fn holds(image: &[u8], b: usize, first: usize, k: usize) -> usize
 
 // Whether the chain of k blocks from `first` on is right: all are above the table and below n, and the last has value 1.
 fn chain_ok(image: &[u8], n: usize, first: usize, k: usize) -> bool
-    requires { (n ≤ maxBlocks) × (first < word) }
-    ensures { result ≡ chainOk (next image.now) n first k }
+    requires { (n ≤ max_blocks) × (first < word) }
+    ensures { result ≡ chain_ok (next image.now) n first k }
 {
     let mut good = true;
     let mut at = first;
@@ -120,8 +120,8 @@ fn numbered(image: &[u8], n: usize) -> bool
 
 // Stage 4: whether a directory starts at block b.
 fn directory_ok(image: &[u8], n: usize, b: usize, parent: usize) -> bool
-    requires { (n ≤ maxBlocks) × (b < word) }
-    ensures { result ≡ plainDirectoryOk image.now n b parent }
+    requires { (n ≤ max_blocks) × (b < word) }
+    ensures { result ≡ plain_directory_ok image.now n b parent }
 {
     let e = 512 * b;
     let d = number(image, e + 12);
@@ -133,7 +133,7 @@ fn directory_ok(image: &[u8], n: usize, b: usize, parent: usize) -> bool
 // Whether the entries at a and b have the same 80 bytes of name.
 fn same_name(image: &[u8], a: usize, b: usize) -> bool
     requires { (a ≤ far) × (b ≤ far) }
-    ensures { result ≡ sameField image.now a b }
+    ensures { result ≡ same_field image.now a b }
 {
     for i in 48..128 {
         if byte(image, a + i) != byte(image, b + i) {
@@ -175,7 +175,7 @@ fn meet(image: &[u8], levels: usize, b: usize, d: usize, still: usize, before: u
 // Whether none of the k blocks from b on is in one of the first `met` directories.
 fn new_blocks(image: &[u8], n: usize, met: usize, b: usize, k: usize) -> bool
     requires { (Volume image.now n) × (1 ≤ met) × (met ≤ n) × (b < word) }
-    ensures { result ≡ newFrom image.now met b k }
+    ensures { result ≡ new_from image.now met b k }
 {
     let root = layout::geometry::root_block(n);
     let mut at = b;
@@ -192,7 +192,7 @@ fn new_blocks(image: &[u8], n: usize, met: usize, b: usize, k: usize) -> bool
 // Stage 4 of the child whose entry is at e, after `met` directories: it tells the same size and name, and none of its blocks is in one of these.
 fn child_ok(image: &[u8], n: usize, parent: usize, e: usize, met: usize) -> bool
     requires { (Volume image.now n) × (e + 128 ≤ length image.now) × (1 ≤ met) × (met ≤ n) }
-    ensures { result ≡ plainChildOk image.now n parent e && (ltb met n && newFrom image.now met (firstBlock image.now e) (blocksOf image.now (512 * firstBlock image.now e))) }
+    ensures { result ≡ plain_child_ok image.now n parent e && (ltb met n && new_from image.now met (first_block image.now e) (blocks_of image.now (512 * first_block image.now e))) }
 {
     let b = number(image, e + 4);
     let size = number(image, 512 * b + 12);
@@ -203,7 +203,7 @@ fn child_ok(image: &[u8], n: usize, parent: usize, e: usize, met: usize) -> bool
 // Whether the entry at e has a good name: 1 to 80 bytes, none of them 0 or `/`, and zeros after it.
 fn name_ok(image: &[u8], e: usize) -> bool
     requires { (e + 128 ≤ length image.now) × (e ≤ word * 512) }
-    ensures { result ≡ nameOk image.now e }
+    ensures { result ≡ name_ok image.now e }
 {
     let mut good = (byte(image, e + 48) != 0) & (byte(image, e + 48) != 0x2F);
     for i in e + 48..e + 127 {
@@ -216,7 +216,7 @@ fn name_ok(image: &[u8], e: usize) -> bool
 // Whether the entry at e is a right file's: its attribute fields are 0, or a block and 1 to 8; it has as many blocks as its size needs.
 fn file_ok(image: &[u8], e: usize) -> bool
     requires { (e + 128 ≤ length image.now) × (e ≤ word * 512) }
-    ensures { result ≡ fileOk image.now e }
+    ensures { result ≡ file_ok image.now e }
 {
     let size = number(image, e + 8);
     let a = number(image, e + 32);
@@ -230,7 +230,7 @@ fn file_ok(image: &[u8], e: usize) -> bool
 // Whether the entry at e is a right one of a child directory: its attribute fields and its size are 0.
 fn directory_entry_ok(image: &[u8], e: usize) -> bool
     requires { (e + 128 ≤ length image.now) × (e ≤ word * 512) }
-    ensures { result ≡ directoryEntryOk image.now e }
+    ensures { result ≡ directory_entry_ok image.now e }
 {
     let none = (number(image, e + 32) == 0) & (number(image, e + 36) == 0);
     name_ok(image, e) & (none & (number(image, e + 8) == 0))
@@ -239,7 +239,7 @@ fn directory_entry_ok(image: &[u8], e: usize) -> bool
 // Whether the slot at e is free, a right file or a right child directory.
 fn slot_ok(image: &[u8], e: usize) -> bool
     requires { (e + 128 ≤ length image.now) × (e ≤ word * 512) }
-    ensures { result ≡ slotOk image.now e }
+    ensures { result ≡ slot_ok image.now e }
 {
     let kind = byte(image, e);
     let file = directory::is_file(kind) & file_ok(image, e);
@@ -249,8 +249,8 @@ fn slot_ok(image: &[u8], e: usize) -> bool
 
 // Whether the k-th entry of the directory at block d, the one at e, is free or has a name that no slot before it has.
 fn new_name(image: &[u8], d: usize, k: usize, e: usize) -> bool
-    requires { (d < word) × (2 ≤ k) × (k < 4 * blocksOf image.now (512 * d)) × (e ≤ far) }
-    ensures { result ≡ newField image.now (directory image.now d) e (k - 1) }
+    requires { (d < word) × (2 ≤ k) × (k < 4 * blocks_of image.now (512 * d)) × (e ≤ far) }
+    ensures { result ≡ new_field image.now (directory image.now d) e (k - 1) }
 {
     let mut o = 512 * d;
     for j in 2..k {
@@ -272,7 +272,7 @@ struct Visit {
 // Stages 4 and 5 of the directory at block d, which has met its own stage 4, and of all below it: its end slot, then slot by slot, a child wholly before the next.
 fn tour(image: &[u8], n: usize, levels: usize, d: usize, before: usize) -> Visit
     requires { (Volume image.now n) × (Stands image.now n d) × (1 ≤ before) × (before ≤ n) }
-    ensures equal { toured result.fault result.met ≡ tourEntries (tourChild levels image.now n d) image.now (directory image.now d) before }
+    ensures equal { toured result.fault result.met ≡ tour_entries (tour_child levels image.now n d) image.now (directory image.now d) before }
     ensures bound { (result.fault ≡ 0 → 1 ≤ result.met) × (result.met ≤ n) }
 {
     let size = number(image, 512 * d + 12);
@@ -310,7 +310,7 @@ enum Question {
 
 // What the chain of k blocks from `first` on answers: a wrong one claims more than n.
 fn ask(image: &[u8], n: usize, q: Question, first: usize, k: usize) -> usize
-    requires { (n ≤ maxBlocks) × (first < word) × (k < word) }
+    requires { (n ≤ max_blocks) × (first < word) × (k < word) }
     ensures { (result ≡ answer q image.now n first k) × (result ≤ 2 * word) }
 {
     match q {
@@ -321,8 +321,8 @@ fn ask(image: &[u8], n: usize, q: Question, first: usize, k: usize) -> usize
 
 // What the two chains of the entry at e answer together, if it is a file's.
 fn ask_file(image: &[u8], n: usize, q: Question, e: usize) -> usize
-    requires { (n ≤ maxBlocks) × (e ≤ word * 512) }
-    ensures { (result ≡ fileAnswer q image.now n e) × (result ≤ 4 * word) }
+    requires { (n ≤ max_blocks) × (e ≤ word * 512) }
+    ensures { (result ≡ file_answer q image.now n e) × (result ≤ 4 * word) }
 {
     if !directory::is_file(byte(image, e)) {
         return 0;
@@ -333,8 +333,8 @@ fn ask_file(image: &[u8], n: usize, q: Question, e: usize) -> usize
 
 // Adds to `before` what all chains of the directory at block d and of those below it answer; above n it stops.
 fn tally(image: &[u8], n: usize, q: Question, levels: usize, d: usize, before: usize) -> usize
-    requires { (n ≤ maxBlocks) × (d < word) × (before ≤ 5 * word) }
-    ensures { Upto n result (before + askTree (answer q image.now n) levels image.now d) }
+    requires { (n ≤ max_blocks) × (d < word) × (before ≤ 5 * word) }
+    ensures { Upto n result (before + ask_tree (answer q image.now n) levels image.now d) }
 {
     let size = number(image, 512 * d + 12);
     let mut sum = before + ask(image, n, q, d, size);
@@ -369,7 +369,7 @@ fn entries_are(image: &[u8], b: usize, end: usize, value: usize) -> bool
 // Whether as many chains hold each block above the table as its entry says: none where it is 0, else one.
 fn all_counted(image: &[u8], n: usize) -> bool
     requires { Volume image.now n }
-    ensures { result ≡ every (counted image.now) (interval (rootBlock n) (n - rootBlock n)) }
+    ensures { result ≡ every (counted image.now) (interval (root_block n) (n - root_block n)) }
 {
     let root = layout::geometry::root_block(n);
     for b in root..n {
@@ -384,7 +384,7 @@ fn all_counted(image: &[u8], n: usize) -> bool
 // Stage 6: every chain is right, entries 0 to t are 1, every other block is held as its entry says, and from n on the entries are 0.
 fn table_ok(image: &[u8], n: usize) -> bool
     requires { Volume image.now n }
-    ensures { result ≡ plainStage6 image.now }
+    ensures { result ≡ plain_stage6 image.now }
 {
     let t = layout::geometry::table_blocks(n);
     let claims = tally(image, n, Question::Claims, limits::MAX_LEVELS, t + 1, 0);

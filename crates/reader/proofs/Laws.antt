@@ -11,62 +11,62 @@ use borrow.Author.Tests.{eqb-true, leb-true}
 use Rattle.layout.specs.Refusals.{accept}
 use Rattle.layout.specs.Lists.{every, joined}
 use Rattle.layout.specs.Bytes.{part, splice}
-use Rattle.layout.specs.Directory.{size_of, isFile, content}
+use Rattle.layout.specs.Directory.{size_of, is_file, content}
 use Rattle.layout.specs.Paths.{entry_of}
 use Rattle.layout.specs.declared.reading.Filled.{Filled}
-use Rattle.layout.specs.Looks.{ReadAnswer, read, readRefusal, lookupRefusal}
-use Rattle.layout.specs.Answers.{readAnswer}
-use Rattle.layout.proofs.Laws.Tests.{and_split, firstOf-zero, accept-either}
+use Rattle.layout.specs.Looks.{ReadAnswer, read, read_refusal, lookup_refusal}
+use Rattle.layout.specs.Answers.{read_answer}
+use Rattle.layout.proofs.Laws.Tests.{and_split, first_of-zero, accept-either}
 use Rattle.layout.proofs.Laws.Bytes.{be32-small, part-splice}
 use Rattle.layout.proofs.Laws.Sound.{sound}
 use Rattle.layout.proofs.Laws.Files.{length-content}
 use Rattle.layout.proofs.Laws.Looks.{lookup-sound, lookup-file}
-use Rattle.reader.specs.Readings.{answers, given, lastCount}
+use Rattle.reader.specs.Readings.{answers, given, last_count}
 
 -- the answer of a read, by the case that it is
-pub read-case : {v w : Filled} (b : List ℕ) (a : ReadAnswer) → v ≡ w → readAnswer v b ≡ a → readAnswer w b ≡ a
-read-case b a e h = ap (λ (x : Filled). readAnswer x b) (sym e) ∙ h
+pub read-case : {v w : Filled} (b : List ℕ) (a : ReadAnswer) → v ≡ w → read_answer v b ≡ a → read_answer w b ≡ a
+read-case b a e h = ap (λ (x : Filled). read_answer x b) (sym e) ∙ h
 
 module _ (s path : List ℕ) where
   abbrev bytes : List ℕ
-  bytes = content s (entry_of isFile s path)
+  bytes = content s (entry_of is_file s path)
 
   abbrev size : ℕ
-  size = size_of s (entry_of isFile s path)
+  size = size_of s (entry_of is_file s path)
 
   -- where the read ends is a number of 64 bits, whatever the position
   pub place-fits : (position : ℕ) (buffer : List ℕ) → ((i : ℕ) → get_or s i 0 < 256) → position < 2 ^ 64 → position + (read s path position buffer).count < 2 ^ 64
   unfolding read
   place-fits position buffer small h =
       let z : position + 0 < 2 ^ 64 = omega arith in
-      let g : position + min (length buffer) (size - position) < 2 ^ 64 = omega (arith, be32-small s (entry_of isFile s path + 8) small) in
-      accept-either (λ (r : ReadAnswer). position + r.count < 2 ^ 64) (readRefusal s path position) _ _ g z
+      let g : position + min (length buffer) (size - position) < 2 ^ 64 = omega (arith, be32-small s (entry_of is_file s path + 8) small) in
+      accept-either (λ (r : ReadAnswer). position + r.count < 2 ^ 64) (read_refusal s path position) _ _ g z
 
   -- what an accepted read has asked, and what it gives
-  accepted : (position : ℕ) (buffer : List ℕ) → (read s path position buffer).number ≡ 0 → readRefusal s path position ≡ 0
+  accepted : (position : ℕ) (buffer : List ℕ) → (read s path position buffer).number ≡ 0 → read_refusal s path position ≡ 0
   unfolding read
-  accepted position buffer e = go (readRefusal s path position) _ _ refl e
+  accepted position buffer e = go (read_refusal s path position) _ _ refl e
     where
       go : (r : ℕ) (x y : ReadAnswer) → y.number ≡ r → (accept {A = ReadAnswer} r x y).number ≡ 0 → r ≡ 0
       go zero x y q e = refl
       go (suc r) x y q e = sym q ∙ e
 
-  count-is : (position : ℕ) (buffer : List ℕ) → readRefusal s path position ≡ 0 → (read s path position buffer).count ≡ min (length buffer) (size - position)
+  count-is : (position : ℕ) (buffer : List ℕ) → read_refusal s path position ≡ 0 → (read s path position buffer).count ≡ min (length buffer) (size - position)
   unfolding read
   count-is position buffer e = rw e
 
-  buffer-is : (position : ℕ) (buffer : List ℕ) → readRefusal s path position ≡ 0
+  buffer-is : (position : ℕ) (buffer : List ℕ) → read_refusal s path position ≡ 0
       → (read s path position buffer).buffer ≡ splice buffer 0 (part bytes position (min (length buffer) (size - position)))
   unfolding read
   buffer-is position buffer e = rw e
 
-  all-bytes : (position : ℕ) → readRefusal s path position ≡ 0 → length bytes ≡ size
-  unfolding readRefusal
+  all-bytes : (position : ℕ) → read_refusal s path position ≡ 0 → length bytes ≡ size
+  unfolding read_refusal
   all-bytes position e =
-      let l = (firstOf-zero (lookupRefusal s path) _ e).0 in
-      length-content s (sound s (lookup-sound s path l)) (entry_of isFile s path) (lookup-file s path l)
+      let l = (first_of-zero (lookup_refusal s path) _ e).0 in
+      length-content s (sound s (lookup-sound s path l)) (entry_of is_file s path) (lookup-file s path l)
 
-  given_is : (position : ℕ) (buffer : List ℕ) → readRefusal s path position ≡ 0
+  given_is : (position : ℕ) (buffer : List ℕ) → read_refusal s path position ≡ 0
       → given (read s path position buffer) ≡ part bytes position (read s path position buffer).count
   given_is position buffer e =
       let k : ℕ = min (length buffer) (size - position) in
@@ -82,7 +82,7 @@ module _ (s path : List ℕ) where
   pub read-from : (bs : List (List ℕ)) (position k : ℕ) → (k ≡ 0 → length bytes ≤ position)
       → every (λ (b : List ℕ). leb 1 (length b)) bs ≡ true
       → every (λ (r : ReadAnswer). eqb r.number 0) (answers s path position bs) ≡ true
-      → lastCount k (answers s path position bs) ≡ 0
+      → last_count k (answers s path position bs) ≡ 0
       → joined given (answers s path position bs) ≡ drop position bytes
   unfolding answers
   read-from [] position k end some ok last = sym (drop_of_length-le bytes (end last))

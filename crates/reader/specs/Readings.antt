@@ -2,7 +2,7 @@
 -- gives none, joined are the file's bytes."
 use Rattle.std.specs.Prelude.{ℕ, ◌+◌, true, List, [], ◌∷◌, ◌≡◌, leb, eqb, length, take}
 use Rattle.layout.specs.Lists.{every, joined}
-use Rattle.layout.specs.Directory.{isFile, content}
+use Rattle.layout.specs.Directory.{is_file, content}
 use Rattle.layout.specs.Paths.{entry_of}
 use Rattle.layout.specs.Looks.{ReadAnswer, read}
 
@@ -16,14 +16,14 @@ abbrev pub given : ReadAnswer → List ℕ
 given r = take r.count r.buffer
 
 -- the count of the last answer, or c if there is none
-abbrev pub lastCount : ℕ → List ReadAnswer → ℕ
-lastCount c [] = c
-lastCount c (r ∷ rs) = lastCount r.count rs
+abbrev pub last_count : ℕ → List ReadAnswer → ℕ
+last_count c [] = c
+last_count c (r ∷ rs) = last_count r.count rs
 
 abbrev pub WholeFileTheorem : Type 0
 WholeFileTheorem =
     (s path : List ℕ) (buffers : List (List ℕ))
     → every (λ (b : List ℕ). leb 1 (length b)) buffers ≡ true
     → every (λ (r : ReadAnswer). eqb r.number 0) (answers s path 0 buffers) ≡ true
-    → lastCount 1 (answers s path 0 buffers) ≡ 0
-    → joined given (answers s path 0 buffers) ≡ content s (entry_of isFile s path)
+    → last_count 1 (answers s path 0 buffers) ≡ 0
+    → joined given (answers s path 0 buffers) ≡ content s (entry_of is_file s path)

@@ -4,11 +4,11 @@ use Rattle.std.specs.Prelude.{ℕ, ◌+◌, ◌≤◌, ◌<◌, List, [], ◌∷
 use Rattle.layout.specs.Lists.{interval, every, has}
 use Rattle.layout.specs.Bytes.{part, splice}
 use Rattle.layout.specs.Table.{chain, next}
-use Rattle.layout.specs.Directory.{slot_at, type_of, isDirectory, rootOf, root, fileBlocks}
+use Rattle.layout.specs.Directory.{slot_at, type_of, is_directory, root_of, root, file_blocks}
 use Rattle.layout.specs.Walks.Names.{Noted, SlotIn, fingerprint}
 use Rattle.layout.specs.Walks.Shapes.{Room}
 use Rattle.layout.specs.Walks.Slots.{entry_at}
-use Rattle.salvage.specs.Salvage.{Progress, claimable, takeFile, takeSlot, freeAt, in_turn, tablePut, salvageRefusal, slotsDone}
+use Rattle.salvage.specs.Salvage.{Progress, claimable, take_file, take_slot, free_at, in_turn, table_put, salvage_refusal, slots_done}
 
 -- the blocks cs are marked in m, and no others
 pub record MarksOf (m cs : List ℕ) : Type 0 where
@@ -44,7 +44,7 @@ pub record Reached (codes : List ℕ) (q : Progress) (code : ℕ) (s m : List �
 
 -- the file at e, whose own chain is claimed
 pub record FileTaken (s m : List ℕ) (e code : ℕ) (s' m' : List ℕ) : Type 0 where
-  pub reached : (cs codes : List ℕ) → MarksOf m (cs ++ fileBlocks s e) → Reached codes (takeFile (progress s cs codes) e) code s' m'
+  pub reached : (cs codes : List ℕ) → MarksOf m (cs ++ file_blocks s e) → Reached codes (take_file (progress s cs codes) e) code s' m'
 
 -- slot k, in block b: the slots before it are right, ps has their fingerprints and its own, pl their blocks
 pub record SlotGiven (s : List ℕ) (first d : ℕ) (ps pl : List ℕ) (b k : ℕ) : Type 0 where
@@ -53,37 +53,37 @@ pub record SlotGiven (s : List ℕ) (first d : ℕ) (ps pl : List ℕ) (b k : �
   pub slot : SlotIn s (chain (next s) first d) b k
 
 pub record SlotTaken (s m ds : List ℕ) (k code : ℕ) (s' m' : List ℕ) : Type 0 where
-  pub reached : (cs codes : List ℕ) → MarksOf m cs → Reached codes (takeSlot ds (progress s cs codes) k) code s' m'
+  pub reached : (cs codes : List ℕ) → MarksOf m cs → Reached codes (take_slot ds (progress s cs codes) k) code s' m'
 
 -- no slot from k to k + j − 1 has the type of a directory
-unfoldable pub noDirectory : List ℕ → List ℕ → ℕ → ℕ → Bool
-noDirectory s ds k j = every (λ x. not (isDirectory (type_of s (slot_at ds x)))) (interval k j)
+unfoldable pub no_directory : List ℕ → List ℕ → ℕ → ℕ → Bool
+no_directory s ds k j = every (λ x. not (is_directory (type_of s (slot_at ds x)))) (interval k j)
 
 -- the refusal, and where it is 0 the root's blocks are marked
 pub record Weighed (s : List ℕ) (size r : ℕ) (m : List ℕ) : Type 0 where
-  pub number : r ≡ salvageRefusal s size
+  pub number : r ≡ salvage_refusal s size
   pub marks : r ≡ 0 → MarksOf m (root s)
 
 -- an accepted salvage, before the first slot; slot 0 has its code
 pub record RootGiven (s : List ℕ) (t n first d : ℕ) (m report : List ℕ) : Type 0 where
   pub room : Room s t n m
   pub weighed : Weighed s (length report) 0 m
-  pub begins : first ≡ rootOf s
+  pub begins : first ≡ root_of s
   pub size : d ≡ length (root s)
   pub self : get_or report 0 0 ≡ 0
 
 -- after the last
 pub record RootTaken (s report s' m' report' : List ℕ) : Type 0 where
-  pub image : s' ≡ (slotsDone s).image
-  pub marks : MarksOf m' (slotsDone s).claimed
-  pub codes : report' ≡ splice report 0 (slotsDone s).codes
+  pub image : s' ≡ (slots_done s).image
+  pub marks : MarksOf m' (slots_done s).claimed
+  pub codes : report' ≡ splice report 0 (slots_done s).codes
 
 -- the table's entries that are not claimed
 pub record EntryFreed (s m : List ℕ) (b : ℕ) (s' : List ℕ) : Type 0 where
-  pub freed : (cs : List ℕ) → MarksOf m cs → s' ≡ freeAt cs s b
+  pub freed : (cs : List ℕ) → MarksOf m cs → s' ≡ free_at cs s b
 
 pub record EntriesFreed (s m : List ℕ) (a k : ℕ) (s' : List ℕ) : Type 0 where
-  pub freed : (cs : List ℕ) → MarksOf m cs → s' ≡ in_turn (freeAt cs) s (interval a k)
+  pub freed : (cs : List ℕ) → MarksOf m cs → s' ≡ in_turn (free_at cs) s (interval a k)
 
 pub record TablePut (s m s' : List ℕ) : Type 0 where
-  pub put : (cs : List ℕ) → MarksOf m cs → s' ≡ tablePut s cs
+  pub put : (cs : List ℕ) → MarksOf m cs → s' ≡ table_put s cs

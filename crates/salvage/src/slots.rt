@@ -1,10 +1,10 @@
 // The root's slots, one after the other.
 ghost use Rattle.std.specs.Prelude.{cond, ◌&&◌, ◌≡◌, ℕ, ◌+◌, ◌*◌, ◌≤◌, ◌<◌, length, set};
-ghost use Rattle.layout.specs.Limits.{maxSlots};
+ghost use Rattle.layout.specs.Limits.{max_slots};
 ghost use Rattle.layout.specs.Bytes.{part};
 ghost use Rattle.layout.specs.Table.{next, chain};
-ghost use Rattle.layout.specs.Directory.{firstBlock, blocksOf, type_of};
-ghost use Rattle.layout.specs.Check.{slotOk, newName};
+ghost use Rattle.layout.specs.Directory.{first_block, blocks_of, type_of};
+ghost use Rattle.layout.specs.Check.{slot_ok, new_name};
 ghost use Rattle.layout.specs.Walks.Names.{fingerprint};
 ghost use Rattle.layout.specs.Walks.Shapes.{Room, ChainBelow};
 ghost use Rattle.layout.specs.Walks.Slots.{entry_at};
@@ -25,7 +25,7 @@ fn file_code(own: bool, second: bool) -> u8
 
 // The file in slot k of block b, whose own chain is claimed: the last value of it, then the chain of its attributes. It gives the slot's code.
 pub fn take_file(image: &mut [u8], t: usize, n: usize, b: usize, k: usize, marks: &mut [u8]) -> u8
-    requires { (Room image.old t n marks.old) × (b < n) × (ChainBelow image.old n (firstBlock image.old (entry_at b k)) (blocksOf image.old (entry_at b k))) }
+    requires { (Room image.old t n marks.old) × (b < n) × (ChainBelow image.old n (first_block image.old (entry_at b k)) (blocks_of image.old (entry_at b k))) }
     ensures { FileTaken image.old marks.old (entry_at b k) result image.new marks.new }
 {
     let first = layout::directory::number_at(image, b, k, 4);
@@ -51,7 +51,7 @@ fn slot_right(
     k: usize,
 ) -> bool
     requires { (SlotGiven image.now first d prints.now places.now b k) × (type_of image.now (entry_at b k) ≡ 0 → ⊥) }
-    ensures { result ≡ slotOk image.now (entry_at b k) && newName image.now (chain (next image.now) first d) k }
+    ensures { result ≡ slot_ok image.now (entry_at b k) && new_name image.now (chain (next image.now) first d) k }
 {
     if !layout::directory::slot_ok_at(image, b, k) {
         return false;
@@ -93,7 +93,7 @@ fn take_slot(
 
 // Notes the fingerprint of slot k, in block b.
 fn note(image: &[u8], b: usize, k: usize, prints: &mut [usize])
-    requires { (512 * b + 512 ≤ length image.now) × (k < length prints.old) × (length prints.old ≤ maxSlots) }
+    requires { (512 * b + 512 ≤ length image.now) × (k < length prints.old) × (length prints.old ≤ max_slots) }
     ensures { prints.new ≡ set prints.old k (fingerprint (part image.now (entry_at b k + 48) 80)) }
 {
     prints[k] = layout::names::fingerprint(layout::directory::field_at(image, b, k));
@@ -111,7 +111,7 @@ fn take_each(
     marks: &mut [u8],
     report: &mut [u8],
 )
-    requires { (RootGiven image.old t n first d marks.old report.old) × (length prints.old ≡ maxSlots) × (length places.old ≡ maxSlots) }
+    requires { (RootGiven image.old t n first d marks.old report.old) × (length prints.old ≡ max_slots) × (length places.old ≡ max_slots) }
     ensures { RootTaken image.old report.old image.new marks.new report.new }
 {
     let mut b = first;

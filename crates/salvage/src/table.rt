@@ -1,19 +1,19 @@
 // What is put right after the slots: the end slot's type, the table's entries, the counts.
 ghost use Rattle.std.specs.Prelude.{cond, ◌≡◌, ◌+◌, ◌-◌, ◌*◌, ◌≤◌, ◌<◌, length};
 ghost use Rattle.layout.specs.Lists.{interval};
-ghost use Rattle.layout.specs.Geometry.{tableBlocks};
-ghost use Rattle.layout.specs.Table.{next, chain, tableBlockOf};
+ghost use Rattle.layout.specs.Geometry.{table_blocks};
+ghost use Rattle.layout.specs.Table.{next, chain, table_block_of};
 ghost use Rattle.layout.specs.Check.{stage7};
-ghost use Rattle.layout.specs.Walks.Chains.{countUsed};
+ghost use Rattle.layout.specs.Walks.Chains.{count_used};
 ghost use Rattle.layout.specs.Walks.Shapes.{Shape, Room, DirectoryAt};
-ghost use Rattle.salvage.specs.Salvage.{endRight, endPut, one_at, in_turn, countsPut};
+ghost use Rattle.salvage.specs.Salvage.{end_right, end_put, one_at, in_turn, counts_put};
 ghost use Rattle.salvage.specs.Walks.{EntryFreed, EntriesFreed, TablePut};
 
 // Puts right the type of the end slot of the root of d blocks from first on, and gives the slot's code.
 pub fn put_end(image: &mut [u8], n: usize, first: usize, d: usize) -> u8
     requires { DirectoryAt image.old n first d }
-    ensures code { result ≡ cond (endRight image.old (chain (next image.old) first d)) 0 3 }
-    ensures bytes { image.new ≡ endPut image.old (chain (next image.old) first d) }
+    ensures code { result ≡ cond (end_right image.old (chain (next image.old) first d)) 0 3 }
+    ensures bytes { image.new ≡ end_put image.old (chain (next image.old) first d) }
 {
     let b = layout::table::nth(image, n, first, d, d - 1);
     if layout::directory::type_at(image, b, 3) == 0xFF {
@@ -25,7 +25,7 @@ pub fn put_end(image: &mut [u8], n: usize, first: usize, d: usize) -> u8
 
 // Sets entry b to 1.
 fn put_one(image: &mut [u8], b: usize)
-    requires { 512 * tableBlockOf b + 512 ≤ length image.old }
+    requires { 512 * table_block_of b + 512 ≤ length image.old }
     ensures { image.new ≡ one_at image.old b }
 {
     if layout::table::entry(image, b) == 1 {
@@ -36,7 +36,7 @@ fn put_one(image: &mut [u8], b: usize)
 
 // Sets entries 0 to k − 1 to 1.
 pub fn put_ones(image: &mut [u8], k: usize)
-    requires { 512 * tableBlocks k + 512 ≤ length image.old }
+    requires { 512 * table_blocks k + 512 ≤ length image.old }
     ensures { image.new ≡ in_turn one_at image.old (interval 0 k) }
 {
     let mut b = 0;
@@ -50,7 +50,7 @@ pub fn put_ones(image: &mut [u8], k: usize)
 
 // Sets entry b to 0 if it is not claimed; a block that was in use is zeroed.
 fn free_entry(image: &mut [u8], n: usize, marks: &[u8], b: usize)
-    requires { (Shape image.old n) × (b < 128 * tableBlocks n) × (b < length marks.now) }
+    requires { (Shape image.old n) × (b < 128 * table_blocks n) × (b < length marks.now) }
     ensures { EntryFreed image.old marks.now b image.new }
 {
     if marks[b] != 0 {
@@ -69,7 +69,7 @@ fn free_entry(image: &mut [u8], n: usize, marks: &[u8], b: usize)
 
 // The same of the k entries from `from` on.
 pub fn free_entries(image: &mut [u8], n: usize, marks: &[u8], from: usize, k: usize)
-    requires { (Shape image.old n) × (from + k ≤ 128 * tableBlocks n) × (from + k ≤ length marks.now) }
+    requires { (Shape image.old n) × (from + k ≤ 128 * table_blocks n) × (from + k ≤ length marks.now) }
     ensures { EntriesFreed image.old marks.now from k image.new }
 {
     let mut b = from;
@@ -94,7 +94,7 @@ pub fn put_table(image: &mut [u8], t: usize, n: usize, marks: &[u8])
 
 // Whether the header's counts are right: `used` of n blocks.
 pub fn counts_right(image: &[u8], n: usize, used: usize) -> bool
-    requires { (Shape image.now n) × (used ≡ countUsed (next image.now) 0 n) × (used ≤ n) }
+    requires { (Shape image.now n) × (used ≡ count_used (next image.now) 0 n) × (used ≤ n) }
     ensures { result ≡ stage7 image.now }
 {
     if layout::number::header_number(image, 20) != used {
@@ -106,7 +106,7 @@ pub fn counts_right(image: &[u8], n: usize, used: usize) -> bool
 // Puts right the header's counts.
 pub fn put_counts(image: &mut [u8], n: usize)
     requires { Shape image.old n }
-    ensures { image.new ≡ countsPut image.old }
+    ensures { image.new ≡ counts_put image.old }
 {
     let used = layout::table::count_used(image, n);
     if counts_right(image, n, used) {

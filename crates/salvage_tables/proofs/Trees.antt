@@ -5,19 +5,19 @@ use lib.ListN.{length, drop, replicate}
 use lib.Dec.{T}
 use Rattle.layout.specs.Lists.{every, same}
 use Rattle.layout.specs.Bytes.{be32, bytes4, zeros, splice}
-use Rattle.layout.specs.Geometry.{signature, inVolume}
-use Rattle.layout.specs.Table.{next, setNext, chain, endsAfter, chainOk, occupied}
-use Rattle.layout.specs.Directory.{slot_at, goodName, name_of, nameOk, freeSlot, directory, fileBlocks, attributeBlocks}
-use Rattle.layout.specs.Check.{stage1, stage2, stage3, noAttributes, attributesOk, fileOk, directoryEntryOk, slotOk, newName, stage7}
-use Rattle.volume.specs.Entries.{setOccupied}
-use Rattle.volume.specs.Attributes.{setAttributeFields}
-use Rattle.salvage.specs.Salvage.{claimable, ends, ended, takeFile, one_at, blanked, freeAt, in_turn, countsPut}
-use Rattle.salvage_tree.specs.SalvageTree.{otherLength, treeRefusal, coded, note, dropped, putNumber, putByte, putField, putValue, run, endsIn, rowRight, directoryBlocks, lost, hungAt, hang, hangEach, foldersHung, hungOver, linkFrom, linked, selfPut, putDirectory, keepFile, takeFileAt, takeSlot, takeSlots, witness, sized, takeChild, rootBlocks, treeDone, onesPut, blocksFreed, paddingPut, headPut, freedCodes, rest, salvaged, number, salvageTree}
+use Rattle.layout.specs.Geometry.{signature, in_volume}
+use Rattle.layout.specs.Table.{next, set_next, chain, ends_after, chain_ok, occupied}
+use Rattle.layout.specs.Directory.{slot_at, good_name, name_of, name_ok, free_slot, directory, file_blocks, attribute_blocks}
+use Rattle.layout.specs.Check.{stage1, stage2, stage3, no_attributes, attributes_ok, file_ok, directory_entry_ok, slot_ok, new_name, stage7}
+use Rattle.volume.specs.Entries.{set_occupied}
+use Rattle.volume.specs.Attributes.{set_attribute_fields}
+use Rattle.salvage.specs.Salvage.{claimable, ends, ended, take_file, one_at, blanked, free_at, in_turn, counts_put}
+use Rattle.salvage_tree.specs.SalvageTree.{other_length, tree_refusal, coded, note, dropped, put_number, put_byte, put_field, put_value, run, ends_in, row_right, directory_blocks, lost, hung_at, hang, hang_each, folders_hung, hung_over, link_from, linked, self_put, put_directory, keep_file, take_file_at, take_slot, take_slots, witness, sized, take_child, root_blocks_of, tree_done, ones_put, blocks_freed, padding_put, head_put, freed_codes, rest, salvaged, number, salvage_tree}
 
 -- opens the definitions
 unfoldable rules : Unit {0}
-unfolding be32 bytes4 zeros splice inVolume next setNext chain endsAfter chainOk occupied slot_at goodName name_of nameOk directory fileBlocks attributeBlocks stage1 stage2 stage3 noAttributes attributesOk fileOk directoryEntryOk slotOk newName stage7 setOccupied setAttributeFields
-    claimable ends ended takeFile one_at blanked freeAt in_turn countsPut otherLength treeRefusal coded note dropped putNumber putByte putField putValue run endsIn rowRight directoryBlocks lost hungAt hang hangEach foldersHung hungOver freeSlot linkFrom linked selfPut putDirectory keepFile takeFileAt takeSlot takeSlots witness sized takeChild rootBlocks treeDone onesPut blocksFreed paddingPut headPut freedCodes rest salvaged number salvageTree
+unfolding be32 bytes4 zeros splice in_volume next set_next chain ends_after chain_ok occupied slot_at good_name name_of name_ok directory file_blocks attribute_blocks stage1 stage2 stage3 no_attributes attributes_ok file_ok directory_entry_ok slot_ok new_name stage7 set_occupied set_attribute_fields
+    claimable ends ended take_file one_at blanked free_at in_turn counts_put other_length tree_refusal coded note dropped put_number put_byte put_field put_value run ends_in row_right directory_blocks lost hung_at hang hang_each folders_hung hung_over free_slot link_from linked self_put put_directory keep_file take_file_at take_slot take_slots witness sized take_child root_blocks_of tree_done ones_put blocks_freed padding_put head_put freed_codes rest salvaged number salvage_tree
 rules = tt
 
 -- in each row, what the definitions give is what is expected
@@ -39,8 +39,8 @@ table [] = []
 table (v ∷ vs) = bytes4 v ++ table vs
 
 -- a volume of n blocks, one of them the table's: used blocks, the links of the blocks from 0 on, and bytes from block 2 on
-unfoldable volumeOf : ℕ → ℕ → List ℕ → List ℕ → List ℕ
-volumeOf n used links blocks =
+unfoldable volume_of : ℕ → ℕ → List ℕ → List ℕ → List ℕ
+volume_of n used links blocks =
     splice (splice (splice (splice (zeros (512 * n)) 0 signature) 12 (bytes4 n ++ (bytes4 1 ++ (bytes4 used ++ (bytes4 (n - used) ++ bytes4 2))))) 512 (table links)) 1024 blocks
 
 -- a directory's one block: self entry, two slots, end
@@ -50,7 +50,7 @@ full a b c = a ++ (b ++ (c ++ (0xFF ∷ zeros 127)))
 -- n = 9: a folder a of the blocks 3 and 4 in slot 1 of the root (at 1,152), in it a file 1 of block 5 (at 1,664), and a file f of the blocks 6 and 7 in slot 2 of the root (at 1,280); block 8 is free
 unfoldable s₀ : List ℕ
 s₀ =
-    volumeOf 9 8 (1 ∷ 1 ∷ 1 ∷ 4 ∷ 1 ∷ 1 ∷ 7 ∷ 1 ∷ [])
+    volume_of 9 8 (1 ∷ 1 ∷ 1 ∷ 4 ∷ 1 ∷ 1 ∷ 7 ∷ 1 ∷ [])
     (full (entry 1 2 2 1 1 1 []) (entry 0x20 3 0 2 2 2 (97 ∷ [])) (entry 0x60 6 514 2 3 4 (102 ∷ []))
     ++ (entry 1 3 2 2 2 2 (97 ∷ []) ++ (entry 0x60 5 20 1 3 4 (49 ∷ []) ++ (zeros 256
     ++ (zeros 384 ++ (0xFF ∷ (zeros 127
@@ -60,7 +60,7 @@ s₀ =
 -- the same without f, whose blocks are free and blank
 unfoldable s₁ : List ℕ
 s₁ =
-    volumeOf 9 6 (1 ∷ 1 ∷ 1 ∷ 4 ∷ 1 ∷ 1 ∷ [])
+    volume_of 9 6 (1 ∷ 1 ∷ 1 ∷ 4 ∷ 1 ∷ 1 ∷ [])
     (full (entry 1 2 2 1 1 1 []) (entry 0x20 3 0 2 2 2 (97 ∷ [])) (zeros 128)
     ++ (entry 1 3 2 2 2 2 (97 ∷ []) ++ (entry 0x60 5 20 1 3 4 (49 ∷ []) ++ (zeros 256
     ++ (zeros 384 ++ (0xFF ∷ (zeros 127
@@ -69,7 +69,7 @@ s₁ =
 -- n = 8: two folders that no entry of the root names, of one name, the second with a file x of block 5
 unfoldable s₂ : List ℕ → List ℕ
 s₂ slots =
-    volumeOf 8 6 (1 ∷ 1 ∷ 1 ∷ 1 ∷ 1 ∷ 1 ∷ [])
+    volume_of 8 6 (1 ∷ 1 ∷ 1 ∷ 1 ∷ 1 ∷ 1 ∷ [])
     (entry 1 2 2 1 1 1 [] ++ (slots ++ (0xFF ∷ (zeros 127
     ++ (full (entry 1 3 2 1 2 2 (97 ∷ [])) (zeros 128) (zeros 128)
     ++ (full (entry 1 4 2 1 2 2 (97 ∷ [])) (entry 0x60 5 5 1 3 4 (120 ∷ [])) (zeros 128)
@@ -81,19 +81,19 @@ nested zero b = full (entry 1 b (b - 1) 1 2 2 ((46 + b) ∷ [])) (zeros 128) (ze
 nested (suc k) b = full (entry 1 b (b - 1) 1 2 2 ((46 + b) ∷ [])) (entry 0x20 (b + 1) 0 1 2 2 ((47 + b) ∷ [])) (zeros 128) ++ nested k (b + 1)
 
 unfoldable s₃ : ℕ → List ℕ → List ℕ
-s₃ k links = volumeOf 12 11 links (full (entry 1 2 2 1 2 2 []) (entry 0x20 3 0 1 2 2 (49 ∷ [])) (zeros 128) ++ nested k 3)
+s₃ k links = volume_of 12 11 links (full (entry 1 2 2 1 2 2 []) (entry 0x20 3 0 1 2 2 (49 ∷ [])) (zeros 128) ++ nested k 3)
 
 -- number, both counts, report and image after a salvage with a report of one byte more than 4n
 unfoldable answered : ℕ → List ℕ → List ℕ
-answered n s = let a = salvageTree s (replicate (suc (4 * n)) 7) in a.number ∷ a.zeroed ∷ a.freed ∷ (a.report ++ a.image)
+answered n s = let a = salvage_tree s (replicate (suc (4 * n)) 7) in a.number ∷ a.zeroed ∷ a.freed ∷ (a.report ++ a.image)
 
 -- what is expected of an accepted one: both counts, the codes that are not 0 with their places, and the image
-unfoldable codesAt : ℕ → List (ℕ × ℕ) → List ℕ
-codesAt n [] = zeros (4 * n)
-codesAt n (c ∷ cs) = splice (codesAt n cs) c.0 (c.1 ∷ [])
+unfoldable codes_at : ℕ → List (ℕ × ℕ) → List ℕ
+codes_at n [] = zeros (4 * n)
+codes_at n (c ∷ cs) = splice (codes_at n cs) c.0 (c.1 ∷ [])
 
 unfoldable done : ℕ → ℕ → ℕ → List (ℕ × ℕ) → List ℕ → List ℕ
-done n zeroed freed codes s = 0 ∷ zeroed ∷ freed ∷ (codesAt n codes ++ (7 ∷ s))
+done n zeroed freed codes s = 0 ∷ zeroed ∷ freed ∷ (codes_at n codes ++ (7 ∷ s))
 
 -- bytes written, each at its place
 unfoldable edit : List ℕ → List (ℕ × List ℕ) → List ℕ
@@ -102,7 +102,7 @@ edit s (e ∷ es) = edit (splice s e.0 e.1) es
 
 -- opens them all
 unfoldable samples : Unit {0}
-unfolding entry times table volumeOf full s₀ s₁ s₂ nested s₃ answered codesAt done edit
+unfolding entry times table volume_of full s₀ s₁ s₂ nested s₃ answered codes_at done edit
 samples = tt
 
 -- WHERE A DIRECTORY BEGINS: of a sound image nothing changes; the root's self entry is wiped; the folder's first 256 bytes are wiped (its end is the witness), so that its file is lost and block 5 is freed
@@ -154,9 +154,9 @@ lost-folders =
 pub refusals : List (List ℕ × List ℕ)
 refusals =
     (answered 9 (edit s₀ ((544, bytes4 1) ∷ (4096, 97 ∷ 98 ∷ 99 ∷ []) ∷ [])), done 9 0 1 ((32, 5) ∷ []) s₀)
-    ∷ (map (treeRefusal s₀) (35 ∷ 36 ∷ []), 9 ∷ 0 ∷ [])
+    ∷ (map (tree_refusal s₀) (35 ∷ 36 ∷ []), 9 ∷ 0 ∷ [])
     ∷ (answered 9 (edit s₀ ((12, bytes4 8) ∷ [])), 3 ∷ 0 ∷ 0 ∷ (replicate 37 7 ++ edit s₀ ((12, bytes4 8) ∷ [])))
-    ∷ (map (λ s. treeRefusal s 35) (drop 1 s₀ ∷ edit s₀ ((12, bytes4 8) ∷ []) ∷ edit s₀ ((12, bytes4 8) ∷ (31, 3 ∷ []) ∷ []) ∷ []), 1 ∷ 3 ∷ 9 ∷ [])
+    ∷ (map (λ s. tree_refusal s 35) (drop 1 s₀ ∷ edit s₀ ((12, bytes4 8) ∷ []) ∷ edit s₀ ((12, bytes4 8) ∷ (31, 3 ∷ []) ∷ []) ∷ []), 1 ∷ 3 ∷ 9 ∷ [])
     ∷ []
 
 heads-hold : AsExpected heads

@@ -1,12 +1,12 @@
 // The blocks of a directory. A block that is claimed has a mark; a directory's blocks are put into room for 64 numbers.
 ghost use Rattle.std.specs.Prelude.{◌≡◌, ℕ, ◌+◌, ◌-◌, ◌≤◌, ◌<◌, eqb, length, get_or, take};
 ghost use Rattle.layout.specs.Lists.{has, interval};
-ghost use Rattle.layout.specs.Limits.{maxBlocks, maxDirectory};
+ghost use Rattle.layout.specs.Limits.{max_blocks, max_directory};
 ghost use Rattle.layout.specs.Bytes.{zeros};
 ghost use Rattle.layout.specs.Table.{next, chain};
-ghost use Rattle.layout.specs.Geometry.{tableBlocks};
+ghost use Rattle.layout.specs.Geometry.{table_blocks};
 ghost use Rattle.layout.specs.Walks.Shapes.{Shape, Room, DirectoryAt};
-ghost use Rattle.salvage_tree.specs.SalvageTree.{endsIn};
+ghost use Rattle.salvage_tree.specs.SalvageTree.{ends_in};
 ghost use Rattle.salvage_tree.specs.Walks.{IsGood, Ran, RowGood, RowRight, ChoseOther, Chose, MarkedToo};
 
 // The most blocks that a directory has.
@@ -14,14 +14,14 @@ const MAX_BLOCKS: usize = 64;
 
 // Room for the blocks of a directory.
 pub fn no_blocks() -> [usize; MAX_BLOCKS]
-    ensures { result ≡ zeros maxDirectory }
+    ensures { result ≡ zeros max_directory }
 {
     [0usize; MAX_BLOCKS]
 }
 
 // Whether block b is above t, below n and not claimed.
 pub fn is_good(t: usize, n: usize, marks: &[u8], b: usize) -> bool
-    requires { (t ≡ tableBlocks n) × (n ≤ length marks.now) }
+    requires { (t ≡ table_blocks n) × (n ≤ length marks.now) }
     ensures { IsGood n marks.now b result }
 {
     if b <= t {
@@ -35,7 +35,7 @@ pub fn is_good(t: usize, n: usize, marks: &[u8], b: usize) -> bool
 
 // Whether b is one of the first k numbers.
 fn is_met(blocks: &[usize], k: usize, b: usize) -> bool
-    requires { (k ≤ length blocks.now) × (length blocks.now ≤ maxDirectory) }
+    requires { (k ≤ length blocks.now) × (length blocks.now ≤ max_directory) }
     ensures { result ≡ has eqb b (take k blocks.now) }
 {
     let mut i = 0;
@@ -50,7 +50,7 @@ fn is_met(blocks: &[usize], k: usize, b: usize) -> bool
 
 // The run from b on; it gives how many blocks the run has.
 fn run(image: &[u8], t: usize, n: usize, b: usize, marks: &[u8], blocks: &mut [usize]) -> usize
-    requires { (Room image.now t n marks.now) × (length blocks.old ≡ maxDirectory) }
+    requires { (Room image.now t n marks.now) × (length blocks.old ≡ max_directory) }
     ensures { Ran image.now n b marks.now result blocks.new }
 {
     let mut c = b;
@@ -71,7 +71,7 @@ fn run(image: &[u8], t: usize, n: usize, b: usize, marks: &[u8], blocks: &mut [u
 
 // Whether all of the d blocks from b on in a row are good.
 fn row_good(t: usize, n: usize, b: usize, d: usize, marks: &[u8]) -> bool
-    requires { (t ≡ tableBlocks n) × (n ≤ length marks.now) × (n ≤ maxBlocks) }
+    requires { (t ≡ table_blocks n) × (n ≤ length marks.now) × (n ≤ max_blocks) }
     ensures { RowGood n b d marks.now result }
 {
     let mut x = b;
@@ -107,7 +107,7 @@ fn row_right(image: &[u8], t: usize, n: usize, b: usize, d: usize, marks: &[u8])
 // Whether block b ends, or has value 1.
 fn ends_in(image: &[u8], n: usize, b: usize) -> bool
     requires { (Shape image.now n) × (b < n) }
-    ensures { result ≡ endsIn image.now b }
+    ensures { result ≡ ends_in image.now b }
 {
     if layout::directory::type_at(image, b, 3) == 0xFF {
         return true;
@@ -117,7 +117,7 @@ fn ends_in(image: &[u8], n: usize, b: usize) -> bool
 
 // The d blocks from b on in a row.
 fn put_row(b: usize, d: usize, blocks: &mut [usize])
-    requires { (d ≤ maxDirectory) × (length blocks.old ≡ maxDirectory) × (b ≤ maxBlocks) }
+    requires { (d ≤ max_directory) × (length blocks.old ≡ max_directory) × (b ≤ max_blocks) }
     ensures { take d blocks.new ≡ interval b d }
 {
     let mut k = 0;
@@ -169,7 +169,7 @@ pub fn choose(
     marks: &[u8],
     blocks: &mut [usize],
 ) -> usize
-    requires { (Room image.now t n marks.now) × (length blocks.old ≡ maxDirectory) }
+    requires { (Room image.now t n marks.now) × (length blocks.old ≡ max_directory) }
     ensures { Chose image.now n b d sure marks.now result blocks.new }
 {
     let k = run(image, t, n, b, marks, blocks);
@@ -188,7 +188,7 @@ pub fn choose(
 
 // The d blocks of the chain from first on.
 pub fn read_blocks(image: &[u8], n: usize, first: usize, d: usize, blocks: &mut [usize])
-    requires { (DirectoryAt image.now n first d) × (length blocks.old ≡ maxDirectory) }
+    requires { (DirectoryAt image.now n first d) × (length blocks.old ≡ max_directory) }
     ensures { take d blocks.new ≡ chain (next image.now) first d }
 {
     let mut b = first;
@@ -202,7 +202,7 @@ pub fn read_blocks(image: &[u8], n: usize, first: usize, d: usize, blocks: &mut 
 
 // Claims the blocks.
 pub fn claim_blocks(blocks: &[usize], marks: &mut [u8])
-    requires { ((i : ℕ) → i < length blocks.now → get_or blocks.now i 0 < length marks.old) × (length blocks.now ≤ maxDirectory) }
+    requires { ((i : ℕ) → i < length blocks.now → get_or blocks.now i 0 < length marks.old) × (length blocks.now ≤ max_directory) }
     ensures { MarkedToo blocks.now marks.old marks.new }
 {
     let mut i = 0;

@@ -1,10 +1,10 @@
 // Lost folders: directories of the root that no entry names, hung again in free slots of the root.
 ghost use Rattle.std.specs.Prelude.{◌≡◌, ◌+◌, ◌*◌, ◌≤◌, ◌<◌, true, length, get_or};
 ghost use Rattle.layout.specs.Bytes.{zeros};
-ghost use Rattle.layout.specs.Directory.{blocksOf, nameOk};
+ghost use Rattle.layout.specs.Directory.{blocks_of, name_ok};
 ghost use Rattle.layout.specs.Walks.Shapes.{Room, DirectoryAt};
 ghost use Rattle.layout.specs.Walks.Slots.{entry_at};
-ghost use Rattle.salvage_tree.specs.SalvageTree.{hungAt};
+ghost use Rattle.salvage_tree.specs.SalvageTree.{hung_at};
 ghost use Rattle.salvage_tree.specs.Walks.{Ready, LooksLost, unnamed, HungIn, HangDone, TreeTaken, FoldersDone};
 
 // Whether block b is not claimed, in use, and begins as a directory of the root with a good name.
@@ -32,7 +32,7 @@ fn looks_lost(image: &[u8], t: usize, n: usize, marks: &[u8], b: usize) -> bool
 
 // Whether no slot of the root has the name of block b's self entry, which is good.
 fn is_unnamed(image: &[u8], n: usize, root: usize, b: usize) -> bool
-    requires { (DirectoryAt image.now n root (blocksOf image.now (512 * root))) × (b < n) × (root < n) × (nameOk image.now (512 * b) ≡ true) }
+    requires { (DirectoryAt image.now n root (blocks_of image.now (512 * root))) × (b < n) × (root < n) × (name_ok image.now (512 * b) ≡ true) }
     ensures { result ≡ unnamed image.now root (512 * b) }
 {
     let d = layout::directory::number_at(image, root, 0, 12);
@@ -58,7 +58,7 @@ fn no_entry() -> [u8; 128]
 // Slot k of block `at` gets block b's self entry, as that of a child directory.
 fn put_hung(image: &mut [u8], at: usize, k: usize, b: usize)
     requires { (512 * at + 512 ≤ length image.old) × (512 * b + 512 ≤ length image.old) }
-    ensures { image.new ≡ hungAt image.old (entry_at at k) b }
+    ensures { image.new ≡ hung_at image.old (entry_at at k) b }
 {
     let mut entry = no_entry();
     layout::bytes::copy_part(image, 512 * b, &mut entry, 0, 128);
@@ -96,7 +96,7 @@ fn hang_at(
 
 // Block b, hung if it is a lost folder and the root has room.
 fn hang(image: &mut [u8], t: usize, n: usize, b: usize, marks: &mut [u8], codes: &mut [u8])
-    requires { (Ready image.old t n marks.old codes.old) × (t < b) × (b < n) × (DirectoryAt image.old n (t + 1) (blocksOf image.old (512 * (t + 1)))) }
+    requires { (Ready image.old t n marks.old codes.old) × (t < b) × (b < n) × (DirectoryAt image.old n (t + 1) (blocks_of image.old (512 * (t + 1)))) }
     ensures { HangDone image.old (t + 1) b marks.old codes.old image.new marks.new codes.new }
 {
     if !looks_lost(image, t, n, marks, b) {

@@ -1,11 +1,11 @@
 // Names of a directory's slots.
 ghost use Rattle.std.specs.Prelude.{true, not, ◌&&◌, ◌≡◌, ◌+◌, ◌-◌, ◌*◌, ◌/◌, ◌≤◌, ◌<◌, length, get_or};
 ghost use Rattle.layout.specs.Lists.{interval, every};
-ghost use Rattle.layout.specs.Directory.{slot_at, type_of, unpadded, goodName, name_of};
-ghost use Rattle.layout.specs.Check.{slotOk, newName};
+ghost use Rattle.layout.specs.Directory.{slot_at, type_of, unpadded, good_name, name_of};
+ghost use Rattle.layout.specs.Check.{slot_ok, new_name};
 ghost use Rattle.layout.specs.Walks.Shapes.{Shape, Blocks};
 ghost use Rattle.layout.specs.Walks.Slots.{entry_at};
-ghost use Rattle.salvage_tree.specs.Walks.{otherThan};
+ghost use Rattle.salvage_tree.specs.Walks.{other_than};
 
 // How many bytes of a field stand before the first zero.
 fn name_length(field: &[u8]) -> usize
@@ -34,8 +34,8 @@ pub fn name_at<'a>(image: &'a [u8], b: usize, k: usize) -> &'a [u8]
 
 // Whether slot k, in block b, is used and has a good name.
 fn has_name(image: &[u8], b: usize, k: usize, name: &[u8]) -> bool
-    requires { (512 * b + 512 ≤ length image.now) × (goodName name.now ≡ true) }
-    ensures { result ≡ not (otherThan image.now (entry_at b k) name.now) }
+    requires { (512 * b + 512 ≤ length image.now) × (good_name name.now ≡ true) }
+    ensures { result ≡ not (other_than image.now (entry_at b k) name.now) }
 {
     if layout::directory::type_at(image, b, k) == 0 {
         return false;
@@ -45,8 +45,8 @@ fn has_name(image: &[u8], b: usize, k: usize, name: &[u8]) -> bool
 
 // Whether none of the slots 1 to j of a directory is used and has a good name.
 pub fn is_new(image: &[u8], n: usize, blocks: &[usize], j: usize, name: &[u8]) -> bool
-    requires { (Shape image.now n) × (Blocks n (length blocks.now) blocks.now) × (j < 4 * length blocks.now) × (goodName name.now ≡ true) }
-    ensures { result ≡ every (λ x. otherThan image.now (slot_at blocks.now x) name.now) (interval 1 j) }
+    requires { (Shape image.now n) × (Blocks n (length blocks.now) blocks.now) × (j < 4 * length blocks.now) × (good_name name.now ≡ true) }
+    ensures { result ≡ every (λ x. other_than image.now (slot_at blocks.now x) name.now) (interval 1 j) }
 {
     let mut k = 1;
     let mut left = j;
@@ -63,7 +63,7 @@ pub fn is_new(image: &[u8], n: usize, blocks: &[usize], j: usize, name: &[u8]) -
 // Whether slot k of a directory, in block b, which is not free, is right and its name new.
 pub fn slot_right(image: &[u8], n: usize, blocks: &[usize], b: usize, k: usize) -> bool
     requires { (Shape image.now n) × (Blocks n (length blocks.now) blocks.now) × (1 ≤ k) × (k < 4 * length blocks.now) × (b ≡ get_or blocks.now (k / 4) 0) × (type_of image.now (entry_at b k) ≡ 0 → ⊥) }
-    ensures { result ≡ slotOk image.now (entry_at b k) && newName image.now blocks.now k }
+    ensures { result ≡ slot_ok image.now (entry_at b k) && new_name image.now blocks.now k }
 {
     if !layout::directory::slot_ok_at(image, b, k) {
         return false;

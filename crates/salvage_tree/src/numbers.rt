@@ -2,14 +2,14 @@
 ghost use Rattle.std.specs.Prelude.{cond, [], ◌∷◌, ◌≡◌, ◌+◌, ◌*◌, ◌≤◌, ◌<◌, length};
 ghost use Rattle.layout.specs.Lists.{same};
 ghost use Rattle.layout.specs.Bytes.{part, splice};
-ghost use Rattle.layout.specs.Table.{tableBlockOf};
+ghost use Rattle.layout.specs.Table.{table_block_of};
 ghost use Rattle.layout.specs.Walks.Slots.{entry_at};
-ghost use Rattle.salvage_tree.specs.SalvageTree.{coded, putNumber, putByte, putField, putValue};
+ghost use Rattle.salvage_tree.specs.SalvageTree.{coded, put_number, put_byte, put_field, put_value};
 
 // The number v at `at`.
 pub fn put_number(image: &mut [u8], at: usize, v: usize)
     requires { (at + 4 ≤ length image.old) × (v < 4294967296) }
-    ensures { image.new ≡ putNumber image.old at v }
+    ensures { image.new ≡ put_number image.old at v }
 {
     if layout::number::get32(image, at) as usize == v {
         return;
@@ -20,7 +20,7 @@ pub fn put_number(image: &mut [u8], at: usize, v: usize)
 // The byte v at `at`.
 pub fn put_byte(image: &mut [u8], at: usize, v: u8)
     requires { at < length image.old }
-    ensures { image.new ≡ putByte image.old at v }
+    ensures { image.new ≡ put_byte image.old at v }
 {
     if image[at] == v {
         return;
@@ -48,7 +48,7 @@ pub fn has_field(image: &[u8], at: usize, field: &[u8]) -> bool
 // The field at `at`.
 pub fn put_field(image: &mut [u8], at: usize, field: &[u8])
     requires { (at + 80 ≤ length image.old) × (length field.now ≡ 80) }
-    ensures { image.new ≡ putField image.old at field.now }
+    ensures { image.new ≡ put_field image.old at field.now }
 {
     if has_field(image, at, field) {
         return;
@@ -58,8 +58,8 @@ pub fn put_field(image: &mut [u8], at: usize, field: &[u8])
 
 // The value v of entry b.
 pub fn put_value(image: &mut [u8], b: usize, v: usize)
-    requires { (512 * tableBlockOf b + 512 ≤ length image.old) × (v < 4294967296) }
-    ensures { image.new ≡ putValue image.old b v }
+    requires { (512 * table_block_of b + 512 ≤ length image.old) × (v < 4294967296) }
+    ensures { image.new ≡ put_value image.old b v }
 {
     if layout::table::entry(image, b) == v {
         return;

@@ -1,17 +1,17 @@
 // A directory put right: the values of its chain, its self entry, its end slot.
 ghost use Rattle.std.specs.Prelude.{[], ◌≡◌, ◌+◌, ◌*◌, ◌≤◌, ◌<◌, length, get_or};
-ghost use Rattle.layout.specs.Limits.{maxBlocks, maxDirectory};
+ghost use Rattle.layout.specs.Limits.{max_blocks, max_directory};
 ghost use Rattle.layout.specs.Lists.{same};
 ghost use Rattle.layout.specs.Bytes.{part, zeros};
 ghost use Rattle.layout.specs.Walks.Shapes.{Shape};
 ghost use Rattle.layout.specs.Walks.Slots.{entry_at};
-ghost use Rattle.salvage_tree.specs.SalvageTree.{putByte, linked, selfPut, sized};
-ghost use Rattle.salvage_tree.specs.Walks.{st, Own, Ready, linksRight, selfRight, PutDone, Adopted};
+ghost use Rattle.salvage_tree.specs.SalvageTree.{put_byte, linked, self_put, sized};
+ghost use Rattle.salvage_tree.specs.Walks.{st, Own, Ready, links_right, self_right, PutDone, Adopted};
 
 // Whether the value of each block is the next of them, and of the last 1.
 fn links_right(image: &[u8], n: usize, blocks: &[usize]) -> bool
     requires { (Shape image.now n) × (Own n blocks.now) }
-    ensures { result ≡ linksRight image.now blocks.now }
+    ensures { result ≡ links_right image.now blocks.now }
 {
     let mut b = blocks[0];
     let mut i = 1;
@@ -44,7 +44,7 @@ fn link(image: &mut [u8], n: usize, blocks: &[usize])
 // Whether the self entry of block b is right: of d blocks, with this parent and this name.
 fn self_right(image: &[u8], b: usize, parent: usize, d: usize, field: &[u8]) -> bool
     requires { (512 * b + 512 ≤ length image.now) × (length field.now ≡ 80) }
-    ensures { result ≡ selfRight image.now b parent d field.now }
+    ensures { result ≡ self_right image.now b parent d field.now }
 {
     if layout::directory::type_at(image, b, 0) != 1 {
         return false;
@@ -63,8 +63,8 @@ fn self_right(image: &[u8], b: usize, parent: usize, d: usize, field: &[u8]) -> 
 
 // Puts the self entry of block b right.
 fn put_self(image: &mut [u8], b: usize, parent: usize, d: usize, field: &[u8])
-    requires { (512 * b + 512 ≤ length image.old) × (b ≤ maxBlocks) × (parent ≤ maxBlocks) × (d ≤ maxDirectory) × (length field.now ≡ 80) }
-    ensures { image.new ≡ selfPut image.old b parent d field.now }
+    requires { (512 * b + 512 ≤ length image.old) × (b ≤ max_blocks) × (parent ≤ max_blocks) × (d ≤ max_directory) × (length field.now ≡ 80) }
+    ensures { image.new ≡ self_put image.old b parent d field.now }
 {
     let e = 512 * b;
     super::numbers::put_byte(image, e, 1);
@@ -78,7 +78,7 @@ fn put_self(image: &mut [u8], b: usize, parent: usize, d: usize, field: &[u8])
 fn put_head(image: &mut [u8], n: usize, blocks: &[usize], parent: usize, field: &[u8]) -> bool
     requires { (Shape image.old n) × (Own n blocks.now) × (parent < n) × (length field.now ≡ 80) }
     ensures right { result ≡ same image.old image.new }
-    ensures bytes { image.new ≡ selfPut (linked image.old blocks.now) (get_or blocks.now 0 0) parent (length blocks.now) field.now }
+    ensures bytes { image.new ≡ self_put (linked image.old blocks.now) (get_or blocks.now 0 0) parent (length blocks.now) field.now }
 {
     let b = blocks[0];
     let d = blocks.len();
@@ -93,7 +93,7 @@ fn put_head(image: &mut [u8], n: usize, blocks: &[usize], parent: usize, field: 
 fn put_end(image: &mut [u8], b: usize) -> bool
     requires { 512 * b + 512 ≤ length image.old }
     ensures right { result ≡ same image.old image.new }
-    ensures bytes { image.new ≡ putByte image.old (512 * b + 384) 0xFF }
+    ensures bytes { image.new ≡ put_byte image.old (512 * b + 384) 0xFF }
 {
     if layout::directory::type_at(image, b, 3) == 0xFF {
         return true;
@@ -154,7 +154,7 @@ pub fn put_named(
 
 // Sets the size in blocks of the entry in slot k of block b, with its code.
 fn put_size(image: &mut [u8], b: usize, k: usize, d: usize, codes: &mut [u8])
-    requires { (512 * b + 512 ≤ length image.old) × (4 * b + 4 ≤ length codes.old) × (d ≤ maxDirectory) }
+    requires { (512 * b + 512 ≤ length image.old) × (4 * b + 4 ≤ length codes.old) × (d ≤ max_directory) }
     ensures bytes { image.new ≡ (sized (st image.old [] codes.old) (entry_at b k) d).image }
     ensures codes { codes.new ≡ (sized (st image.old [] codes.old) (entry_at b k) d).codes }
 {

@@ -1,15 +1,15 @@
 // The rest: entries 0 to t, blocks that nobody claims, padding entries, the header.
 ghost use Rattle.std.specs.Prelude.{◌≡◌, ◌+◌, ◌-◌, ◌*◌, ◌≤◌, ◌<◌, length};
 ghost use Rattle.layout.specs.Lists.{same};
-ghost use Rattle.layout.specs.Geometry.{tableBlocks};
-ghost use Rattle.layout.specs.Table.{tableBlockOf};
+ghost use Rattle.layout.specs.Geometry.{table_blocks};
+ghost use Rattle.layout.specs.Table.{table_block_of};
 ghost use Rattle.layout.specs.Walks.Shapes.{Shape, Room};
-ghost use Rattle.salvage_tree.specs.SalvageTree.{headPut};
+ghost use Rattle.salvage_tree.specs.SalvageTree.{head_put};
 ghost use Rattle.salvage_tree.specs.Walks.{Ready, FreedNoted, IsFree, AllFree, signed, BlocksPut, PaddingPut, RestPut};
 
 // The code 5 of block b, if it is in use and not claimed.
 fn note_block(image: &[u8], marks: &[u8], b: usize, codes: &mut [u8])
-    requires { (512 * tableBlockOf b + 512 ≤ length image.now) × (b < length marks.now) × (4 * b < length codes.old) }
+    requires { (512 * table_block_of b + 512 ≤ length image.now) × (b < length marks.now) × (4 * b < length codes.old) }
     ensures { FreedNoted image.now marks.now b 1 codes.old codes.new }
 {
     if marks[b] != 0 {
@@ -38,7 +38,7 @@ fn note_freed(image: &[u8], n: usize, marks: &[u8], from: usize, k: usize, codes
 
 // Whether entry b is claimed or 0.
 fn is_free(image: &[u8], marks: &[u8], b: usize) -> bool
-    requires { (512 * tableBlockOf b + 512 ≤ length image.now) × (b < length marks.now) }
+    requires { (512 * table_block_of b + 512 ≤ length image.now) × (b < length marks.now) }
     ensures { IsFree image.now marks.now b result }
 {
     if marks[b] != 0 {
@@ -49,7 +49,7 @@ fn is_free(image: &[u8], marks: &[u8], b: usize) -> bool
 
 // The same of the k entries from `from` on.
 fn all_free(image: &[u8], n: usize, marks: &[u8], from: usize, k: usize) -> bool
-    requires { (Shape image.now n) × (from + k ≤ 128 * tableBlocks n) × (from + k ≤ length marks.now) }
+    requires { (Shape image.now n) × (from + k ≤ 128 * table_blocks n) × (from + k ≤ length marks.now) }
     ensures { AllFree image.now marks.now from k result }
 {
     let mut b = from;
@@ -67,7 +67,7 @@ fn all_free(image: &[u8], n: usize, marks: &[u8], from: usize, k: usize) -> bool
 // Whether the header is right.
 fn head_right(image: &[u8], n: usize) -> bool
     requires { Shape image.now n }
-    ensures { result ≡ same image.now (headPut image.now) }
+    ensures { result ≡ same image.now (head_put image.now) }
 {
     if layout::check::head(image) != 0 {
         return false;
@@ -91,8 +91,8 @@ fn sign(image: &mut [u8])
 
 // Puts the header right.
 fn put_header(image: &mut [u8], t: usize, n: usize)
-    requires { (Shape image.old n) × (t ≡ tableBlocks n) }
-    ensures { image.new ≡ headPut image.old }
+    requires { (Shape image.old n) × (t ≡ table_blocks n) }
+    ensures { image.new ≡ head_put image.old }
 {
     sign(image);
     super::numbers::put_number(image, 12, n);

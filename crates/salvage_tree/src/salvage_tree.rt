@@ -1,13 +1,13 @@
 // Salvage of a tree: what refuses it, its steps in order, and the counts.
 ghost use Rattle.std.specs.Prelude.{cond, ◌≡◌, ◌+◌, ◌*◌, ◌/◌, ◌%◌, ◌≤◌, ◌<◌, length, get_or};
-ghost use Rattle.layout.specs.Limits.{smallBlocks};
+ghost use Rattle.layout.specs.Limits.{small_blocks};
 ghost use Rattle.layout.specs.Lists.{within, interval, select};
 ghost use Rattle.layout.specs.Bytes.{zeros};
-ghost use Rattle.layout.specs.Geometry.{tableBlocks};
-ghost use Rattle.layout.specs.Directory.{isFree};
+ghost use Rattle.layout.specs.Geometry.{table_blocks};
+ghost use Rattle.layout.specs.Directory.{is_free};
 ghost use Rattle.layout.specs.Walks.Shapes.{Shape};
-ghost use Rattle.salvage_tree.specs.SalvageTree.{TreeAnswer, otherLength, treeRefusal, number, salvaged, salvageTree};
-ghost use Rattle.salvage_tree.specs.Walks.{Ready, one, UsedOf, usedBits, wasUsed, hungHere, Answered};
+ghost use Rattle.salvage_tree.specs.SalvageTree.{TreeAnswer, other_length, tree_refusal, number, salvaged, salvage_tree};
+ghost use Rattle.salvage_tree.specs.Walks.{Ready, one, UsedOf, used_bits, was_used, hung_here, Answered};
 
 use layout::limits::{MAX_BLOCKS, MIN_BLOCKS, SMALL_BLOCKS};
 
@@ -22,7 +22,7 @@ pub struct Salvaged {
 // Whether the header is whole, of a volume of another length than n blocks.
 fn other_length(image: &[u8], n: usize) -> bool
     requires { Shape image.now n }
-    ensures { result ≡ otherLength image.now }
+    ensures { result ≡ other_length image.now }
 {
     let z = 0;
     let e = 12;
@@ -48,7 +48,7 @@ fn other_length(image: &[u8], n: usize) -> bool
 
 // The refusal, 1, 3 or 9, or 0; `size` is the report's.
 fn refusal(image: &[u8], size: usize) -> u32
-    ensures { result ≡ treeRefusal image.now size }
+    ensures { result ≡ tree_refusal image.now size }
 {
     if !layout::check::sized(image) {
         return 1;
@@ -65,7 +65,7 @@ fn refusal(image: &[u8], size: usize) -> u32
 
 // 1 if a type is not that of a free slot, else 0.
 fn used_bit(ty: u8) -> u8
-    ensures { (result ≡ cond (isFree ty) 0 1) × (result ≤ 1) }
+    ensures { (result ≡ cond (is_free ty) 0 1) × (result ≤ 1) }
 {
     if ty == 0 {
         return 0;
@@ -76,7 +76,7 @@ fn used_bit(ty: u8) -> u8
 // Which slots of block b are not free, a bit for each.
 fn used_slots(image: &[u8], b: usize) -> u8
     requires { 512 * b + 512 ≤ length image.now }
-    ensures { result ≡ usedBits image.now b }
+    ensures { result ≡ used_bits image.now b }
 {
     let x = used_bit(layout::directory::type_at(image, b, 0));
     let y = used_bit(layout::directory::type_at(image, b, 1));
@@ -102,7 +102,7 @@ fn note_used(image: &[u8], n: usize, used: &mut [u8])
 // Whether slot i, counted over all blocks, was not free.
 fn was_used(used: &[u8], i: usize) -> bool
     requires { i < 4 * length used.now }
-    ensures { result ≡ wasUsed (get_or used.now (i / 4) 0) (i % 4) }
+    ensures { result ≡ was_used (get_or used.now (i / 4) 0) (i % 4) }
 {
     let x = used[i / 4];
     if i % 4 == 0 {
@@ -120,7 +120,7 @@ fn was_used(used: &[u8], i: usize) -> bool
 // 1 if code i is that of a folder hung in a slot that was not free, else 0.
 fn over_bit(codes: &[u8], used: &[u8], i: usize) -> u32
     requires { (i < length codes.now) × (i < 4 * length used.now) }
-    ensures { (result ≡ one (hungHere codes.now used.now i)) × (result ≤ 1) }
+    ensures { (result ≡ one (hung_here codes.now used.now i)) × (result ≤ 1) }
 {
     if codes[i] != 6 {
         return 0;
@@ -134,7 +134,7 @@ fn over_bit(codes: &[u8], used: &[u8], i: usize) -> u32
 // How many folders were hung in slots that were not free.
 fn count_over(codes: &[u8], used: &[u8]) -> u32
     requires { (length codes.now ≤ 4 * length used.now) × (length codes.now ≤ 262144) }
-    ensures { (result ≡ length (select (hungHere codes.now used.now) (interval 0 (length codes.now)))) × (result ≤ length codes.now) }
+    ensures { (result ≡ length (select (hung_here codes.now used.now) (interval 0 (length codes.now)))) × (result ≤ length codes.now) }
 {
     let mut count = 0;
     let mut i = 0;
@@ -191,7 +191,7 @@ fn answer(
     used: &mut [u8],
     codes: &mut [u8],
 ) -> Salvaged
-    requires { (Shape image.old n) × (128 * tableBlocks n ≤ length marks.old) × (marks.old ≡ zeros (length marks.old)) × (n ≤ length used.old) × (length codes.old ≡ 4 * n) }
+    requires { (Shape image.old n) × (128 * table_blocks n ≤ length marks.old) × (marks.old ≡ zeros (length marks.old)) × (n ≤ length used.old) × (length codes.old ≡ 4 * n) }
     ensures { Answered image.old result.number result.zeroed result.freed image.new codes.new }
 {
     note_used(image, n, used);
@@ -209,7 +209,7 @@ fn answer(
 
 // The same of a small volume.
 fn small_answer(image: &mut [u8], n: usize, codes: &mut [u8]) -> Salvaged
-    requires { (Shape image.old n) × (n ≤ smallBlocks) × (length codes.old ≡ 4 * n) }
+    requires { (Shape image.old n) × (n ≤ small_blocks) × (length codes.old ≡ 4 * n) }
     ensures { Answered image.old result.number result.zeroed result.freed image.new codes.new }
 {
     let mut marks = layout::table::few_marks();
@@ -240,7 +240,7 @@ fn accepted(image: &mut [u8], n: usize, codes: &mut [u8]) -> Salvaged
 
 // Salvages an image: what can be kept of its tree is put right, all else freed, and the report tells a code for each slot and each freed block.
 pub fn salvage_tree(image: &mut [u8], report: &mut [u8]) -> Salvaged
-    ensures { ◌≡◌ {A = TreeAnswer} (record { number = result.number; zeroed = result.zeroed; freed = result.freed; image = image.new; report = report.new }) (salvageTree image.old report.old) }
+    ensures { ◌≡◌ {A = TreeAnswer} (record { number = result.number; zeroed = result.zeroed; freed = result.freed; image = image.new; report = report.new }) (salvage_tree image.old report.old) }
 {
     let why = refusal(image, report.len());
     if why != 0 {

@@ -1,8 +1,8 @@
 // One slot: what is dropped, files, and the directory of an entry as far as its own blocks.
 ghost use Rattle.std.specs.Prelude.{◌≡◌, ◌+◌, ◌*◌, ◌/◌, ◌≤◌, ◌<◌, length, get_or};
-ghost use Rattle.layout.specs.Limits.{maxDirectory};
+ghost use Rattle.layout.specs.Limits.{max_directory};
 ghost use Rattle.layout.specs.Bytes.{zeros, splice};
-ghost use Rattle.layout.specs.Directory.{firstBlock};
+ghost use Rattle.layout.specs.Directory.{first_block};
 ghost use Rattle.layout.specs.Walks.Shapes.{Shape, Room};
 ghost use Rattle.layout.specs.Walks.Slots.{entry_at};
 ghost use Rattle.salvage_tree.specs.SalvageTree.{coded, witness};
@@ -72,7 +72,7 @@ pub fn take_entry(
 
 // Whether the blocks are the directory of the entry in slot k of block b, whose first block is the first of them.
 fn is_witnessed(image: &[u8], n: usize, b: usize, k: usize, blocks: &[usize]) -> bool
-    requires { (Shape image.now n) × (Own n blocks.now) × (b < n) × (firstBlock image.now (entry_at b k) ≡ get_or blocks.now 0 0) }
+    requires { (Shape image.now n) × (Own n blocks.now) × (b < n) × (first_block image.now (entry_at b k) ≡ get_or blocks.now 0 0) }
     ensures { result ≡ witness image.now (entry_at b k) blocks.now }
 {
     let first = blocks[0];
@@ -102,7 +102,7 @@ fn find_blocks(
     marks: &[u8],
     blocks: &mut [usize],
 ) -> usize
-    requires { (Room image.now t n marks.now) × (b < n) × (length blocks.old ≡ maxDirectory) }
+    requires { (Room image.now t n marks.now) × (b < n) × (length blocks.old ≡ max_directory) }
     ensures { Found image.now n (entry_at b k) marks.now result blocks.new }
 {
     let first = layout::directory::number_at(image, b, k, 4);
@@ -131,7 +131,7 @@ pub fn enter(
     marks: &mut [u8],
     codes: &mut [u8],
 ) -> usize
-    requires { (Ready image.old t n marks.old codes.old) × (parent < n) × (b < n) × (length blocks.old ≡ maxDirectory) }
+    requires { (Ready image.old t n marks.old codes.old) × (parent < n) × (b < n) × (length blocks.old ≡ max_directory) }
     ensures { Entered image.old n parent (entry_at b k) marks.old codes.old result blocks.new image.new marks.new codes.new }
 {
     let d = find_blocks(image, t, n, b, k, marks, blocks);

@@ -1,6 +1,6 @@
 // A directory's slots, and from a slot to a child directory, at most so many levels.
 ghost use Rattle.std.specs.Prelude.{◌*◌, ◌≤◌, ◌<◌, length};
-ghost use Rattle.layout.specs.Limits.{maxLevels};
+ghost use Rattle.layout.specs.Limits.{max_levels};
 ghost use Rattle.salvage_tree.specs.Walks.{Own, Ready, SlotDone, SlotsDone};
 
 // Slots 1 to 4·d − 2 of a directory of d blocks, in order.
@@ -14,7 +14,7 @@ pub fn take_slots(
     marks: &mut [u8],
     codes: &mut [u8],
 )
-    requires { (Ready image.old t n marks.old codes.old) × (Own n blocks.now) × (left ≤ maxLevels) }
+    requires { (Ready image.old t n marks.old codes.old) × (Own n blocks.now) × (left ≤ max_levels) }
     ensures { SlotsDone image.old blocks.now left marks.old codes.old image.new marks.new codes.new }
 {
     let mut k = 1;
@@ -38,7 +38,7 @@ fn take_slot(
     marks: &mut [u8],
     codes: &mut [u8],
 )
-    requires { (Ready image.old t n marks.old codes.old) × (Own n blocks.now) × (1 ≤ k) × (k < 4 * length blocks.now) × (left ≤ maxLevels) }
+    requires { (Ready image.old t n marks.old codes.old) × (Own n blocks.now) × (1 ≤ k) × (k < 4 * length blocks.now) × (left ≤ max_levels) }
     ensures { SlotDone image.old blocks.now k left marks.old codes.old image.new marks.new codes.new }
 {
     let b = blocks[k / 4];

@@ -1,10 +1,10 @@
 // Answers as bytes: four numbers, then what is handed back.
 ghost use Rattle.std.specs.Prelude.{◌≡◌, ◌+◌, ◌≤◌, ◌<◌, length, []};
 ghost use Rattle.layout.specs.Bytes.{be64, splice};
-ghost use Rattle.layout.specs.Answers.{lookupAnswer, readAnswer};
-ghost use Rattle.script.specs.Script.{Fits, numbers, name_at, dataLength, encoded};
-ghost use Rattle.journal.specs.Run.{checkImage, findFile, lookAt, lookAnswer, found, filled, shown};
-ghost use Rattle.script.specs.Walks.Scripts.{filledAt};
+ghost use Rattle.layout.specs.Answers.{lookup_answer, read_answer};
+ghost use Rattle.script.specs.Script.{Fits, numbers, name_at, data_length, encoded};
+ghost use Rattle.journal.specs.Run.{check_image, find_file, look_at, look_answer, found, filled, shown};
+ghost use Rattle.script.specs.Walks.Scripts.{filled_at};
 
 use layout::number::{get32, get64};
 
@@ -34,7 +34,7 @@ pub fn put_numbers(part: &mut [u8], n: Numbers)
 
 // The numbers of a look-up's answer.
 fn found_numbers(f: layout::reading::Found) -> Numbers
-    ensures { numbers result.first result.second result.third result.fourth ≡ encoded (found (lookupAnswer f)) }
+    ensures { numbers result.first result.second result.third result.fourth ≡ encoded (found (lookup_answer f)) }
 {
     match f {
         layout::reading::Found::File { slot, size, blocks } => Numbers {
@@ -55,7 +55,7 @@ fn found_numbers(f: layout::reading::Found) -> Numbers
 // Check, with its answer.
 pub fn check(image: &[u8], part: &mut [u8])
     requires { length part.old ≡ 16 }
-    ensures { part.new ≡ encoded (lookAnswer image.now checkImage) }
+    ensures { part.new ≡ encoded (look_answer image.now check_image) }
 {
     let number = layout::check::check(image);
     put_numbers(
@@ -72,7 +72,7 @@ pub fn check(image: &[u8], part: &mut [u8])
 // Look up the name of the item at `at`, with its answer.
 pub fn lookup(script: &[u8], at: usize, image: &[u8], part: &mut [u8])
     requires { (Fits script.now at) × (length part.old ≡ 16) }
-    ensures { part.new ≡ encoded (lookAnswer image.now (findFile (name_at script.now at))) }
+    ensures { part.new ≡ encoded (look_answer image.now (find_file (name_at script.now at))) }
 {
     let name = super::items::name_of(script, at);
     let f = layout::reading::lookup(image, name);
@@ -81,8 +81,8 @@ pub fn lookup(script: &[u8], at: usize, image: &[u8], part: &mut [u8])
 
 // The numbers of a read's answer.
 fn filled_numbers(f: layout::reading::Filled) -> Numbers
-    requires { (readAnswer f []).count < 4294967296 }
-    ensures { (result.first ≡ (readAnswer f []).number) × (result.second ≡ (readAnswer f []).count) × (result.third ≡ 0) × (result.fourth ≡ 0) }
+    requires { (read_answer f []).count < 4294967296 }
+    ensures { (result.first ≡ (read_answer f []).number) × (result.second ≡ (read_answer f []).count) × (result.third ≡ 0) × (result.fourth ≡ 0) }
 {
     match f {
         layout::reading::Filled::Bytes(count) => Numbers {
@@ -102,8 +102,8 @@ fn filled_numbers(f: layout::reading::Filled) -> Numbers
 
 // Copies the data of the item at `at` into the buffer, and reads over it: the file's attributes, or the file.
 fn read_into(script: &[u8], at: usize, image: &[u8], buffer: &mut [u8]) -> layout::reading::Filled
-    requires { (Fits script.now at) × (length buffer.old ≡ dataLength script.now at) }
-    ensures { readAnswer result buffer.new ≡ filledAt image.now script.now at }
+    requires { (Fits script.now at) × (length buffer.old ≡ data_length script.now at) }
+    ensures { read_answer result buffer.new ≡ filled_at image.now script.now at }
 {
     let before = super::items::data_of(script, at);
     layout::bytes::copy(before, buffer);
@@ -117,8 +117,8 @@ fn read_into(script: &[u8], at: usize, image: &[u8], buffer: &mut [u8]) -> layou
 
 // Read what the item at `at` asks for, with its answer.
 pub fn read(script: &[u8], at: usize, image: &[u8], part: &mut [u8])
-    requires { (Fits script.now at) × (length part.old ≡ 16 + dataLength script.now at) }
-    ensures { part.new ≡ encoded (filled (filledAt image.now script.now at)) }
+    requires { (Fits script.now at) × (length part.old ≡ 16 + data_length script.now at) }
+    ensures { part.new ≡ encoded (filled (filled_at image.now script.now at)) }
 {
     let a = 16;
     let e = 16 + get32(script, at + 29) as usize;
@@ -151,7 +151,7 @@ fn put_shown(bytes: &[u8], start: u32, part: &mut [u8])
 // Look in place as the item at `at` asks, with its answer.
 pub fn look_in_place(script: &[u8], at: usize, image: &[u8], part: &mut [u8])
     requires { (Fits script.now at) × (length part.old ≡ 528) }
-    ensures { part.new ≡ encoded (lookAnswer image.now (lookAt (name_at script.now at) (be64 script.now (at + 9)))) }
+    ensures { part.new ≡ encoded (look_answer image.now (look_at (name_at script.now at) (be64 script.now (at + 9)))) }
 {
     let index = get64(script, at + 9) as usize;
     let name = super::items::name_of(script, at);

@@ -1,15 +1,15 @@
 // Scripts of calls: the fields of an item, the form of a script, and the length of its answers.
 ghost use Rattle.std.specs.Prelude.{◌≡◌, true, false, ◌+◌, ◌≤◌, ◌<◌, length, leb};
 ghost use Rattle.layout.specs.Lists.{every};
-ghost use Rattle.script.specs.Script.{Fits, opAt, shows, name_at, dataAt, itemSize, itemCall, itemOk, itemsFrom, calls_of, itemRoom, answersSize};
-ghost use Rattle.script.specs.Walks.Scripts.{fills, headSize};
+ghost use Rattle.script.specs.Script.{Fits, op_at, shows, name_at, data_at, item_size, item_call, item_ok, items_from, calls_of, item_room, answers_size};
+ghost use Rattle.script.specs.Walks.Scripts.{fills, head_size};
 
 use layout::number::get32;
 
 // The length of the item at `at`, whose header is there.
 pub fn item_size(script: &[u8], at: usize) -> usize
     requires { at + 33 ≤ length script.now }
-    ensures { result ≡ itemSize script.now at }
+    ensures { result ≡ item_size script.now at }
 {
     let name = get32(script, at + 25) as usize;
     let bytes = get32(script, at + 29) as usize;
@@ -29,7 +29,7 @@ pub fn name_of(script: &[u8], at: usize) -> &[u8]
 // The data of the item at `at`.
 pub fn data_of(script: &[u8], at: usize) -> &[u8]
     requires { Fits script.now at }
-    ensures { result.now ≡ dataAt script.now at }
+    ensures { result.now ≡ data_at script.now at }
 {
     let a = at + 33 + get32(script, at + 25) as usize;
     let e = a + get32(script, at + 29) as usize;
@@ -39,7 +39,7 @@ pub fn data_of(script: &[u8], at: usize) -> &[u8]
 // Whether an item with a known op stands at `at`, and is not cut off.
 fn item_ok(script: &[u8], at: usize) -> bool
     requires { at < length script.now }
-    ensures { result ≡ itemOk script.now at }
+    ensures { result ≡ item_ok script.now at }
 {
     let left = script.len() - at;
     if left < 33 {
@@ -79,8 +79,8 @@ pub fn shows(op: u8) -> bool
 
 // The length of the answer to the item at `at`, which is no look from op 16 on.
 fn plain_size(script: &[u8], at: usize) -> usize
-    requires { (Fits script.now at) × (shows (opAt script.now at) ≡ false) }
-    ensures { result ≡ itemRoom (itemCall script.now at) }
+    requires { (Fits script.now at) × (shows (op_at script.now at) ≡ false) }
+    ensures { result ≡ item_room (item_call script.now at) }
 {
     if fills(script[at]) {
         return 16 + get32(script, at + 29) as usize;
@@ -93,7 +93,7 @@ fn plain_size(script: &[u8], at: usize) -> usize
 
 // The length of the numbers in the answer of a look from op 16 on.
 fn head_size(op: u8) -> usize
-    ensures { result ≡ headSize op }
+    ensures { result ≡ head_size op }
 {
     if op == 16 {
         return 32;
@@ -107,7 +107,7 @@ fn head_size(op: u8) -> usize
 // The length of the answer to the item at `at`.
 pub fn answer_size(script: &[u8], at: usize) -> usize
     requires { Fits script.now at }
-    ensures { result ≡ itemRoom (itemCall script.now at) }
+    ensures { result ≡ item_room (item_call script.now at) }
 {
     if shows(script[at]) {
         return head_size(script[at]) + get32(script, at + 29) as usize;
@@ -117,7 +117,7 @@ pub fn answer_size(script: &[u8], at: usize) -> usize
 
 // Whether items fill a script exactly.
 pub fn well_formed(script: &[u8]) -> bool
-    ensures { result ≡ every (itemOk script.now) (itemsFrom script.now 0) }
+    ensures { result ≡ every (item_ok script.now) (items_from script.now 0) }
 {
     let mut at = 0;
     while at < script.len() {
@@ -131,8 +131,8 @@ pub fn well_formed(script: &[u8]) -> bool
 
 // Whether the answers to a script have room in `room` bytes.
 pub fn answers_fit(script: &[u8], room: usize) -> bool
-    requires { every (itemOk script.now) (itemsFrom script.now 0) ≡ true }
-    ensures { result ≡ leb (answersSize (calls_of script.now)) room }
+    requires { every (item_ok script.now) (items_from script.now 0) ≡ true }
+    ensures { result ≡ leb (answers_size (calls_of script.now)) room }
 {
     let mut at = 0;
     let mut left = room;

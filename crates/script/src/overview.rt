@@ -1,10 +1,10 @@
 // The answers of the looks at the volume and at a directory's entries: numbers, then the buffer.
 ghost use Rattle.std.specs.Prelude.{[], ◌≡◌, ◌+◌, ◌/◌, ◌%◌, ◌≤◌, length};
 ghost use Rattle.layout.specs.Bytes.{be64, splice};
-ghost use Rattle.layout.specs.Looks.{volumeInfo, nextEntry};
-ghost use Rattle.layout.specs.Answers.{volumeAnswer, entryAnswer};
-ghost use Rattle.journal.specs.Run.{look, lookAnswer, described, entered};
-ghost use Rattle.script.specs.Script.{Fits, name_at, dataAt, dataLength, numbers, volumeHead, entryHead, showAt, encoded, answerSize};
+ghost use Rattle.layout.specs.Looks.{volume_info, next_entry};
+ghost use Rattle.layout.specs.Answers.{volume_answer, entry_answer};
+ghost use Rattle.journal.specs.Run.{look, look_answer, described, entered};
+ghost use Rattle.script.specs.Script.{Fits, name_at, data_at, data_length, numbers, volume_head, entry_head, show_at, encoded, answer_size};
 
 use super::answers::Numbers;
 
@@ -20,7 +20,7 @@ fn put_group(head: &mut [u8], at: usize, n: Numbers)
 // Writes the volume's numbers.
 fn put_volume(head: &mut [u8], v: layout::overview::VolumeInfo)
     requires { length head.old ≡ 32 }
-    ensures { head.new ≡ volumeHead (volumeAnswer v []) }
+    ensures { head.new ≡ volume_head (volume_answer v []) }
 {
     let first = Numbers {
         first: v.number,
@@ -101,7 +101,7 @@ fn owners(e: layout::overview::EntryInfo) -> Numbers
 // Writes an entry's numbers.
 fn put_entry(head: &mut [u8], e: layout::overview::EntryInfo)
     requires { length head.old ≡ 64 }
-    ensures { head.new ≡ entryHead (entryAnswer e []) }
+    ensures { head.new ≡ entry_head (entry_answer e []) }
 {
     put_group(head, 0, places(e));
     put_group(head, 16, chains(e));
@@ -116,8 +116,8 @@ fn volume_into(
     image: &[u8],
     buffer: &mut [u8],
 ) -> layout::overview::VolumeInfo
-    requires { (Fits script.now at) × (length buffer.old ≡ dataLength script.now at) }
-    ensures { volumeAnswer result buffer.new ≡ volumeInfo image.now (dataAt script.now at) }
+    requires { (Fits script.now at) × (length buffer.old ≡ data_length script.now at) }
+    ensures { volume_answer result buffer.new ≡ volume_info image.now (data_at script.now at) }
 {
     layout::bytes::copy(super::items::data_of(script, at), buffer);
     layout::overview::info(image, buffer)
@@ -130,8 +130,8 @@ fn entry_into(
     image: &[u8],
     buffer: &mut [u8],
 ) -> layout::overview::EntryInfo
-    requires { (Fits script.now at) × (length buffer.old ≡ dataLength script.now at) }
-    ensures { entryAnswer result buffer.new ≡ nextEntry image.now (name_at script.now at) (be64 script.now (at + 9)) (dataAt script.now at) }
+    requires { (Fits script.now at) × (length buffer.old ≡ data_length script.now at) }
+    ensures { entry_answer result buffer.new ≡ next_entry image.now (name_at script.now at) (be64 script.now (at + 9)) (data_at script.now at) }
 {
     layout::bytes::copy(super::items::data_of(script, at), buffer);
     let name = super::items::name_of(script, at);
@@ -141,8 +141,8 @@ fn entry_into(
 
 // The volume's numbers, with their answer.
 fn info(script: &[u8], at: usize, image: &[u8], part: &mut [u8])
-    requires { (Fits script.now at) × (length part.old ≡ 32 + dataLength script.now at) }
-    ensures { part.new ≡ encoded (described (volumeInfo image.now (dataAt script.now at))) }
+    requires { (Fits script.now at) × (length part.old ≡ 32 + data_length script.now at) }
+    ensures { part.new ≡ encoded (described (volume_info image.now (data_at script.now at))) }
 {
     let z = 0;
     let a = 32;
@@ -153,8 +153,8 @@ fn info(script: &[u8], at: usize, image: &[u8], part: &mut [u8])
 
 // An entry, with its answer.
 fn entry(script: &[u8], at: usize, image: &[u8], part: &mut [u8])
-    requires { (Fits script.now at) × (length part.old ≡ 64 + dataLength script.now at) }
-    ensures { part.new ≡ encoded (entered (nextEntry image.now (name_at script.now at) (be64 script.now (at + 9)) (dataAt script.now at))) }
+    requires { (Fits script.now at) × (length part.old ≡ 64 + data_length script.now at) }
+    ensures { part.new ≡ encoded (entered (next_entry image.now (name_at script.now at) (be64 script.now (at + 9)) (data_at script.now at))) }
 {
     let z = 0;
     let a = 64;
@@ -165,8 +165,8 @@ fn entry(script: &[u8], at: usize, image: &[u8], part: &mut [u8])
 
 // Make the look of the item at `at`, whose op is 16 or more.
 pub fn show(script: &[u8], at: usize, image: &[u8], part: &mut [u8])
-    requires { (Fits script.now at) × (length part.old ≡ answerSize (look (showAt script.now at))) }
-    ensures { part.new ≡ encoded (lookAnswer image.now (showAt script.now at)) }
+    requires { (Fits script.now at) × (length part.old ≡ answer_size (look (show_at script.now at))) }
+    ensures { part.new ≡ encoded (look_answer image.now (show_at script.now at)) }
 {
     if script[at] == 16 {
         info(script, at, image, part);

@@ -3,12 +3,12 @@ ghost use Rattle.std.specs.Prelude.{◌≡◌, List, ℕ, ◌+◌, ◌≤◌, �
 ghost use Rattle.layout.specs.Lists.{every, joined};
 ghost use Rattle.layout.specs.Bytes.{be32, splice};
 ghost use Rattle.journal.specs.Run.{change, undo, answer, state};
-ghost use Rattle.journal.specs.Kinds.{run_of, answersOf};
-ghost use Rattle.journal.specs.Answers.{changedAnswer, undoneAnswer};
-ghost use Rattle.script.specs.Answers.{ranStatus};
+ghost use Rattle.journal.specs.Kinds.{run_of, answers_of};
+ghost use Rattle.journal.specs.Answers.{changed_answer, undone_answer};
+ghost use Rattle.script.specs.Answers.{ran_status};
 ghost use Rattle.store.specs.Asked.{asked};
-ghost use Rattle.store.specs.Change.{create, createDirectory};
-ghost use Rattle.script.specs.Script.{numbers, Fits, name_at, dataAt, opAt, shows, put_at, renewAt, changeAt, call_at, itemCall, encoded, encodedItem, itemOk, itemsFrom, calls_of, answersSize, leaves, outcome, replayOutcome, JustStarted};
+ghost use Rattle.store.specs.Change.{create, create_directory};
+ghost use Rattle.script.specs.Script.{numbers, Fits, name_at, data_at, op_at, shows, put_at, renew_at, change_at, call_at, item_call, encoded, encoded_item, item_ok, items_from, calls_of, answers_size, leaves, outcome, replay_outcome, JustStarted};
 ghost use Rattle.script.specs.Walks.Scripts.{looks, Item, Whole, CallDone, ItemDone};
 
 use super::answers::Numbers;
@@ -20,7 +20,7 @@ use volume::create::Given;
 
 // The numbers of a change's answer.
 fn changed_numbers(c: journal::calls::Changed) -> Numbers
-    ensures { numbers result.first result.second result.third result.fourth ≡ encoded (changedAnswer c) }
+    ensures { numbers result.first result.second result.third result.fourth ≡ encoded (changed_answer c) }
 {
     match c {
         journal::calls::Changed::Done { slot, size } => Numbers {
@@ -40,7 +40,7 @@ fn changed_numbers(c: journal::calls::Changed) -> Numbers
 
 // The numbers of undo's answer.
 fn undone_numbers(u: journal::calls::Undone) -> Numbers
-    ensures { numbers result.first result.second result.third result.fourth ≡ encoded (undoneAnswer u) }
+    ensures { numbers result.first result.second result.third result.fourth ≡ encoded (undone_answer u) }
 {
     match u {
         journal::calls::Undone::Done(size) => Numbers {
@@ -61,7 +61,7 @@ fn undone_numbers(u: journal::calls::Undone) -> Numbers
 // The file that the item at `at` asks to create.
 fn file_of(script: &[u8], at: usize, time: u64) -> Change
     requires { Fits script.now at }
-    ensures { asked result (name_at script.now at) (dataAt script.now at)
+    ensures { asked result (name_at script.now at) (data_at script.now at)
         ≡ create (name_at script.now at) (get_or script.now (at + 1) 0) (get_or script.now (at + 2) 0) (get_or script.now (at + 3) 0) (get_or script.now (at + 4) 0) (be32 script.now (at + 5)) time }
 {
     let given = Given {
@@ -78,8 +78,8 @@ fn file_of(script: &[u8], at: usize, time: u64) -> Change
 // The directory that the item at `at` asks to create.
 fn directory_of(script: &[u8], at: usize, time: u64) -> Change
     requires { Fits script.now at }
-    ensures { asked result (name_at script.now at) (dataAt script.now at)
-        ≡ createDirectory (name_at script.now at) (get_or script.now (at + 1) 0) (get_or script.now (at + 2) 0) (get_or script.now (at + 3) 0) (get_or script.now (at + 4) 0) (be32 script.now (at + 5)) time (be32 script.now (at + 13)) }
+    ensures { asked result (name_at script.now at) (data_at script.now at)
+        ≡ create_directory (name_at script.now at) (get_or script.now (at + 1) 0) (get_or script.now (at + 2) 0) (get_or script.now (at + 3) 0) (get_or script.now (at + 4) 0) (be32 script.now (at + 5)) time (be32 script.now (at + 13)) }
 {
     let given = Given {
         kind: script[at + 1],
@@ -98,7 +98,7 @@ fn directory_of(script: &[u8], at: usize, time: u64) -> Change
 // The shorten, replace or move that the item at `at` asks for; else the delete.
 fn renew_of(script: &[u8], at: usize) -> Change
     requires { Fits script.now at }
-    ensures { asked result (name_at script.now at) (dataAt script.now at) ≡ renewAt script.now at }
+    ensures { asked result (name_at script.now at) (data_at script.now at) ≡ renew_at script.now at }
 {
     let op = script[at];
     let time = get64(script, at + 17);
@@ -119,8 +119,8 @@ fn renew_of(script: &[u8], at: usize) -> Change
 
 // The change that the item at `at` asks for, which is no put in a directory.
 fn change_of(script: &[u8], at: usize) -> Change
-    requires { (Fits script.now at) × (opAt script.now at ≢ 21) }
-    ensures { asked result (name_at script.now at) (dataAt script.now at) ≡ changeAt script.now at }
+    requires { (Fits script.now at) × (op_at script.now at ≢ 21) }
+    ensures { asked result (name_at script.now at) (data_at script.now at) ≡ change_at script.now at }
 {
     let op = script[at];
     let time = get64(script, at + 17);
@@ -165,7 +165,7 @@ fn undo(image: &mut [u8], journal: &mut [u8], part: &mut [u8])
 
 // Make the call that only looks of the item at `at`; the journal does not matter.
 fn look(script: &[u8], at: usize, image: &[u8], part: &mut [u8])
-    requires { (Item script.now at part.old) × (1 ≤ opAt script.now at) × (looks (opAt script.now at) ≡ true) }
+    requires { (Item script.now at part.old) × (1 ≤ op_at script.now at) × (looks (op_at script.now at) ≡ true) }
     ensures { (journal : List ℕ) → part.new ≡ encoded (answer (state image.now journal) (call_at script.now at)) }
 {
     if super::items::fills(script[at]) {
@@ -198,7 +198,7 @@ fn put_in(script: &[u8], at: usize, image: &mut [u8], journal: &mut [u8], part: 
 
 // Make the change or undo of the item at `at`.
 fn change(script: &[u8], at: usize, image: &mut [u8], journal: &mut [u8], part: &mut [u8])
-    requires { (Item script.now at part.old) × (looks (opAt script.now at) ≡ false) }
+    requires { (Item script.now at part.old) × (looks (op_at script.now at) ≡ false) }
     ensures { CallDone (state image.old journal.old) (call_at script.now at) image.new journal.new part.new }
 {
     if script[at] == 8 {
@@ -228,7 +228,7 @@ fn is_look(op: u8) -> bool
 
 // Make the call of the item at `at`, which is no list and no call on marks.
 fn make_call(script: &[u8], at: usize, image: &mut [u8], journal: &mut [u8], part: &mut [u8])
-    requires { (Item script.now at part.old) × (1 ≤ opAt script.now at) }
+    requires { (Item script.now at part.old) × (1 ≤ op_at script.now at) }
     ensures { CallDone (state image.old journal.old) (call_at script.now at) image.new journal.new part.new }
 {
     if is_look(script[at]) {
@@ -240,8 +240,8 @@ fn make_call(script: &[u8], at: usize, image: &mut [u8], journal: &mut [u8], par
 
 // Write the list of the item at `at`.
 fn make_list(script: &[u8], at: usize, image: &mut [u8], journal: &mut [u8], part: &mut [u8])
-    requires { (Fits script.now at) × (opAt script.now at ≡ 15) × (length part.old ≡ 16) }
-    ensures { ItemDone (state image.old journal.old) (itemCall script.now at) image.new journal.new part.new }
+    requires { (Fits script.now at) × (op_at script.now at ≡ 15) × (length part.old ≡ 16) }
+    ensures { ItemDone (state image.old journal.old) (item_call script.now at) image.new journal.new part.new }
 {
     let list = data_of(script, at);
     let w = write_list::call::write_list(image, journal, list);
@@ -258,8 +258,8 @@ fn make_list(script: &[u8], at: usize, image: &mut [u8], journal: &mut [u8], par
 
 // Make the call of the item at `at`, a list and a call on marks too, which is no look from op 16 on.
 fn make_plain(script: &[u8], at: usize, image: &mut [u8], journal: &mut [u8], part: &mut [u8])
-    requires { (Whole script.now at part.old) × (1 ≤ opAt script.now at) × (shows (opAt script.now at) ≡ false) }
-    ensures { ItemDone (state image.old journal.old) (itemCall script.now at) image.new journal.new part.new }
+    requires { (Whole script.now at part.old) × (1 ≤ op_at script.now at) × (shows (op_at script.now at) ≡ false) }
+    ensures { ItemDone (state image.old journal.old) (item_call script.now at) image.new journal.new part.new }
 {
     if script[at] == 15 {
         make_list(script, at, image, journal, part);
@@ -274,8 +274,8 @@ fn make_plain(script: &[u8], at: usize, image: &mut [u8], journal: &mut [u8], pa
 
 // Make the call or write the list of the item at `at`.
 fn make(script: &[u8], at: usize, image: &mut [u8], journal: &mut [u8], part: &mut [u8])
-    requires { (Whole script.now at part.old) × (1 ≤ opAt script.now at) }
-    ensures { ItemDone (state image.old journal.old) (itemCall script.now at) image.new journal.new part.new }
+    requires { (Whole script.now at part.old) × (1 ≤ op_at script.now at) }
+    ensures { ItemDone (state image.old journal.old) (item_call script.now at) image.new journal.new part.new }
 {
     if super::items::shows(script[at]) {
         super::overview::show(script, at, image, part);
@@ -286,8 +286,8 @@ fn make(script: &[u8], at: usize, image: &mut [u8], journal: &mut [u8], part: &m
 
 // Makes the calls of a script of the right form, whose answers have room.
 fn execute(script: &[u8], image: &mut [u8], journal: &mut [u8], out: &mut [u8])
-    requires { (every (itemOk script.now) (itemsFrom script.now 0) ≡ true) × (answersSize (calls_of script.now) ≤ length out.old) }
-    ensures { (state image.new journal.new ≡ run_of (state image.old journal.old) (calls_of script.now)) × (out.new ≡ splice out.old 0 (joined encodedItem (answersOf (state image.old journal.old) (calls_of script.now)))) }
+    requires { (every (item_ok script.now) (items_from script.now 0) ≡ true) × (answers_size (calls_of script.now) ≤ length out.old) }
+    ensures { (state image.new journal.new ≡ run_of (state image.old journal.old) (calls_of script.now)) × (out.new ≡ splice out.old 0 (joined encoded_item (answers_of (state image.old journal.old) (calls_of script.now)))) }
 {
     let mut at = 0;
     let mut q = 0;
@@ -310,8 +310,8 @@ pub enum Ran {
 
 // Runs a script: makes its calls in order and writes their answers to `out`. A script that is not run changes nothing.
 pub fn run(script: &[u8], image: &mut [u8], journal: &mut [u8], out: &mut [u8]) -> Ran
-    ensures outcome { leaves (ranStatus result) image.new journal.new out.new ≡ outcome (state image.old journal.old) script.now out.old }
-    ensures replay { JustStarted image.old journal.old → leaves (ranStatus result) image.new journal.new out.new ≡ replayOutcome (state image.old journal.old) script.now out.old }
+    ensures outcome { leaves (ran_status result) image.new journal.new out.new ≡ outcome (state image.old journal.old) script.now out.old }
+    ensures replay { JustStarted image.old journal.old → leaves (ran_status result) image.new journal.new out.new ≡ replay_outcome (state image.old journal.old) script.now out.old }
 {
     if !super::items::well_formed(script) {
         return Ran::Malformed;

@@ -6,10 +6,10 @@ use Rattle.store.specs.declared.change.Change.TheVariants as kinds
 use Rattle.store.specs.Put.{root}
 use Rattle.store.specs.Change as rules
 
-abbrev pub askedIn : Change → (directory path bytes : List ℕ) → rules.Change
-askedIn (kinds.Volume c) directory path bytes = rules.plain (volume.asked c path bytes)
-askedIn (kinds.Put time) directory path bytes = rules.put_in directory path time bytes
+abbrev pub asked_in : Change → (directory path bytes : List ℕ) → rules.Change
+asked_in (kinds.Volume c) directory path bytes = rules.plain (volume.asked c path bytes)
+asked_in (kinds.Put time) directory path bytes = rules.put_in directory path time bytes
 
 -- with no directory beside the path: a put is in the root
 abbrev pub asked : Change → (path bytes : List ℕ) → rules.Change
-asked c path bytes = askedIn c root path bytes
+asked c path bytes = asked_in c root path bytes

@@ -3,7 +3,7 @@
 use Rattle.std.specs.Prelude.{ℕ, List, [], ◌∷◌}
 use Rattle.volume.specs.Change as volume
 use Rattle.volume.specs.Views as views
-use Rattle.store.specs.Put.{root, pathOf, putRefusal, putImage, putNamed, putRevision}
+use Rattle.store.specs.Put.{root, path_of, put_refusal, put_image, put_named, put_revision}
 
 pub data Change : Type 0 where
   plain : volume.Change → Change
@@ -19,20 +19,20 @@ write path offset bytes time = plain (volume.write path offset bytes time)
 abbrev pub delete : (path : List ℕ) → Change
 delete path = plain (volume.delete path)
 
-abbrev pub createDirectory : (path : List ℕ) (type user group permissions flags time d : ℕ) → Change
-createDirectory path type user group permissions flags time d = plain (volume.createDirectory path type user group permissions flags time d)
+abbrev pub create_directory : (path : List ℕ) (type user group permissions flags time d : ℕ) → Change
+create_directory path type user group permissions flags time d = plain (volume.create_directory path type user group permissions flags time d)
 
-abbrev pub deleteDirectory : (path : List ℕ) → Change
-deleteDirectory path = plain (volume.deleteDirectory path)
+abbrev pub delete_directory : (path : List ℕ) → Change
+delete_directory path = plain (volume.delete_directory path)
 
-abbrev pub setAttributes : (path bytes : List ℕ) → Change
-setAttributes path bytes = plain (volume.setAttributes path bytes)
+abbrev pub set_attributes : (path bytes : List ℕ) → Change
+set_attributes path bytes = plain (volume.set_attributes path bytes)
 
-abbrev pub clearAttributes : (path : List ℕ) → Change
-clearAttributes path = plain (volume.clearAttributes path)
+abbrev pub clear_attributes : (path : List ℕ) → Change
+clear_attributes path = plain (volume.clear_attributes path)
 
-abbrev pub clearFlags : (path : List ℕ) → Change
-clearFlags path = plain (volume.clearFlags path)
+abbrev pub clear_flags : (path : List ℕ) → Change
+clear_flags path = plain (volume.clear_flags path)
 
 abbrev pub shorten : (path : List ℕ) (size time : ℕ) → Change
 shorten path size time = plain (volume.shorten path size time)
@@ -50,26 +50,26 @@ put serial time bytes = put_in root serial time bytes
 -- the refusal by the numbers 9 to 26, or 0
 unfoldable pub refusal : List ℕ → Change → ℕ
 refusal s (plain c) = volume.refusal s c
-refusal s (put_in directory serial time bytes) = putRefusal s directory serial time bytes
+refusal s (put_in directory serial time bytes) = put_refusal s directory serial time bytes
 
 -- of an accepted change: the image after it, its named blocks (in any order), and the number that it answers: the slot of create (of a directory too) and of
 -- move, the revision of put
 unfoldable pub after : List ℕ → Change → List ℕ
 after s (plain c) = volume.after s c
-after s (put_in directory serial time bytes) = putImage s directory serial time bytes
+after s (put_in directory serial time bytes) = put_image s directory serial time bytes
 
 unfoldable pub named : List ℕ → Change → List ℕ
 named s (plain c) = volume.named s c
-named s (put_in directory serial time bytes) = putNamed s directory serial time bytes
+named s (put_in directory serial time bytes) = put_named s directory serial time bytes
 
-unfoldable pub slotGiven : List ℕ → Change → ℕ
-slotGiven s (plain c) = volume.slotGiven s c
-slotGiven s (put_in directory serial time bytes) = putRevision s directory serial
+unfoldable pub slot_given : List ℕ → Change → ℕ
+slot_given s (plain c) = volume.slot_given s c
+slot_given s (put_in directory serial time bytes) = put_revision s directory serial
 
 -- the path that a change is about
 unfoldable pub subject : Change → List ℕ
 subject (plain c) = views.subject c
-subject (put_in directory serial time bytes) = pathOf directory serial
+subject (put_in directory serial time bytes) = path_of directory serial
 
 -- of a move also the path where its file is then; and all the paths that a change is about
 unfoldable pub further : Change → List (List ℕ)

@@ -1,10 +1,10 @@
 // Any change as one value, for the journal above: one of the volume's, or a put. The path of a put is its serial number, and beside it is its directory; the others look at no directory beside their path.
 ghost use Rattle.std.specs.Prelude.{◌≡◌, ◌≤◌, length};
-ghost use Rattle.layout.specs.Geometry.{blockCount};
+ghost use Rattle.layout.specs.Geometry.{block_count};
 ghost use Rattle.layout.specs.Check.{check};
 ghost use Rattle.volume.specs.Walks.Marks.{marked};
-ghost use Rattle.store.specs.Change.{refusal, after, named, slotGiven};
-ghost use Rattle.store.specs.Asked.{askedIn};
+ghost use Rattle.store.specs.Change.{refusal, after, named, slot_given};
+ghost use Rattle.store.specs.Asked.{asked_in};
 ghost use Rattle.store.specs.Walks.Targets.{Target, Prepared};
 
 use layout::file::File;
@@ -18,7 +18,7 @@ pub enum Change {
 // What the change is about, or the refusal, 9 to 26.
 pub fn refusal(image: &[u8], what: Change, directory: &[u8], path: &[u8], bytes: &[u8]) -> File
     requires { check image.now ≡ 0 }
-    ensures { Prepared image.now (askedIn what directory.now path.now bytes.now) result.number result.slot result.block result.first result.size result.blocks }
+    ensures { Prepared image.now (asked_in what directory.now path.now bytes.now) result.number result.slot result.block result.first result.size result.blocks }
 {
     match what {
         Change::Volume(c) => volume::change::refusal(image, c, path, bytes),
@@ -36,8 +36,8 @@ pub fn mark_named(
     found: File,
     marks: &mut [u8],
 )
-    requires { (check image.now ≡ 0) × (refusal image.now (askedIn what directory.now path.now bytes.now) ≡ 0) × (Target image.now (askedIn what directory.now path.now bytes.now) found.slot found.block found.first found.size found.blocks) × (blockCount image.now ≤ length marks.old) }
-    ensures { marks.new ≡ marked marks.old (named image.now (askedIn what directory.now path.now bytes.now)) }
+    requires { (check image.now ≡ 0) × (refusal image.now (asked_in what directory.now path.now bytes.now) ≡ 0) × (Target image.now (asked_in what directory.now path.now bytes.now) found.slot found.block found.first found.size found.blocks) × (block_count image.now ≤ length marks.old) }
+    ensures { marks.new ≡ marked marks.old (named image.now (asked_in what directory.now path.now bytes.now)) }
 {
     match what {
         Change::Volume(c) => volume::change::mark_named(image, c, path, bytes, found, marks),
@@ -56,9 +56,9 @@ pub fn make(
     bytes: &[u8],
     found: File,
 ) -> u32
-    requires { (check image.old ≡ 0) × (refusal image.old (askedIn what directory.now path.now bytes.now) ≡ 0) × (Target image.old (askedIn what directory.now path.now bytes.now) found.slot found.block found.first found.size found.blocks) }
-    ensures slot { result ≡ slotGiven image.old (askedIn what directory.now path.now bytes.now) }
-    ensures bytes { image.new ≡ after image.old (askedIn what directory.now path.now bytes.now) }
+    requires { (check image.old ≡ 0) × (refusal image.old (asked_in what directory.now path.now bytes.now) ≡ 0) × (Target image.old (asked_in what directory.now path.now bytes.now) found.slot found.block found.first found.size found.blocks) }
+    ensures slot { result ≡ slot_given image.old (asked_in what directory.now path.now bytes.now) }
+    ensures bytes { image.new ≡ after image.old (asked_in what directory.now path.now bytes.now) }
 {
     match what {
         Change::Volume(c) => volume::change::make(image, c, path, bytes, found),

@@ -1,8 +1,8 @@
 // The form of a file of the store, in a room that has the file's first bytes.
 ghost use Rattle.std.specs.Prelude.{◌+◌, ◌-◌, ◌≤◌, ◌<◌, ◌≡◌, true, false, ◌∷◌, length};
 ghost use Rattle.layout.specs.Bytes.{be32, bytes4, zeros, part, splice};
-ghost use Rattle.store.specs.Settings.{maxSetting, maxRevisions, maxNumber, recordBytes, wholeFile, encoded, held, recordsIn, added};
-ghost use Rattle.store.specs.Walks.Forms.{maxForm, length_at, followsOn, heldBy, inRoom, formIn, Counted, Summary, Parsed, droppedBy, lengthAfter, revision, Placed};
+ghost use Rattle.store.specs.Settings.{max_setting, max_revisions, max_number, record_bytes, whole_file, encoded, held, records_in, added};
+ghost use Rattle.store.specs.Walks.Forms.{max_form, length_at, follows_on, held_by, in_room, form_in, Counted, Summary, Parsed, dropped_by, length_after, revision, Placed};
 
 use layout::number::get32;
 use volume::number::put32;
@@ -18,7 +18,7 @@ pub const MAX_FORM: usize = 3285;
 
 // A room with nothing in it.
 pub fn empty_room() -> [u8; MAX_FORM]
-    ensures { result ≡ zeros maxForm }
+    ensures { result ≡ zeros max_form }
 {
     [0u8; MAX_FORM]
 }
@@ -83,7 +83,7 @@ fn record_length(records: &[u8], at: usize) -> usize
 
 // Whether a number may follow the last one, 0 if there is none.
 fn follows(last: u32, number: u32) -> bool
-    ensures { result ≡ followsOn last number }
+    ensures { result ≡ follows_on last number }
 {
     if last == 0 {
         return 0 < number;
@@ -96,7 +96,7 @@ fn follows(last: u32, number: u32) -> bool
 
 // The form of a file that has these records.
 fn scan(records: &[u8]) -> Form
-    requires { length records.now ≤ maxForm }
+    requires { length records.now ≤ max_form }
     ensures { Counted records.now result.ok result.used result.count result.last result.oldest }
 {
     let mut at = 0;
@@ -132,8 +132,8 @@ fn scan(records: &[u8]) -> Form
 
 // The form of a file of `size` bytes, but for the zeros behind the records.
 pub fn parse(room: &[u8], size: usize) -> Form
-    requires { length room.now ≡ maxForm }
-    ensures form { Parsed (formIn room.now size) room.now result.ok result.used result.count result.last result.oldest }
+    requires { length room.now ≡ max_form }
+    ensures form { Parsed (form_in room.now size) room.now result.ok result.used result.count result.last result.oldest }
     ensures used { result.ok ≡ true → result.used ≡ be32 room.now 1 }
 {
     if room[0] != 1 {
@@ -163,8 +163,8 @@ pub struct Place {
 
 // Where the data of revision x stands among some records.
 fn find_record(records: &[u8], x: u32) -> Place
-    requires { recordsIn maxRevisions records.now ≡ held (heldBy records.now) }
-    ensures { Placed (heldBy records.now) records.now x result.found result.at result.size }
+    requires { records_in max_revisions records.now ≡ held (held_by records.now) }
+    ensures { Placed (held_by records.now) records.now x result.found result.at result.size }
 {
     let mut at = 0;
     while at < records.len() {
@@ -187,8 +187,8 @@ fn find_record(records: &[u8], x: u32) -> Place
 
 // Where the data of revision x stands in a room.
 pub fn find(room: &[u8], used: usize, x: u32) -> Place
-    requires { (5 ≤ used) × (used ≤ length room.now) × (recordsIn maxRevisions (part room.now 5 (used - 5)) ≡ held (inRoom room.now used)) }
-    ensures { Placed (inRoom room.now used) room.now x result.found result.at result.size }
+    requires { (5 ≤ used) × (used ≤ length room.now) × (records_in max_revisions (part room.now 5 (used - 5)) ≡ held (in_room room.now used)) }
+    ensures { Placed (in_room room.now used) room.now x result.found result.at result.size }
 {
     let a = 5;
     let p = find_record(&room[a..used], x);
@@ -201,7 +201,7 @@ pub fn find(room: &[u8], used: usize, x: u32) -> Place
 
 // The length of the records that a further revision drops.
 fn dropped(form: Form) -> usize
-    ensures { result ≡ droppedBy form.count form.oldest }
+    ensures { result ≡ dropped_by form.count form.oldest }
 {
     if form.count < MAX_REVISIONS {
         return 0;
@@ -211,8 +211,8 @@ fn dropped(form: Form) -> usize
 
 // The used length with a revision of `size` bytes more.
 pub fn length_after(form: Form, size: usize) -> usize
-    requires { (form.oldest ≤ form.used) × (form.used ≤ maxForm) × (size ≤ maxSetting) }
-    ensures { result ≡ lengthAfter form.used form.count form.oldest size }
+    requires { (form.oldest ≤ form.used) × (form.used ≤ max_form) × (size ≤ max_setting) }
+    ensures { result ≡ length_after form.used form.count form.oldest size }
 {
     form.used - dropped(form) + 5 + size
 }
@@ -229,8 +229,8 @@ fn put_start(room: &mut [u8], at: usize, first: u8, number: u32)
 
 // Writes a record.
 fn put_record(room: &mut [u8], at: usize, number: u32, bytes: &[u8])
-    requires { (at + 5 + length bytes.now ≤ length room.old) × (length bytes.now ≤ maxSetting) }
-    ensures { room.new ≡ splice room.old at (recordBytes (revision number bytes.now)) }
+    requires { (at + 5 + length bytes.now ≤ length room.old) × (length bytes.now ≤ max_setting) }
+    ensures { room.new ≡ splice room.old at (record_bytes (revision number bytes.now)) }
 {
     put_start(room, at, bytes.len() as u8, number);
     let a = at + 5;
@@ -248,10 +248,10 @@ fn clear_from(room: &mut [u8], at: usize)
 
 // The file with a revision more: the records with it, the oldest dropped where 16 stand, and zeros to the end of the new room. Gives the new used length.
 pub fn rewrite(old: &[u8], form: Form, bytes: &[u8], new: &mut [u8]) -> usize
-    requires { (Summary old.now form.used form.count form.last form.oldest) × (form.last < maxNumber) × (length bytes.now ≤ maxSetting)
-        × (length old.now ≡ maxForm) × (length new.old ≡ maxForm) }
-    ensures bytes { new.new ≡ encoded (added (inRoom old.now form.used) bytes.now) maxForm }
-    ensures size { result ≡ length (wholeFile (added (inRoom old.now form.used) bytes.now)) }
+    requires { (Summary old.now form.used form.count form.last form.oldest) × (form.last < max_number) × (length bytes.now ≤ max_setting)
+        × (length old.now ≡ max_form) × (length new.old ≡ max_form) }
+    ensures bytes { new.new ≡ encoded (added (in_room old.now form.used) bytes.now) max_form }
+    ensures size { result ≡ length (whole_file (added (in_room old.now form.used) bytes.now)) }
 {
     let from = 5 + dropped(form);
     let kept = form.used - from;

@@ -1,10 +1,10 @@
 // Get: the data of a revision of a serial number, from any image.
 ghost use Rattle.std.specs.Prelude.{◌*◌, ◌≤◌, ◌≡◌, cond, length};
-ghost use Rattle.layout.specs.Geometry.{blockCount};
+ghost use Rattle.layout.specs.Geometry.{block_count};
 ghost use Rattle.layout.specs.Walks.Shapes.{ChainBelow};
-ghost use Rattle.store.specs.Settings.{maxSetting, revisions};
-ghost use Rattle.store.specs.Get.{theLatest, theNumber, gotAnswer, getIn, get};
-ghost use Rattle.store.specs.Walks.Forms.{maxForm, bytes_of, which, sought};
+ghost use Rattle.store.specs.Settings.{max_setting, revisions};
+ghost use Rattle.store.specs.Get.{the_latest, the_number, got_answer, get_in, get};
+ghost use Rattle.store.specs.Walks.Forms.{max_form, bytes_of, which, sought};
 
 use super::form::MAX_SETTING;
 use layout::file::File;
@@ -48,9 +48,9 @@ fn get_from(
     buffer: &mut [u8],
     room: &mut [u8],
 ) -> Got
-    requires { (ChainBelow image.now (blockCount image.now) found.first found.blocks) × (found.size ≤ 512 * found.blocks)
-        × (length room.old ≡ maxForm) × (maxSetting ≤ length buffer.old) }
-    ensures { gotAnswer result.number result.revision result.length buffer.new
+    requires { (ChainBelow image.now (block_count image.now) found.first found.blocks) × (found.size ≤ 512 * found.blocks)
+        × (length room.old ≡ max_form) × (max_setting ≤ length buffer.old) }
+    ensures { got_answer result.number result.revision result.length buffer.new
         ≡ sought (revisions (bytes_of image.now found.first found.size found.blocks)) (which newest revision) buffer.old }
 {
     let form = super::load::load(image, found, room);
@@ -82,7 +82,7 @@ fn get_either(
     revision: u32,
     buffer: &mut [u8],
 ) -> Got
-    ensures { gotAnswer result.number result.revision result.length buffer.new ≡ getIn image.now directory.now serial.now (which newest revision) buffer.old }
+    ensures { got_answer result.number result.revision result.length buffer.new ≡ get_in image.now directory.now serial.now (which newest revision) buffer.old }
 {
     let refusal = layout::check::check(image);
     if refusal != 0 {
@@ -108,28 +108,28 @@ pub fn get_in(
     revision: u32,
     buffer: &mut [u8],
 ) -> Got
-    ensures { gotAnswer result.number result.revision result.length buffer.new ≡ getIn image.now directory.now serial.now (theNumber revision) buffer.old }
+    ensures { got_answer result.number result.revision result.length buffer.new ≡ get_in image.now directory.now serial.now (the_number revision) buffer.old }
 {
     get_either(image, directory, serial, false, revision, buffer)
 }
 
 // The same with the latest revision.
 pub fn get_latest_in(image: &[u8], directory: &[u8], serial: &[u8], buffer: &mut [u8]) -> Got
-    ensures { gotAnswer result.number result.revision result.length buffer.new ≡ getIn image.now directory.now serial.now theLatest buffer.old }
+    ensures { got_answer result.number result.revision result.length buffer.new ≡ get_in image.now directory.now serial.now the_latest buffer.old }
 {
     get_either(image, directory, serial, true, 0, buffer)
 }
 
 // Get from the root.
 pub fn get(image: &[u8], serial: &[u8], revision: u32, buffer: &mut [u8]) -> Got
-    ensures { gotAnswer result.number result.revision result.length buffer.new ≡ get image.now serial.now (theNumber revision) buffer.old }
+    ensures { got_answer result.number result.revision result.length buffer.new ≡ get image.now serial.now (the_number revision) buffer.old }
 {
     get_in(image, b"/", serial, revision, buffer)
 }
 
 // The same with the latest revision.
 pub fn get_latest(image: &[u8], serial: &[u8], buffer: &mut [u8]) -> Got
-    ensures { gotAnswer result.number result.revision result.length buffer.new ≡ get image.now serial.now theLatest buffer.old }
+    ensures { got_answer result.number result.revision result.length buffer.new ≡ get image.now serial.now the_latest buffer.old }
 {
     get_latest_in(image, b"/", serial, buffer)
 }

@@ -1,20 +1,20 @@
 // A file of the store read from an image.
 ghost use Rattle.std.specs.Prelude.{◌+◌, ◌*◌, ◌≤◌, ◌<◌, ◌≡◌, length};
 ghost use Rattle.layout.specs.Bytes.{part, block};
-ghost use Rattle.layout.specs.Geometry.{blockCount};
+ghost use Rattle.layout.specs.Geometry.{block_count};
 ghost use Rattle.layout.specs.Lists.{joined};
 ghost use Rattle.layout.specs.Table.{next, chain};
-ghost use Rattle.layout.specs.Walks.Entries.{allZero};
+ghost use Rattle.layout.specs.Walks.Entries.{all_zero};
 ghost use Rattle.layout.specs.Walks.Shapes.{ChainBelow};
 ghost use Rattle.store.specs.Settings.{revisions};
-ghost use Rattle.store.specs.Walks.Forms.{maxForm, bytes_of, Parsed};
+ghost use Rattle.store.specs.Walks.Forms.{max_form, bytes_of, Parsed};
 
 use super::form::{Form, MAX_FORM};
 
 // Whether the m bytes from o on of block b are all 0.
 fn zero_in_block(image: &[u8], b: usize, o: usize, m: usize) -> bool
     requires { (512 * b + 512 ≤ length image.now) × (o + m ≤ 512) }
-    ensures { result ≡ allZero (part image.now (512 * b + o) m) }
+    ensures { result ≡ all_zero (part image.now (512 * b + o) m) }
 {
     let block = layout::bytes::block(image, b);
     let e = o + m;
@@ -24,7 +24,7 @@ fn zero_in_block(image: &[u8], b: usize, o: usize, m: usize) -> bool
 // Whether the `count` bytes from `offset` on of the chain of k blocks from `first` on are all 0.
 fn zero_along(image: &[u8], n: usize, k: usize, first: usize, offset: usize, count: usize) -> bool
     requires { (ChainBelow image.now n first k) × (offset + count ≤ 512 * k) }
-    ensures { result ≡ allZero (part (joined (block image.now) (chain (next image.now) first k)) offset count) }
+    ensures { result ≡ all_zero (part (joined (block image.now) (chain (next image.now) first k)) offset count) }
 {
     let mut b = first;
     let mut left = k;
@@ -51,7 +51,7 @@ fn zero_along(image: &[u8], n: usize, k: usize, first: usize, offset: usize, cou
 
 // Reads the first bytes of a file into the room, and tells its form, with the zeros to the file's end.
 pub fn load(image: &[u8], found: layout::file::File, room: &mut [u8]) -> Form
-    requires { (ChainBelow image.now (blockCount image.now) found.first found.blocks) × (found.size ≤ 512 * found.blocks) × (length room.old ≡ maxForm) }
+    requires { (ChainBelow image.now (block_count image.now) found.first found.blocks) × (found.size ≤ 512 * found.blocks) × (length room.old ≡ max_form) }
     ensures { Parsed (revisions (bytes_of image.now found.first found.size found.blocks)) room.new result.ok result.used result.count result.last result.oldest }
 {
     let first = found.first;

@@ -1,18 +1,18 @@
 // Put, on an image that the caller has checked. Its three functions, as those of the volume's changes, are given the whole put: directory, serial number, data and time.
 ghost use Rattle.std.specs.Prelude.{◌≡◌, [], suc, ◌+◌, ◌≤◌, max, length};
-ghost use Rattle.layout.specs.Geometry.{blockCount};
+ghost use Rattle.layout.specs.Geometry.{block_count};
 ghost use Rattle.layout.specs.Check.{check};
-ghost use Rattle.layout.specs.Paths.{fileRefusal};
+ghost use Rattle.layout.specs.Paths.{file_refusal};
 ghost use Rattle.layout.specs.Walks.Slots.{entry_at};
-ghost use Rattle.volume.specs.Write.{writeAtRefusal, writeAt, writeNamed};
+ghost use Rattle.volume.specs.Write.{write_at_refusal, write_at, write_named};
 ghost use Rattle.volume.specs.Walks.Marks.{marked};
 ghost use Rattle.volume.specs.Walks.Places.{Searched};
 ghost use Rattle.volume.specs.Walks.Targets.{Standing};
-ghost use Rattle.store.specs.Settings.{maxSetting, encoded, latest, added};
-ghost use Rattle.store.specs.Put.{pathOf, putRefusal, putImage, putNamed, putRevision};
+ghost use Rattle.store.specs.Settings.{max_setting, encoded, latest, added};
+ghost use Rattle.store.specs.Put.{path_of, put_refusal, put_image, put_named, put_revision};
 ghost use Rattle.store.specs.Walks.Addresses.{Addressed};
-ghost use Rattle.store.specs.Walks.Forms.{maxForm};
-ghost use Rattle.store.specs.Walks.Puts.{held_at, rewrittenAt, moreRefusal, firstRefusal, Weighed, PutTarget, PutPrepared};
+ghost use Rattle.store.specs.Walks.Forms.{max_form};
+ghost use Rattle.store.specs.Walks.Puts.{held_at, rewritten_at, more_refusal, first_refusal, Weighed, PutTarget, PutPrepared};
 
 use super::form::MAX_SETTING;
 use layout::file::File;
@@ -43,7 +43,7 @@ fn no_size(number: u32) -> Weight
 
 // What is found out of a file, with a room for its first bytes: 24 if it is not of the form, 25 if the revision number is used up, or 0.
 fn weigh_in(image: &[u8], found: File, bytes: &[u8], room: &mut [u8]) -> Weight
-    requires { (check image.now ≡ 0) × (Standing image.now (fileRefusal image.now) found.slot found.block found.first found.size found.blocks) × (length bytes.now ≤ maxSetting) × (length room.old ≡ maxForm) }
+    requires { (check image.now ≡ 0) × (Standing image.now (file_refusal image.now) found.slot found.block found.first found.size found.blocks) × (length bytes.now ≤ max_setting) × (length room.old ≡ max_form) }
     ensures { Weighed image.now (entry_at found.block found.slot) bytes.now result.number result.size }
 {
     let form = super::load::load(image, found, room);
@@ -62,7 +62,7 @@ fn weigh_in(image: &[u8], found: File, bytes: &[u8], room: &mut [u8]) -> Weight
 
 // The same, with a room of its own.
 fn weigh(image: &[u8], found: File, bytes: &[u8]) -> Weight
-    requires { (check image.now ≡ 0) × (Standing image.now (fileRefusal image.now) found.slot found.block found.first found.size found.blocks) × (length bytes.now ≤ maxSetting) }
+    requires { (check image.now ≡ 0) × (Standing image.now (file_refusal image.now) found.slot found.block found.first found.size found.blocks) × (length bytes.now ≤ max_setting) }
     ensures { Weighed image.now (entry_at found.block found.slot) bytes.now result.number result.size }
 {
     let mut room = super::form::empty_room();
@@ -71,8 +71,8 @@ fn weigh(image: &[u8], found: File, bytes: &[u8]) -> Weight
 
 // The refusal of a put to a file that is there, 24, 25 or 14, or 0.
 fn more_refusal(image: &[u8], found: File, bytes: &[u8]) -> u32
-    requires { (check image.now ≡ 0) × (Standing image.now (fileRefusal image.now) found.slot found.block found.first found.size found.blocks) × (length bytes.now ≤ maxSetting) }
-    ensures { result ≡ moreRefusal image.now (entry_at found.block found.slot) bytes.now }
+    requires { (check image.now ≡ 0) × (Standing image.now (file_refusal image.now) found.slot found.block found.first found.size found.blocks) × (length bytes.now ≤ max_setting) }
+    ensures { result ≡ more_refusal image.now (entry_at found.block found.slot) bytes.now }
 {
     let w = weigh(image, found, bytes);
     let number = w.number;
@@ -85,7 +85,7 @@ fn more_refusal(image: &[u8], found: File, bytes: &[u8]) -> u32
 // The refusal of a put that makes its file, 10, 11, 13 or 14, or 0 and its place.
 fn first_refusal(image: &[u8], directory: &[u8], serial: &[u8]) -> File
     requires { (check image.now ≡ 0) × (Addressed directory.now serial.now) }
-    ensures place { Searched image.now (pathOf directory.now serial.now) (firstRefusal image.now (pathOf directory.now serial.now)) result.number result.first result.slot result.block }
+    ensures place { Searched image.now (path_of directory.now serial.now) (first_refusal image.now (path_of directory.now serial.now)) result.number result.first result.slot result.block }
     ensures empty { result.size ≡ 0 }
 {
     let p = super::serial::find_place(image, directory, serial);
@@ -129,8 +129,8 @@ pub fn put_refusal(image: &[u8], directory: &[u8], serial: &[u8], bytes: &[u8], 
 // Marks the blocks that an accepted put to a file names. Where a revision more fits into the file's blocks in any case, they are those of a write of the
 // file's size, and the file need not be loaded.
 fn more_named(image: &[u8], found: File, bytes: &[u8], marks: &mut [u8])
-    requires { (check image.now ≡ 0) × (Standing image.now (fileRefusal image.now) found.slot found.block found.first found.size found.blocks) × (length bytes.now ≤ maxSetting) × (moreRefusal image.now (entry_at found.block found.slot) bytes.now ≡ 0) × (blockCount image.now ≤ length marks.old) }
-    ensures { marks.new ≡ marked marks.old (writeNamed image.now (entry_at found.block found.slot) 0 (length (rewrittenAt image.now (entry_at found.block found.slot) bytes.now))) }
+    requires { (check image.now ≡ 0) × (Standing image.now (file_refusal image.now) found.slot found.block found.first found.size found.blocks) × (length bytes.now ≤ max_setting) × (more_refusal image.now (entry_at found.block found.slot) bytes.now ≡ 0) × (block_count image.now ≤ length marks.old) }
+    ensures { marks.new ≡ marked marks.old (write_named image.now (entry_at found.block found.slot) 0 (length (rewritten_at image.now (entry_at found.block found.slot) bytes.now))) }
 {
     if found.size + 5 + bytes.len() <= 512 * found.blocks {
         volume::write::write_at_named(image, found, 0, found.size, marks);
@@ -150,8 +150,8 @@ pub fn put_named(
     found: File,
     marks: &mut [u8],
 )
-    requires { (check image.now ≡ 0) × (putRefusal image.now directory.now serial.now time bytes.now ≡ 0) × (PutTarget image.now directory.now serial.now found.slot found.block found.first found.size found.blocks) × (blockCount image.now ≤ length marks.old) }
-    ensures { marks.new ≡ marked marks.old (putNamed image.now directory.now serial.now time bytes.now) }
+    requires { (check image.now ≡ 0) × (put_refusal image.now directory.now serial.now time bytes.now ≡ 0) × (PutTarget image.now directory.now serial.now found.slot found.block found.first found.size found.blocks) × (block_count image.now ≤ length marks.old) }
+    ensures { marks.new ≡ marked marks.old (put_named image.now directory.now serial.now time bytes.now) }
 {
     if found.size == 0 {
         let n = image.len() / 512;
@@ -172,9 +172,9 @@ fn put_in(
     old: &mut [u8],
     new: &mut [u8],
 ) -> u32
-    requires { (check image.old ≡ 0) × (Standing image.old (fileRefusal image.old) found.slot found.block found.first found.size found.blocks) × (length bytes.now ≤ maxSetting) × (moreRefusal image.old (entry_at found.block found.slot) bytes.now ≡ 0) × (length old.old ≡ maxForm) × (length new.old ≡ maxForm) }
+    requires { (check image.old ≡ 0) × (Standing image.old (file_refusal image.old) found.slot found.block found.first found.size found.blocks) × (length bytes.now ≤ max_setting) × (more_refusal image.old (entry_at found.block found.slot) bytes.now ≡ 0) × (length old.old ≡ max_form) × (length new.old ≡ max_form) }
     ensures revision { result ≡ suc (latest (held_at image.old (entry_at found.block found.slot))) }
-    ensures bytes { image.new ≡ writeAt image.old (entry_at found.block found.slot) 0 (rewrittenAt image.old (entry_at found.block found.slot) bytes.now) time }
+    ensures bytes { image.new ≡ write_at image.old (entry_at found.block found.slot) 0 (rewritten_at image.old (entry_at found.block found.slot) bytes.now) time }
 {
     let form = super::load::load(image, found, old);
     let used = super::form::rewrite(old, form, bytes, new);
@@ -186,9 +186,9 @@ fn put_in(
 
 // The same, with rooms of its own.
 fn put_more(image: &mut [u8], found: File, bytes: &[u8], time: u64) -> u32
-    requires { (check image.old ≡ 0) × (Standing image.old (fileRefusal image.old) found.slot found.block found.first found.size found.blocks) × (length bytes.now ≤ maxSetting) × (moreRefusal image.old (entry_at found.block found.slot) bytes.now ≡ 0) }
+    requires { (check image.old ≡ 0) × (Standing image.old (file_refusal image.old) found.slot found.block found.first found.size found.blocks) × (length bytes.now ≤ max_setting) × (more_refusal image.old (entry_at found.block found.slot) bytes.now ≡ 0) }
     ensures revision { result ≡ suc (latest (held_at image.old (entry_at found.block found.slot))) }
-    ensures bytes { image.new ≡ writeAt image.old (entry_at found.block found.slot) 0 (rewrittenAt image.old (entry_at found.block found.slot) bytes.now) time }
+    ensures bytes { image.new ≡ write_at image.old (entry_at found.block found.slot) 0 (rewritten_at image.old (entry_at found.block found.slot) bytes.now) time }
 {
     let mut old = super::form::empty_room();
     let mut new = super::form::empty_room();
@@ -197,8 +197,8 @@ fn put_more(image: &mut [u8], found: File, bytes: &[u8], time: u64) -> u32
 
 // Writes the first revision into the file that was just made at a place.
 fn put_first(image: &mut [u8], found: File, bytes: &[u8], time: u64)
-    requires { (check image.old ≡ 0) × (Standing image.old (fileRefusal image.old) found.slot found.block 0 0 0) × (length bytes.now ≤ maxSetting) × (writeAtRefusal image.old (entry_at found.block found.slot) 0 (10 + length bytes.now) ≡ 0) }
-    ensures { image.new ≡ writeAt image.old (entry_at found.block found.slot) 0 (encoded (added [] bytes.now) 0) time }
+    requires { (check image.old ≡ 0) × (Standing image.old (file_refusal image.old) found.slot found.block 0 0 0) × (length bytes.now ≤ max_setting) × (write_at_refusal image.old (entry_at found.block found.slot) 0 (10 + length bytes.now) ≡ 0) }
+    ensures { image.new ≡ write_at image.old (entry_at found.block found.slot) 0 (encoded (added [] bytes.now) 0) time }
 {
     let old = super::form::empty_room();
     let mut new = super::form::empty_room();
@@ -224,9 +224,9 @@ pub fn put(
     time: u64,
     found: File,
 ) -> u32
-    requires { (check image.old ≡ 0) × (putRefusal image.old directory.now serial.now time bytes.now ≡ 0) × (PutTarget image.old directory.now serial.now found.slot found.block found.first found.size found.blocks) }
-    ensures revision { result ≡ putRevision image.old directory.now serial.now }
-    ensures bytes { image.new ≡ putImage image.old directory.now serial.now time bytes.now }
+    requires { (check image.old ≡ 0) × (put_refusal image.old directory.now serial.now time bytes.now ≡ 0) × (PutTarget image.old directory.now serial.now found.slot found.block found.first found.size found.blocks) }
+    ensures revision { result ≡ put_revision image.old directory.now serial.now }
+    ensures bytes { image.new ≡ put_image image.old directory.now serial.now time bytes.now }
 {
     if found.size == 0 {
         super::serial::create_file(image, directory, serial, found, time);

@@ -1,14 +1,14 @@
 // Serial numbers, and their paths in a directory.
 ghost use Rattle.std.specs.Prelude.{◌≡◌, ◌++◌, ◌-◌, ◌≤◌, length};
 ghost use Rattle.layout.specs.Bytes.{zeros};
-ghost use Rattle.layout.specs.Directory.{isFile};
+ghost use Rattle.layout.specs.Directory.{is_file};
 ghost use Rattle.layout.specs.Check.{check};
-ghost use Rattle.layout.specs.Looks.{isRootPath};
-ghost use Rattle.layout.specs.Paths.{fileRefusal};
+ghost use Rattle.layout.specs.Looks.{is_root_path};
+ghost use Rattle.layout.specs.Paths.{file_refusal};
 ghost use Rattle.layout.specs.Walks.Looks.{Opens};
-ghost use Rattle.volume.specs.Create.{placeRefusal, createImage};
+ghost use Rattle.volume.specs.Create.{place_refusal, create_image};
 ghost use Rattle.volume.specs.Walks.Places.{Vacant, Searched};
-ghost use Rattle.store.specs.Put.{serialByte, serialOk, front, pathOf, addressRefusal};
+ghost use Rattle.store.specs.Put.{serial_byte, serial_ok, front, path_of, address_refusal};
 ghost use Rattle.store.specs.Walks.Addresses.{Addressed};
 
 use layout::file::File;
@@ -19,7 +19,7 @@ const MAX_SERIAL: usize = 16;
 
 // Whether a byte is an ASCII letter or digit.
 fn serial_byte(x: u8) -> bool
-    ensures { result ≡ serialByte x }
+    ensures { result ≡ serial_byte x }
 {
     if layout::directory::is_within(x, b'0', b'9') {
         return true;
@@ -32,7 +32,7 @@ fn serial_byte(x: u8) -> bool
 
 // Whether a serial number is 1 to 16 such bytes.
 pub fn serial_ok(serial: &[u8]) -> bool
-    ensures { result ≡ serialOk serial.now }
+    ensures { result ≡ serial_ok serial.now }
 {
     if serial.len() < 1 {
         return false;
@@ -50,7 +50,7 @@ pub fn serial_ok(serial: &[u8]) -> bool
 
 // Whether a directory is the root, `/` alone.
 fn is_root(directory: &[u8]) -> bool
-    ensures { result ≡ isRootPath directory.now }
+    ensures { result ≡ is_root_path directory.now }
 {
     if directory.len() != 1 {
         return false;
@@ -60,7 +60,7 @@ fn is_root(directory: &[u8]) -> bool
 
 // The refusal of a directory and a serial number by themselves, 22 or 17, or 0; data or buffer fit or do not.
 pub fn address_refusal(directory: &[u8], serial: &[u8], fits: bool) -> u32
-    ensures { result ≡ addressRefusal directory.now serial.now fits }
+    ensures { result ≡ address_refusal directory.now serial.now fits }
 {
     if !fits {
         return 22;
@@ -98,7 +98,7 @@ fn no_path() -> [u8; 665]
 // The path of a serial number in a directory, of so many bytes before the serial number's `/`, and zeros behind it.
 fn path_of(directory: &[u8], k: usize, serial: &[u8]) -> [u8; 665]
     requires { (Addressed directory.now serial.now) × (k ≡ length (front directory.now)) × (k ≤ length directory.now) }
-    ensures { result ≡ pathOf directory.now serial.now ++ zeros (665 - length (pathOf directory.now serial.now)) }
+    ensures { result ≡ path_of directory.now serial.now ++ zeros (665 - length (path_of directory.now serial.now)) }
 {
     let mut path = no_path();
     layout::bytes::copy_part(directory, 0, &mut path, 0, k);
@@ -110,7 +110,7 @@ fn path_of(directory: &[u8], k: usize, serial: &[u8]) -> [u8; 665]
 // The file of a serial number, or the refusal 10.
 pub fn open_file(image: &[u8], directory: &[u8], serial: &[u8]) -> File
     requires { (check image.now ≡ 0) × (Addressed directory.now serial.now) }
-    ensures { Opens isFile image.now (pathOf directory.now serial.now) (fileRefusal image.now (pathOf directory.now serial.now)) result.number result.slot result.block result.first result.size result.blocks }
+    ensures { Opens is_file image.now (path_of directory.now serial.now) (file_refusal image.now (path_of directory.now serial.now)) result.number result.slot result.block result.first result.size result.blocks }
 {
     let k = front_length(directory);
     let path = path_of(directory, k, serial);
@@ -122,7 +122,7 @@ pub fn open_file(image: &[u8], directory: &[u8], serial: &[u8]) -> File
 // The place for the file of a serial number, or the refusal, 10, 11 or 13.
 pub fn find_place(image: &[u8], directory: &[u8], serial: &[u8]) -> File
     requires { (check image.now ≡ 0) × (Addressed directory.now serial.now) }
-    ensures { Searched image.now (pathOf directory.now serial.now) (placeRefusal image.now (pathOf directory.now serial.now)) result.number result.first result.slot result.block }
+    ensures { Searched image.now (path_of directory.now serial.now) (place_refusal image.now (path_of directory.now serial.now)) result.number result.first result.slot result.block }
 {
     let k = front_length(directory);
     let path = path_of(directory, k, serial);
@@ -133,8 +133,8 @@ pub fn find_place(image: &[u8], directory: &[u8], serial: &[u8]) -> File
 
 // Makes the file of a serial number at its place.
 pub fn create_file(image: &mut [u8], directory: &[u8], serial: &[u8], found: File, time: u64)
-    requires { (check image.old ≡ 0) × (Addressed directory.now serial.now) × (Vacant image.old (pathOf directory.now serial.now) found.first found.slot found.block) }
-    ensures { image.new ≡ createImage image.old (pathOf directory.now serial.now) 0x60 0 0 0 0 time }
+    requires { (check image.old ≡ 0) × (Addressed directory.now serial.now) × (Vacant image.old (path_of directory.now serial.now) found.first found.slot found.block) }
+    ensures { image.new ≡ create_image image.old (path_of directory.now serial.now) 0x60 0 0 0 0 time }
 {
     let k = front_length(directory);
     let path = path_of(directory, k, serial);

@@ -4,11 +4,11 @@ use mathlib.Core.List.{List, [], ◌∷◌, ◌++◌, map}
 use lib.ListN.{replicate}
 use Rattle.layout.specs.Bytes.{part}
 use Rattle.layout.specs.Check.{check}
-use Rattle.store.specs.Change.{Change, create, write, delete, createDirectory, move, named, refusal, after}
+use Rattle.store.specs.Change.{Change, create, write, delete, create_directory, move, named, refusal, after}
 use Rattle.journal.specs.Journal.{started}
-use Rattle.journal.specs.Run.{change, undo, look, findFile, readFile, State, step, answer}
+use Rattle.journal.specs.Run.{change, undo, look, find_file, read_file, State, step, answer}
 use Rattle.samples.proofs.Rules.{rules}
-use Rattle.samples.proofs.Samples.{AsExpected, formattedAs, pattern, numbers, samples}
+use Rattle.samples.proofs.Samples.{AsExpected, formatted_as, pattern, numbers, samples}
 
 -- the path of one-byte names, and a create of its file
 way : List ℕ → List ℕ
@@ -22,7 +22,7 @@ file xs = create (way xs) 0x60 1 2 3 0 2000
 -- /B are at 1,280 and 1,408, that of /C at 1,536. /A has 3 bytes in block 5. (A table computes it once, in a `let`.)
 image : List ℕ
 image =
-    let s₀ = after (formattedAs 9 2) (createDirectory (way (69 ∷ [])) 0x20 1 2 3 0 2000 1) in
+    let s₀ = after (formatted_as 9 2) (create_directory (way (69 ∷ [])) 0x20 1 2 3 0 2000 1) in
     let s₁ = after (after s₀ (file (65 ∷ []))) (file (66 ∷ [])) in
     after (after s₁ (file (67 ∷ []))) (write (way (65 ∷ [])) 0 (pattern 3) 3000)
 
@@ -57,8 +57,8 @@ across =
     let full = after (after s (file (69 ∷ 88 ∷ []))) (file (69 ∷ 89 ∷ [])) in
     -- to another directory, with its bytes; undo brings it back
     (moved s (65 ∷ []) (69 ∷ 90 ∷ []), 0 ∷ 1 ∷ 1036 ∷ 2 ∷ 4 ∷ [])
-    ∷ (check there.image ∷ numbers (answer there (look (findFile (way (69 ∷ 90 ∷ []))))), 0 ∷ 0 ∷ 1 ∷ 3 ∷ 1 ∷ [])
-    ∷ (numbers (answer there (look (readFile (way (69 ∷ 90 ∷ [])) 0 (replicate 3 7)))), 0 ∷ 3 ∷ pattern 3)
+    ∷ (check there.image ∷ numbers (answer there (look (find_file (way (69 ∷ 90 ∷ []))))), 0 ∷ 0 ∷ 1 ∷ 3 ∷ 1 ∷ [])
+    ∷ (numbers (answer there (look (read_file (way (69 ∷ 90 ∷ [])) 0 (replicate 3 7)))), 0 ∷ 3 ∷ pattern 3)
     ∷ ((step there undo).image, s)
     -- a full directory: no slot for another file, but its own ones may be renamed
     ∷ (refusal full (move (way (65 ∷ [])) (way (69 ∷ 90 ∷ []))) ∷ [], 13 ∷ [])

@@ -2,16 +2,16 @@
 -- file is given by the offset e of its entry.
 use Rattle.std.specs.Prelude.{ℕ, min, List, ◌++◌, length}
 use Rattle.layout.specs.Directory.{size_of}
-use Rattle.volume.specs.Write.{writeRefusal, writeAt, writeNamed}
-use Rattle.volume.specs.Shorten.{shortenAt, shortenNamed}
+use Rattle.volume.specs.Write.{write_refusal, write_at, write_named}
+use Rattle.volume.specs.Shorten.{shorten_at, shorten_named}
 
-unfoldable pub replaceAt : List ℕ → ℕ → List ℕ → ℕ → List ℕ
-replaceAt s e bytes time = writeAt (shortenAt s e (min (size_of s e) (length bytes)) time) e 0 bytes time
+unfoldable pub replace_at : List ℕ → ℕ → List ℕ → ℕ → List ℕ
+replace_at s e bytes time = write_at (shorten_at s e (min (size_of s e) (length bytes)) time) e 0 bytes time
 
 -- saved blocks: "those of both". The shorten does not change those of the write, so they are told of the image before it.
-unfoldable pub replaceNamed : List ℕ → ℕ → ℕ → List ℕ
-replaceNamed s e count = shortenNamed s e (min (size_of s e) count) ++ writeNamed s e 0 count
+unfoldable pub replace_named : List ℕ → ℕ → ℕ → List ℕ
+replace_named s e count = shorten_named s e (min (size_of s e) count) ++ write_named s e 0 count
 
 -- 9, 17, 10 and 14, as of a write at 0. The write's 12 cannot be met: the offset 0 is above no file's size.
-unfoldable pub replaceRefusal : List ℕ → List ℕ → ℕ → ℕ
-replaceRefusal s path count = writeRefusal s path 0 count
+unfoldable pub replace_refusal : List ℕ → List ℕ → ℕ → ℕ
+replace_refusal s path count = write_refusal s path 0 count

@@ -2,19 +2,19 @@
 -- afresh in each call and kept right as blocks are taken, says exactly whether it has one"). Note i is of the table block with the entries of the blocks
 -- b with b / 128 = i; 0 says that the block is full.
 use Rattle.std.specs.Prelude.{ℕ, ◌-◌, ◌*◌, ◌/◌, ◌≤◌, ◌<◌, ◌≡◌, Bool, not, ◌&&◌, List, ◌≢◌, eqb, length, get_or}
-use Rattle.layout.specs.Limits.{minBlocks, maxBlocks}
+use Rattle.layout.specs.Limits.{min_blocks, max_blocks}
 use Rattle.layout.specs.Lists.{interval, select}
 use Rattle.layout.specs.Bytes.{be32}
-use Rattle.layout.specs.Geometry.{tableBlocks}
+use Rattle.layout.specs.Geometry.{table_blocks}
 use Rattle.layout.specs.Table.{next}
 
 -- the lowest number from a on, below n, that passes a test; n if there is none
-abbrev pub firstFrom : (ℕ → Bool) → ℕ → ℕ → ℕ
-firstFrom p a n = get_or (select p (interval a (n - a))) 0 n
+abbrev pub first_from : (ℕ → Bool) → ℕ → ℕ → ℕ
+first_from p a n = get_or (select p (interval a (n - a))) 0 n
 
 -- "Every answer stays: still the lowest free block": that from a on, below n; n if there is none
-unfoldable pub lowestFree : (ℕ → ℕ) → ℕ → ℕ → ℕ
-lowestFree v a n = firstFrom (λ b. eqb (v b) 0) a n
+unfoldable pub lowest_free : (ℕ → ℕ) → ℕ → ℕ → ℕ
+lowest_free v a n = first_from (λ b. eqb (v b) 0) a n
 
 -- table block i is full: no entry of it below n is 0
 abbrev pub Full : (ℕ → ℕ) → ℕ → ℕ → Type 0
@@ -31,12 +31,12 @@ pub record Exact (v : ℕ → ℕ) (n : ℕ) (notes : List ℕ) : Type 0 where
   pub right : (i : ℕ) → i < length notes → Noted v n i (get_or notes i 0)
 
 -- the table block with the entry of block b is noted as full
-abbrev pub notedFull : List ℕ → ℕ → Bool
-notedFull notes b = eqb (get_or notes (b / 128) 0) 0
+abbrev pub noted_full : List ℕ → ℕ → Bool
+noted_full notes b = eqb (get_or notes (b / 128) 0) 0
 
 -- what the search gives by any notes: the lowest free block from a on, below n, whose table block is not noted as full; n if there is none
 unfoldable pub searched : List ℕ → (ℕ → ℕ) → ℕ → ℕ → ℕ
-searched notes v a n = firstFrom (λ b. not (notedFull notes b) && eqb (v b) 0) a n
+searched notes v a n = first_from (λ b. not (noted_full notes b) && eqb (v b) 0) a n
 
 -- of the notes only note i was made anew
 pub record Renoted (v : ℕ → ℕ) (n i : ℕ) (notes notes' : List ℕ) : Type 0 where
@@ -47,11 +47,11 @@ pub record Renoted (v : ℕ → ℕ) (n i : ℕ) (notes notes' : List ℕ) : Typ
 -- in an image of n blocks the free block b can be taken, behind the block `last` (0: there is none)
 pub record Takeable (s : List ℕ) (n last b : ℕ) : Type 0 where
   pub whole : length s ≡ 512 * n
-  pub low : minBlocks ≤ n
-  pub high : n ≤ maxBlocks
+  pub low : min_blocks ≤ n
+  pub high : n ≤ max_blocks
   pub inside : last < n
   pub used : 0 < last → next s last ≢ 0
   pub below : b < n
-  pub above : tableBlocks n < b
+  pub above : table_blocks n < b
   pub free : next s b ≡ 0
   pub counted : be32 s 20 < n

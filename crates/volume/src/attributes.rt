@@ -1,16 +1,16 @@
 // Attributes set and cleared, on an image that the caller has checked.
 ghost use Rattle.std.specs.Prelude.{◌≡◌, ◌&&◌, ◌/◌, ◌%◌, ◌≤◌, eqb, leb, length, get_or, take};
-ghost use Rattle.layout.specs.Geometry.{blockCount};
-ghost use Rattle.layout.specs.Table.{next, freeBlocks};
-ghost use Rattle.layout.specs.Directory.{isFile};
+ghost use Rattle.layout.specs.Geometry.{block_count};
+ghost use Rattle.layout.specs.Table.{next, free_blocks};
+ghost use Rattle.layout.specs.Directory.{is_file};
 ghost use Rattle.layout.specs.Check.{check};
-ghost use Rattle.layout.specs.Paths.{fileRefusal};
+ghost use Rattle.layout.specs.Paths.{file_refusal};
 ghost use Rattle.layout.specs.Walks.Looks.{Opens};
 ghost use Rattle.layout.specs.Walks.Slots.{entry_at};
 ghost use Rattle.volume.specs.Entries.{grown};
 ghost use Rattle.volume.specs.Write.{put};
-ghost use Rattle.volume.specs.Attributes.{setAttributesRefusal, setAttributesAt, setAttributesNamed, clearAttributesAt, clearAttributesNamed};
-ghost use Rattle.volume.specs.Walks.Attributes.{setFormRefusal, Fillable};
+ghost use Rattle.volume.specs.Attributes.{set_attributes_refusal, set_attributes_at, set_attributes_named, clear_attributes_at, clear_attributes_named};
+ghost use Rattle.volume.specs.Walks.Attributes.{set_form_refusal, Fillable};
 ghost use Rattle.volume.specs.Walks.Marks.{marked};
 ghost use Rattle.volume.specs.Walks.Targets.{Standing};
 
@@ -29,7 +29,7 @@ fn whole_blocks(count: usize) -> bool
 
 // The refusal of a set by the form of its path and the number of its bytes, 9 or 20, or 0.
 fn form_refusal(path: &[u8], count: usize) -> u32
-    ensures { result ≡ setFormRefusal path.now count }
+    ensures { result ≡ set_form_refusal path.now count }
 {
     if layout::file::path_refusal(path) == 9 {
         return 9;
@@ -46,7 +46,7 @@ fn form_refusal(path: &[u8], count: usize) -> u32
 // The file, or the refusal of a set, 9, 20, 17, 10 or 14. The blocks of the old chain count as free.
 pub fn set_attributes_refusal(image: &[u8], path: &[u8], count: usize) -> File
     requires { check image.now ≡ 0 }
-    ensures { Opens isFile image.now path.now (setAttributesRefusal image.now path.now count) result.number result.slot result.block result.first result.size result.blocks }
+    ensures { Opens is_file image.now path.now (set_attributes_refusal image.now path.now count) result.number result.slot result.block result.first result.size result.blocks }
 {
     let form = form_refusal(path, count);
     if form != 0 {
@@ -66,8 +66,8 @@ pub fn set_attributes_refusal(image: &[u8], path: &[u8], count: usize) -> File
 
 // Marks the blocks that an accepted set names. The new blocks are those that are the lowest free ones once the old chain is freed.
 pub fn set_attributes_named(image: &[u8], found: File, count: usize, marks: &mut [u8])
-    requires { (check image.now ≡ 0) × (Standing image.now (λ path. setAttributesRefusal image.now path count) found.slot found.block found.first found.size found.blocks) × (blockCount image.now ≤ length marks.old) }
-    ensures { marks.new ≡ marked marks.old (setAttributesNamed image.now (entry_at found.block found.slot) count) }
+    requires { (check image.now ≡ 0) × (Standing image.now (λ path. set_attributes_refusal image.now path count) found.slot found.block found.first found.size found.blocks) × (block_count image.now ≤ length marks.old) }
+    ensures { marks.new ≡ marked marks.old (set_attributes_named image.now (entry_at found.block found.slot) count) }
 {
     let old = layout::file::attribute_chain(image, found.block, found.slot);
     let n = image.len() / 512;
@@ -80,8 +80,8 @@ pub fn set_attributes_named(image: &[u8], found: File, count: usize, marks: &mut
 // Takes the lowest free blocks for the bytes, which are whole blocks, and puts them there; gives the first block.
 fn fill_blocks(image: &mut [u8], n: usize, bytes: &[u8]) -> usize
     requires { Fillable image.old n (length bytes.now) }
-    ensures first { result ≡ get_or (take (length bytes.now / 512) (freeBlocks (next image.old) n)) 0 0 }
-    ensures bytes { image.new ≡ put (grown image.old n 0 (take (length bytes.now / 512) (freeBlocks (next image.old) n))) (take (length bytes.now / 512) (freeBlocks (next image.old) n)) 0 bytes.now }
+    ensures first { result ≡ get_or (take (length bytes.now / 512) (free_blocks (next image.old) n)) 0 0 }
+    ensures bytes { image.new ≡ put (grown image.old n 0 (take (length bytes.now / 512) (free_blocks (next image.old) n))) (take (length bytes.now / 512) (free_blocks (next image.old) n)) 0 bytes.now }
 {
     let k = bytes.len() / 512;
     let first = super::table::grow(image, n, 0, k);
@@ -91,8 +91,8 @@ fn fill_blocks(image: &mut [u8], n: usize, bytes: &[u8]) -> usize
 
 // An accepted set: frees the old chain, then takes blocks for the new one and sets the entry's two fields.
 pub fn set_attributes(image: &mut [u8], found: File, bytes: &[u8])
-    requires { (check image.old ≡ 0) × (Standing image.old (λ path. setAttributesRefusal image.old path (length bytes.now)) found.slot found.block found.first found.size found.blocks) }
-    ensures { image.new ≡ setAttributesAt image.old (entry_at found.block found.slot) bytes.now }
+    requires { (check image.old ≡ 0) × (Standing image.old (λ path. set_attributes_refusal image.old path (length bytes.now)) found.slot found.block found.first found.size found.blocks) }
+    ensures { image.new ≡ set_attributes_at image.old (entry_at found.block found.slot) bytes.now }
 {
     let old = layout::file::attribute_chain(image, found.block, found.slot);
     let n = image.len() / 512;
@@ -103,8 +103,8 @@ pub fn set_attributes(image: &mut [u8], found: File, bytes: &[u8])
 
 // Marks the blocks that an accepted clear names.
 pub fn clear_attributes_named(image: &[u8], found: File, marks: &mut [u8])
-    requires { (check image.now ≡ 0) × (Standing image.now (fileRefusal image.now) found.slot found.block found.first found.size found.blocks) × (blockCount image.now ≤ length marks.old) }
-    ensures { marks.new ≡ marked marks.old (clearAttributesNamed image.now (entry_at found.block found.slot)) }
+    requires { (check image.now ≡ 0) × (Standing image.now (file_refusal image.now) found.slot found.block found.first found.size found.blocks) × (block_count image.now ≤ length marks.old) }
+    ensures { marks.new ≡ marked marks.old (clear_attributes_named image.now (entry_at found.block found.slot)) }
 {
     let a = layout::file::attribute_chain(image, found.block, found.slot);
     let n = image.len() / 512;
@@ -114,8 +114,8 @@ pub fn clear_attributes_named(image: &[u8], found: File, marks: &mut [u8])
 
 // An accepted clear: frees the chain and sets the two fields to 0.
 pub fn clear_attributes(image: &mut [u8], found: File)
-    requires { (check image.old ≡ 0) × (Standing image.old (fileRefusal image.old) found.slot found.block found.first found.size found.blocks) }
-    ensures { image.new ≡ clearAttributesAt image.old (entry_at found.block found.slot) }
+    requires { (check image.old ≡ 0) × (Standing image.old (file_refusal image.old) found.slot found.block found.first found.size found.blocks) }
+    ensures { image.new ≡ clear_attributes_at image.old (entry_at found.block found.slot) }
 {
     let a = layout::file::attribute_chain(image, found.block, found.slot);
     let n = image.len() / 512;

@@ -1,9 +1,9 @@
 // A change as one value, for the journal above: its refusal, its named blocks as marks and the change itself, on an image that the caller has
 // checked. The path and the data stand beside it; the data of a move is its second path. Its path is looked up once: what the refusal found is handed on.
 ghost use Rattle.std.specs.Prelude.{◌≡◌, ◌≤◌, ◌<◌, length};
-ghost use Rattle.layout.specs.Geometry.{blockCount};
+ghost use Rattle.layout.specs.Geometry.{block_count};
 ghost use Rattle.layout.specs.Check.{check};
-ghost use Rattle.volume.specs.Change.{refusal, after, named, slotGiven};
+ghost use Rattle.volume.specs.Change.{refusal, after, named, slot_given};
 ghost use Rattle.volume.specs.Asked.{asked};
 ghost use Rattle.volume.specs.Walks.Marks.{marked};
 ghost use Rattle.volume.specs.Walks.Targets.{Target, Prepared, answered};
@@ -85,7 +85,7 @@ pub fn mark_named(
     found: File,
     marks: &mut [u8],
 )
-    requires { (check image.now ≡ 0) × (refusal image.now (asked what path.now bytes.now) ≡ 0) × (Target image.now (asked what path.now bytes.now) found.slot found.block found.first found.size found.blocks) × (blockCount image.now ≤ length marks.old) }
+    requires { (check image.now ≡ 0) × (refusal image.now (asked what path.now bytes.now) ≡ 0) × (Target image.now (asked what path.now bytes.now) found.slot found.block found.first found.size found.blocks) × (block_count image.now ≤ length marks.old) }
     ensures { marks.new ≡ marked marks.old (named image.now (asked what path.now bytes.now)) }
 {
     match what {
@@ -165,7 +165,7 @@ fn slot_of(what: Change, slot: usize) -> u32
 // Makes an accepted change; gives the slot that it answers, or 0.
 pub fn make(image: &mut [u8], what: Change, path: &[u8], bytes: &[u8], found: File) -> u32
     requires { (check image.old ≡ 0) × (refusal image.old (asked what path.now bytes.now) ≡ 0) × (Target image.old (asked what path.now bytes.now) found.slot found.block found.first found.size found.blocks) }
-    ensures slot { result ≡ slotGiven image.old (asked what path.now bytes.now) }
+    ensures slot { result ≡ slot_given image.old (asked what path.now bytes.now) }
     ensures bytes { image.new ≡ after image.old (asked what path.now bytes.now) }
 {
     apply(image, what, path, bytes, found);

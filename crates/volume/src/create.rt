@@ -1,8 +1,8 @@
 // Create, on an image that the caller has checked.
 ghost use Rattle.std.specs.Prelude.{◌≡◌, true};
 ghost use Rattle.layout.specs.Check.{check};
-ghost use Rattle.layout.specs.Paths.{pathOk};
-ghost use Rattle.volume.specs.Create.{createRefusal, createSlot, createImage};
+ghost use Rattle.layout.specs.Paths.{path_ok};
+ghost use Rattle.volume.specs.Create.{create_refusal, create_slot, create_image};
 ghost use Rattle.volume.specs.Walks.Places.{Vacant, Searched};
 
 use super::slot::Fields;
@@ -22,7 +22,7 @@ pub struct Given {
 // The place of a new file, or the refusal of create.
 pub fn create_refusal(image: &[u8], path: &[u8], kind: u8, flags: u32) -> File
     requires { check image.now ≡ 0 }
-    ensures { Searched image.now path.now (createRefusal image.now path.now kind flags) result.number result.first result.slot result.block }
+    ensures { Searched image.now path.now (create_refusal image.now path.now kind flags) result.number result.first result.slot result.block }
 {
     if !layout::directory::is_file(kind) {
         return layout::file::refused(9);
@@ -36,9 +36,9 @@ pub fn create_refusal(image: &[u8], path: &[u8], kind: u8, flags: u32) -> File
 
 // Creates a file at the place found for it; gives its slot.
 pub fn create_at(image: &mut [u8], found: File, path: &[u8], given: Given) -> u32
-    requires { (check image.old ≡ 0) × (pathOk path.now ≡ true) × (Vacant image.old path.now found.first found.slot found.block) }
-    ensures slot { result ≡ createSlot image.old path.now }
-    ensures bytes { image.new ≡ createImage image.old path.now given.kind given.user given.group given.permissions given.flags given.time }
+    requires { (check image.old ≡ 0) × (path_ok path.now ≡ true) × (Vacant image.old path.now found.first found.slot found.block) }
+    ensures slot { result ≡ create_slot image.old path.now }
+    ensures bytes { image.new ≡ create_image image.old path.now given.kind given.user given.group given.permissions given.flags given.time }
 {
     let f = Fields {
         kind: given.kind,

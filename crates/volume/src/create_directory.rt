@@ -1,15 +1,15 @@
 // Create, of a directory, on an image that the caller has checked.
 ghost use Rattle.std.specs.Prelude.{◌≡◌, ◌&&◌, [], ◌∷◌, ◌+◌, ◌-◌, ◌*◌, ◌≤◌, ◌<◌, length, get_or, take};
-ghost use Rattle.layout.specs.Limits.{maxDirectory};
+ghost use Rattle.layout.specs.Limits.{max_directory};
 ghost use Rattle.layout.specs.Lists.{within};
 ghost use Rattle.layout.specs.Bytes.{splice};
-ghost use Rattle.layout.specs.Geometry.{blockCount};
-ghost use Rattle.layout.specs.Table.{next, freeBlocks};
-ghost use Rattle.layout.specs.Directory.{isDirectory};
+ghost use Rattle.layout.specs.Geometry.{block_count};
+ghost use Rattle.layout.specs.Table.{next, free_blocks};
+ghost use Rattle.layout.specs.Directory.{is_directory};
 ghost use Rattle.layout.specs.Check.{check};
-ghost use Rattle.volume.specs.Entries.{entryBytes, grown, blocksNamed};
-ghost use Rattle.volume.specs.Create.{createSlot};
-ghost use Rattle.volume.specs.Directories.{createDirectoryRefusal, newDirectoryBlocks, createDirectoryImage};
+ghost use Rattle.volume.specs.Entries.{entry_bytes, grown, blocks_named};
+ghost use Rattle.volume.specs.Create.{create_slot};
+ghost use Rattle.volume.specs.Directories.{create_directory_refusal, new_directory_blocks, create_directory_image};
 ghost use Rattle.volume.specs.Walks.Marks.{marked};
 ghost use Rattle.volume.specs.Walks.Places.{Vacant, Searched};
 
@@ -20,7 +20,7 @@ use layout::limits::MAX_DIRECTORY;
 
 // Whether type and number of blocks are those of a directory.
 fn shaped(kind: u8, d: u32) -> bool
-    ensures { result ≡ isDirectory kind && within 1 maxDirectory d }
+    ensures { result ≡ is_directory kind && within 1 max_directory d }
 {
     if !layout::directory::is_directory(kind) {
         return false;
@@ -34,7 +34,7 @@ fn shaped(kind: u8, d: u32) -> bool
 // The place of a new directory's entry, or the refusal.
 pub fn create_directory_refusal(image: &[u8], path: &[u8], kind: u8, flags: u32, d: u32) -> File
     requires { check image.now ≡ 0 }
-    ensures { Searched image.now path.now (createDirectoryRefusal image.now path.now kind flags d) result.number result.first result.slot result.block }
+    ensures { Searched image.now path.now (create_directory_refusal image.now path.now kind flags d) result.number result.first result.slot result.block }
 {
     if !shaped(kind, d) {
         return layout::file::refused(9);
@@ -57,8 +57,8 @@ pub fn create_directory_refusal(image: &[u8], path: &[u8], kind: u8, flags: u32,
 
 // Marks the block of a new directory's entry and what its d blocks name.
 pub fn create_directory_named(image: &[u8], block: usize, d: u32, marks: &mut [u8])
-    requires { (check image.now ≡ 0) × (block < blockCount image.now) × (d ≤ length (freeBlocks (next image.now) (blockCount image.now))) × (blockCount image.now ≤ length marks.old) }
-    ensures { marks.new ≡ marked marks.old (block ∷ blocksNamed (newDirectoryBlocks image.now d)) }
+    requires { (check image.now ≡ 0) × (block < block_count image.now) × (d ≤ length (free_blocks (next image.now) (block_count image.now))) × (block_count image.now ≤ length marks.old) }
+    ensures { marks.new ≡ marked marks.old (block ∷ blocks_named (new_directory_blocks image.now d)) }
 {
     let n = image.len() / 512;
     super::marks::mark(marks, block);
@@ -74,10 +74,10 @@ struct Span {
 
 // Takes d blocks for a directory.
 fn take_blocks(image: &mut [u8], d: usize) -> Span
-    requires { (check image.old ≡ 0) × (1 ≤ d) × (d ≤ length (freeBlocks (next image.old) (blockCount image.old))) }
-    ensures bytes { image.new ≡ grown image.old (blockCount image.old) 0 (take d (freeBlocks (next image.old) (blockCount image.old))) }
-    ensures first { result.first ≡ get_or (take d (freeBlocks (next image.old) (blockCount image.old))) 0 0 }
-    ensures last { result.last ≡ get_or (take d (freeBlocks (next image.old) (blockCount image.old))) (d - 1) 0 }
+    requires { (check image.old ≡ 0) × (1 ≤ d) × (d ≤ length (free_blocks (next image.old) (block_count image.old))) }
+    ensures bytes { image.new ≡ grown image.old (block_count image.old) 0 (take d (free_blocks (next image.old) (block_count image.old))) }
+    ensures first { result.first ≡ get_or (take d (free_blocks (next image.old) (block_count image.old))) 0 0 }
+    ensures last { result.last ≡ get_or (take d (free_blocks (next image.old) (block_count image.old))) (d - 1) 0 }
 {
     let n = image.len() / 512;
     let first = super::table::grow(image, n, 0, d);
@@ -99,7 +99,7 @@ fn put_directory(
     name: &[u8],
 )
     requires { (512 * first + 512 ≤ length image.old) × (512 * last + 512 ≤ length image.old) × (first < 4294967296) × (parent < 4294967296) × (length name.now ≤ 80) }
-    ensures { image.new ≡ splice (splice image.old (512 * first) (entryBytes 1 0 0 0 first parent d time 0 name.now)) (512 * last + 384) (0xFF ∷ []) }
+    ensures { image.new ≡ splice (splice image.old (512 * first) (entry_bytes 1 0 0 0 first parent d time 0 name.now)) (512 * last + 384) (0xFF ∷ []) }
 {
     let f = Fields {
         kind: 1,
@@ -118,9 +118,9 @@ fn put_directory(
 
 // Creates a directory of d blocks, its entry at the place found for it; gives its slot.
 pub fn create_directory(image: &mut [u8], found: File, path: &[u8], given: Given, d: u32) -> u32
-    requires { (check image.old ≡ 0) × (createDirectoryRefusal image.old path.now given.kind given.flags d ≡ 0) × (Vacant image.old path.now found.first found.slot found.block) }
-    ensures slot { result ≡ createSlot image.old path.now }
-    ensures bytes { image.new ≡ createDirectoryImage image.old path.now given.kind given.user given.group given.permissions given.flags given.time d }
+    requires { (check image.old ≡ 0) × (create_directory_refusal image.old path.now given.kind given.flags d ≡ 0) × (Vacant image.old path.now found.first found.slot found.block) }
+    ensures slot { result ≡ create_slot image.old path.now }
+    ensures bytes { image.new ≡ create_directory_image image.old path.now given.kind given.user given.group given.permissions given.flags given.time d }
 {
     let t = take_blocks(image, d as usize);
     let name = layout::path::last_part(path);

@@ -1,8 +1,8 @@
 // The entry of a file and the end of a directory, written. The work on an entry is given the 512 bytes of its block.
 ghost use Rattle.std.specs.Prelude.{◌≡◌, [], ◌∷◌, ◌+◌, ◌*◌, ◌≤◌, ◌<◌, length};
 ghost use Rattle.layout.specs.Bytes.{zeros, splice};
-ghost use Rattle.volume.specs.Write.{setFile};
-ghost use Rattle.volume.specs.Attributes.{setAttributeFields};
+ghost use Rattle.volume.specs.Write.{set_file};
+ghost use Rattle.volume.specs.Attributes.{set_attribute_fields};
 ghost use Rattle.layout.specs.Walks.Slots.{entry_at};
 
 use super::number::{put32, put64};
@@ -39,7 +39,7 @@ pub fn end_block(image: &mut [u8], b: usize)
 // Writes the numbers and the modified time of the file at o of a directory's block.
 fn put_file(block: &mut [u8], o: usize, first: u32, size: u32, blocks: u32, time: u64)
     requires { o + 128 ≤ length block.old }
-    ensures { block.new ≡ setFile block.old o first size blocks time }
+    ensures { block.new ≡ set_file block.old o first size blocks time }
 {
     put32(block, o + 4, first);
     put32(block, o + 8, size);
@@ -58,7 +58,7 @@ pub fn set_file(
     time: u64,
 )
     requires { (512 * b + 512 ≤ length image.old) × (first < 4294967296) × (size < 4294967296) × (blocks < 4294967296) }
-    ensures { image.new ≡ setFile image.old (entry_at b k) first size blocks time }
+    ensures { image.new ≡ set_file image.old (entry_at b k) first size blocks time }
 {
     let o = 128 * (k % 4);
     let a = 512 * b;
@@ -76,7 +76,7 @@ pub fn set_file(
 // Writes the two attribute fields of the file at o of a directory's block.
 fn put_attribute_fields(block: &mut [u8], o: usize, first: u32, size: u32)
     requires { o + 128 ≤ length block.old }
-    ensures { block.new ≡ setAttributeFields block.old o first size }
+    ensures { block.new ≡ set_attribute_fields block.old o first size }
 {
     put32(block, o + 32, first);
     put32(block, o + 36, size);
@@ -85,7 +85,7 @@ fn put_attribute_fields(block: &mut [u8], o: usize, first: u32, size: u32)
 // The same for the file in slot k, which is in block b.
 pub fn set_attribute_fields(image: &mut [u8], b: usize, k: usize, first: usize, size: usize)
     requires { (512 * b + 512 ≤ length image.old) × (first < 4294967296) × (size < 4294967296) }
-    ensures { image.new ≡ setAttributeFields image.old (entry_at b k) first size }
+    ensures { image.new ≡ set_attribute_fields image.old (entry_at b k) first size }
 {
     let o = 128 * (k % 4);
     let a = 512 * b;

@@ -2,14 +2,14 @@
 ghost use Rattle.std.specs.Prelude.{◌≡◌, true, ◌∷◌, [], ◌++◌, ◌+◌, ◌*◌, ◌≤◌, length};
 ghost use Rattle.layout.specs.Bytes.{part, splice, zeros};
 ghost use Rattle.layout.specs.Table.{next, chain};
-ghost use Rattle.layout.specs.Directory.{blocksOf, directory, padded};
+ghost use Rattle.layout.specs.Directory.{blocks_of, directory, padded};
 ghost use Rattle.layout.specs.Check.{check};
-ghost use Rattle.layout.specs.Paths.{pathOk, parts, lastPart};
+ghost use Rattle.layout.specs.Paths.{path_ok, parts, last_part};
 ghost use Rattle.layout.specs.Walks.Shapes.{DirectoryAt};
 ghost use Rattle.layout.specs.Walks.Slots.{Stands, entry_at};
-ghost use Rattle.volume.specs.Move.{openSlot};
+ghost use Rattle.volume.specs.Move.{open_slot};
 ghost use Rattle.volume.specs.Walks.Marks.{marked};
-ghost use Rattle.volume.specs.Walks.Moves.{eitherForm, Prepares};
+ghost use Rattle.volume.specs.Walks.Moves.{either_form, Prepares};
 
 use layout::directory::Entry;
 use layout::file::File;
@@ -19,7 +19,7 @@ const HEAD: usize = 48;
 
 // The refusal of two paths by their forms, x that of one and y that of the other: 9 before 17.
 fn either_form(x: u32, y: u32) -> u32
-    ensures { result ≡ eitherForm x y }
+    ensures { result ≡ either_form x y }
 {
     if (x == 9) | (y == 9) {
         return 9;
@@ -33,7 +33,7 @@ fn either_form(x: u32, y: u32) -> u32
 // The lowest slot of a directory that is free or begins at `own`.
 fn find_open(image: &[u8], n: usize, first: usize, d: usize, own: usize) -> Entry
     requires { DirectoryAt image.now n first d }
-    ensures { Stands (chain (next image.now) first d) n (openSlot image.now (chain (next image.now) first d) own) result.slot result.block }
+    ensures { Stands (chain (next image.now) first d) n (open_slot image.now (chain (next image.now) first d) own) result.slot result.block }
 {
     let mut b = first;
     let mut slot = 1;
@@ -55,8 +55,8 @@ fn find_open(image: &[u8], n: usize, first: usize, d: usize, own: usize) -> Entr
 
 // The same of the directory at block b.
 fn open_slot(image: &[u8], n: usize, b: usize, own: usize) -> Entry
-    requires { DirectoryAt image.now n b (blocksOf image.now (512 * b)) }
-    ensures { Stands (directory image.now b) n (openSlot image.now (directory image.now b) own) result.slot result.block }
+    requires { DirectoryAt image.now n b (blocks_of image.now (512 * b)) }
+    ensures { Stands (directory image.now b) n (open_slot image.now (directory image.now b) own) result.slot result.block }
 {
     let d = layout::directory::number_at(image, b, 0, 12);
     find_open(image, n, b, d, own)
@@ -160,8 +160,8 @@ fn copy_head(image: &[u8], b: usize, k: usize, head: &mut [u8])
 
 // Moves the entry: its old slot is zeroed, and the new one written.
 pub fn move_entry(image: &mut [u8], found: File, to: &[u8])
-    requires { (512 * found.size + 512 ≤ length image.old) × (512 * found.block + 512 ≤ length image.old) × (pathOk to.now ≡ true) }
-    ensures { image.new ≡ splice (splice image.old (entry_at found.size found.first) (zeros 128)) (entry_at found.block found.slot) (part image.old (entry_at found.size found.first) 48 ++ padded (lastPart (parts to.now))) }
+    requires { (512 * found.size + 512 ≤ length image.old) × (512 * found.block + 512 ≤ length image.old) × (path_ok to.now ≡ true) }
+    ensures { image.new ≡ splice (splice image.old (entry_at found.size found.first) (zeros 128)) (entry_at found.block found.slot) (part image.old (entry_at found.size found.first) 48 ++ padded (last_part (parts to.now))) }
 {
     let mut head = no_head();
     copy_head(image, found.size, found.first, &mut head);

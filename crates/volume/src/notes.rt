@@ -1,10 +1,10 @@
 // Notes on the chain table, one for each table block, and the search for a free block by them. A table block's work is given its 512 bytes.
 ghost use Rattle.std.specs.Prelude.{◌≡◌, ◌*◌, ◌/◌, ◌≤◌, ◌<◌, length};
-ghost use Rattle.layout.specs.Limits.{maxBlocks};
+ghost use Rattle.layout.specs.Limits.{max_blocks};
 ghost use Rattle.layout.specs.Bytes.{zeros};
-ghost use Rattle.layout.specs.Geometry.{tableBlocks};
+ghost use Rattle.layout.specs.Geometry.{table_blocks};
 ghost use Rattle.layout.specs.Table.{next};
-ghost use Rattle.layout.specs.Walks.Chains.{entryIn};
+ghost use Rattle.layout.specs.Walks.Chains.{entry_in};
 ghost use Rattle.layout.specs.Walks.Shapes.{Shape};
 ghost use Rattle.volume.specs.Search.{Noted, Exact, Renoted, searched};
 
@@ -15,7 +15,7 @@ const NOTES: usize = MAX_BLOCKS / 128;
 
 // Notes that are all 0.
 fn no_notes() -> [u8; NOTES]
-    ensures { result ≡ zeros (maxBlocks / 128) }
+    ensures { result ≡ zeros (max_blocks / 128) }
 {
     [0u8; NOTES]
 }
@@ -23,7 +23,7 @@ fn no_notes() -> [u8; NOTES]
 // The note of a table block of which k entries are below n: 0 if none of these is 0, else 1.
 fn note_of(block: &[u8], k: usize) -> u8
     requires { (4 * k ≤ length block.now) × (k ≤ 128) }
-    ensures { Noted (entryIn block.now) k 0 result }
+    ensures { Noted (entry_in block.now) k 0 result }
 {
     if (layout::table::used_in(block, 0, k) as usize) < k {
         return 1;
@@ -33,7 +33,7 @@ fn note_of(block: &[u8], k: usize) -> u8
 
 // Makes note i anew.
 pub fn renote(image: &[u8], n: usize, i: usize, notes: &mut [u8])
-    requires { (Shape image.now n) × (i < tableBlocks n) × (i < length notes.old) }
+    requires { (Shape image.now n) × (i < table_blocks n) × (i < length notes.old) }
     ensures { Renoted (next image.now) n i notes.old notes.new }
 {
     let rest = n - 128 * i;

@@ -1,9 +1,9 @@
 // Replace, on an image that the caller has checked: the file is shortened, then written at 0. Its refusals are those of the write.
 ghost use Rattle.std.specs.Prelude.{◌≡◌, ◌≤◌, length};
-ghost use Rattle.layout.specs.Geometry.{blockCount};
+ghost use Rattle.layout.specs.Geometry.{block_count};
 ghost use Rattle.layout.specs.Check.{check};
 ghost use Rattle.layout.specs.Walks.Slots.{entry_at};
-ghost use Rattle.volume.specs.Replace.{replaceRefusal, replaceAt, replaceNamed};
+ghost use Rattle.volume.specs.Replace.{replace_refusal, replace_at, replace_named};
 ghost use Rattle.volume.specs.Walks.Marks.{marked};
 ghost use Rattle.volume.specs.Walks.Targets.{Standing};
 
@@ -11,8 +11,8 @@ use layout::file::File;
 
 // An accepted replace.
 pub fn replace_at(image: &mut [u8], found: File, bytes: &[u8], time: u64)
-    requires { (check image.old ≡ 0) × (Standing image.old (λ path. replaceRefusal image.old path (length bytes.now)) found.slot found.block found.first found.size found.blocks) }
-    ensures { image.new ≡ replaceAt image.old (entry_at found.block found.slot) bytes.now time }
+    requires { (check image.old ≡ 0) × (Standing image.old (λ path. replace_refusal image.old path (length bytes.now)) found.slot found.block found.first found.size found.blocks) }
+    ensures { image.new ≡ replace_at image.old (entry_at found.block found.slot) bytes.now time }
 {
     let size = layout::content::least(found.size, bytes.len());
     let start = super::shorten::shorten_at(image, found, size, time);
@@ -29,8 +29,8 @@ pub fn replace_at(image: &mut [u8], found: File, bytes: &[u8], time: u64)
 
 // Marks the blocks that an accepted replace names.
 pub fn replace_named(image: &[u8], found: File, count: usize, marks: &mut [u8])
-    requires { (check image.now ≡ 0) × (Standing image.now (λ path. replaceRefusal image.now path count) found.slot found.block found.first found.size found.blocks) × (blockCount image.now ≤ length marks.old) }
-    ensures { marks.new ≡ marked marks.old (replaceNamed image.now (entry_at found.block found.slot) count) }
+    requires { (check image.now ≡ 0) × (Standing image.now (λ path. replace_refusal image.now path count) found.slot found.block found.first found.size found.blocks) × (block_count image.now ≤ length marks.old) }
+    ensures { marks.new ≡ marked marks.old (replace_named image.now (entry_at found.block found.slot) count) }
 {
     let size = layout::content::least(found.size, count);
     super::shorten::shorten_named(image, found, size, marks);

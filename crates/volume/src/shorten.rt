@@ -1,15 +1,15 @@
 // Shorten, on an image that the caller has checked. The file keeps its first blocks; the others are freed, and the bytes behind the new end zeroed.
 ghost use Rattle.std.specs.Prelude.{◌≡◌, ◌+◌, ◌*◌, ◌≤◌, ◌<◌, length, get_or, take};
 ghost use Rattle.layout.specs.Bytes.{zeros, splice};
-ghost use Rattle.layout.specs.Geometry.{blockCount, blocksFor};
+ghost use Rattle.layout.specs.Geometry.{block_count, blocks_for};
 ghost use Rattle.layout.specs.Table.{next};
-ghost use Rattle.layout.specs.Directory.{isFile, fileBlocks};
+ghost use Rattle.layout.specs.Directory.{is_file, file_blocks};
 ghost use Rattle.layout.specs.Check.{check};
 ghost use Rattle.layout.specs.Walks.Looks.{Opens};
 ghost use Rattle.layout.specs.Walks.Shapes.{ChainBelow};
 ghost use Rattle.layout.specs.Walks.Slots.{entry_at};
-ghost use Rattle.volume.specs.Shorten.{tailLength, shortenRefusal, shortenAt, shortenNamed};
-ghost use Rattle.volume.specs.Walks.Cuts.{CutAt, endBlocks};
+ghost use Rattle.volume.specs.Shorten.{tail_length, shorten_refusal, shorten_at, shorten_named};
+ghost use Rattle.volume.specs.Walks.Cuts.{CutAt, end_blocks};
 ghost use Rattle.volume.specs.Walks.Marks.{marked};
 ghost use Rattle.volume.specs.Walks.Targets.{Standing};
 
@@ -18,7 +18,7 @@ use layout::file::File;
 // The file, or the refusal, 9, 17, 10 or 12.
 pub fn shorten_refusal(image: &[u8], path: &[u8], size: usize) -> File
     requires { check image.now ≡ 0 }
-    ensures { Opens isFile image.now path.now (shortenRefusal image.now path.now size) result.number result.slot result.block result.first result.size result.blocks }
+    ensures { Opens is_file image.now path.now (shorten_refusal image.now path.now size) result.number result.slot result.block result.first result.size result.blocks }
 {
     let f = layout::file::open_file(image, path);
     let missing = f.number;
@@ -64,7 +64,7 @@ fn find_cut(image: &[u8], n: usize, first: usize, k: usize, j: usize) -> Cut
 // How many bytes behind the new end become 0. If the size stays, none do.
 fn tail_length(old: usize, size: usize) -> usize
     requires { size < 4294967296 }
-    ensures { result ≡ tailLength old size }
+    ensures { result ≡ tail_length old size }
 {
     if size < old {
         return 512 * ((size + 511) / 512) - size;
@@ -82,9 +82,9 @@ fn clear_tail(image: &mut [u8], b: usize, o: usize, count: usize)
 
 // An accepted shorten; gives the file's first block after it, 0 if it has none.
 pub fn shorten_at(image: &mut [u8], found: File, size: usize, time: u64) -> usize
-    requires { (check image.old ≡ 0) × (Standing image.old (λ path. shortenRefusal image.old path size) found.slot found.block found.first found.size found.blocks) }
-    ensures first { result ≡ get_or (take (blocksFor size) (fileBlocks image.old (entry_at found.block found.slot))) 0 0 }
-    ensures bytes { image.new ≡ shortenAt image.old (entry_at found.block found.slot) size time }
+    requires { (check image.old ≡ 0) × (Standing image.old (λ path. shorten_refusal image.old path size) found.slot found.block found.first found.size found.blocks) }
+    ensures first { result ≡ get_or (take (blocks_for size) (file_blocks image.old (entry_at found.block found.slot))) 0 0 }
+    ensures bytes { image.new ≡ shorten_at image.old (entry_at found.block found.slot) size time }
 {
     let blocks = found.blocks;
     let n = image.len() / 512;
@@ -100,7 +100,7 @@ pub fn shorten_at(image: &mut [u8], found: File, size: usize, time: u64) -> usiz
 // Marks the block of the new end, if bytes behind it become 0.
 fn mark_tail(last: usize, tail: usize, marks: &mut [u8])
     requires { last < length marks.old }
-    ensures { marks.new ≡ marked marks.old (endBlocks last tail) }
+    ensures { marks.new ≡ marked marks.old (end_blocks last tail) }
 {
     if tail == 0 {
         return;
@@ -110,8 +110,8 @@ fn mark_tail(last: usize, tail: usize, marks: &mut [u8])
 
 // Marks the blocks that an accepted shorten names.
 pub fn shorten_named(image: &[u8], found: File, size: usize, marks: &mut [u8])
-    requires { (check image.now ≡ 0) × (Standing image.now (λ path. shortenRefusal image.now path size) found.slot found.block found.first found.size found.blocks) × (blockCount image.now ≤ length marks.old) }
-    ensures { marks.new ≡ marked marks.old (shortenNamed image.now (entry_at found.block found.slot) size) }
+    requires { (check image.now ≡ 0) × (Standing image.now (λ path. shorten_refusal image.now path size) found.slot found.block found.first found.size found.blocks) × (block_count image.now ≤ length marks.old) }
+    ensures { marks.new ≡ marked marks.old (shorten_named image.now (entry_at found.block found.slot) size) }
 {
     let blocks = found.blocks;
     let n = image.len() / 512;

@@ -1,15 +1,15 @@
 // Write, on an image that the caller has checked. A file that was found may be written by data of any length.
 ghost use Rattle.std.specs.Prelude.{◌≡◌, ◌+◌, ◌-◌, ◌≤◌, ◌<◌, max, length};
 ghost use Rattle.layout.specs.Lists.{last_or};
-ghost use Rattle.layout.specs.Geometry.{blockCount, blocksFor};
+ghost use Rattle.layout.specs.Geometry.{block_count, blocks_for};
 ghost use Rattle.layout.specs.Table.{next, chain};
 ghost use Rattle.layout.specs.Check.{check};
-ghost use Rattle.layout.specs.Directory.{isFile};
-ghost use Rattle.layout.specs.Paths.{fileRefusal};
+ghost use Rattle.layout.specs.Directory.{is_file};
+ghost use Rattle.layout.specs.Paths.{file_refusal};
 ghost use Rattle.layout.specs.Walks.Looks.{Opens};
 ghost use Rattle.layout.specs.Walks.Shapes.{ChainBelow};
 ghost use Rattle.layout.specs.Walks.Slots.{entry_at};
-ghost use Rattle.volume.specs.Write.{writeRefusal, writeAtRefusal, writeAt, written, writeNamed};
+ghost use Rattle.volume.specs.Write.{write_refusal, write_at_refusal, write_at, written, write_named};
 ghost use Rattle.volume.specs.Walks.Marks.{marked};
 ghost use Rattle.volume.specs.Walks.Targets.{Standing};
 ghost use Rattle.volume.specs.Walks.Writes.{start_of, Planned};
@@ -26,8 +26,8 @@ fn larger(a: usize, b: usize) -> usize
 
 // How many blocks `count` bytes at an offset need beyond those of a file.
 fn needed(size: usize, blocks: usize, offset: usize, count: usize) -> usize
-    requires { (offset ≤ size) × (size < 4294967296) × (count < 4294967296) × (blocks ≤ blocksFor size) }
-    ensures { result ≡ blocksFor (max size (offset + count)) - blocks }
+    requires { (offset ≤ size) × (size < 4294967296) × (count < 4294967296) × (blocks ≤ blocks_for size) }
+    ensures { result ≡ blocks_for (max size (offset + count)) - blocks }
 {
     let end = larger(size, offset + count);
     (end + 511) / 512 - blocks
@@ -35,8 +35,8 @@ fn needed(size: usize, blocks: usize, offset: usize, count: usize) -> usize
 
 // The refusal of a write to a file that was found, 12 or 14, or 0.
 pub fn write_at_refusal(image: &[u8], found: File, offset: usize, count: usize) -> u32
-    requires { (check image.now ≡ 0) × (Standing image.now (fileRefusal image.now) found.slot found.block found.first found.size found.blocks) × (count < 4294967296) }
-    ensures { result ≡ writeAtRefusal image.now (entry_at found.block found.slot) offset count }
+    requires { (check image.now ≡ 0) × (Standing image.now (file_refusal image.now) found.slot found.block found.first found.size found.blocks) × (count < 4294967296) }
+    ensures { result ≡ write_at_refusal image.now (entry_at found.block found.slot) offset count }
 {
     let size = found.size;
     let blocks = found.blocks;
@@ -52,7 +52,7 @@ pub fn write_at_refusal(image: &[u8], found: File, offset: usize, count: usize) 
 // The file, or the refusal, 9, 17, 10, 12 or 14.
 pub fn write_refusal(image: &[u8], path: &[u8], offset: usize, count: usize) -> File
     requires { check image.now ≡ 0 }
-    ensures { Opens isFile image.now path.now (writeRefusal image.now path.now offset count) result.number result.slot result.block result.first result.size result.blocks }
+    ensures { Opens is_file image.now path.now (write_refusal image.now path.now offset count) result.number result.slot result.block result.first result.size result.blocks }
 {
     if MAX_DATA < count {
         return layout::file::refused(9);
@@ -101,7 +101,7 @@ struct Plan {
 
 // The plan of an accepted write.
 fn plan_write(image: &[u8], found: File, offset: usize, count: usize) -> Plan
-    requires { (check image.now ≡ 0) × (Standing image.now (fileRefusal image.now) found.slot found.block found.first found.size found.blocks) × (writeAtRefusal image.now (entry_at found.block found.slot) offset count ≡ 0) }
+    requires { (check image.now ≡ 0) × (Standing image.now (file_refusal image.now) found.slot found.block found.first found.size found.blocks) × (write_at_refusal image.now (entry_at found.block found.slot) offset count ≡ 0) }
     ensures { Planned image.now (entry_at found.block found.slot) offset count result.last result.taken found.blocks found.first result.size result.blocks }
 {
     let first = found.first;
@@ -121,8 +121,8 @@ fn plan_write(image: &[u8], found: File, offset: usize, count: usize) -> Plan
 
 // An accepted write: takes the blocks needed, puts the data and sets the entry's numbers.
 pub fn write_at(image: &mut [u8], found: File, offset: usize, bytes: &[u8], time: u64)
-    requires { (check image.old ≡ 0) × (Standing image.old (fileRefusal image.old) found.slot found.block found.first found.size found.blocks) × (writeAtRefusal image.old (entry_at found.block found.slot) offset (length bytes.now) ≡ 0) }
-    ensures { image.new ≡ writeAt image.old (entry_at found.block found.slot) offset bytes.now time }
+    requires { (check image.old ≡ 0) × (Standing image.old (file_refusal image.old) found.slot found.block found.first found.size found.blocks) × (write_at_refusal image.old (entry_at found.block found.slot) offset (length bytes.now) ≡ 0) }
+    ensures { image.new ≡ write_at image.old (entry_at found.block found.slot) offset bytes.now time }
 {
     let p = plan_write(image, found, offset, bytes.len());
     let n = image.len() / 512;
@@ -169,8 +169,8 @@ fn mark_written(
 
 // Marks the blocks that an accepted write names. Every block that is taken holds a written byte.
 pub fn write_at_named(image: &[u8], found: File, offset: usize, count: usize, marks: &mut [u8])
-    requires { (check image.now ≡ 0) × (Standing image.now (fileRefusal image.now) found.slot found.block found.first found.size found.blocks) × (writeAtRefusal image.now (entry_at found.block found.slot) offset count ≡ 0) × (blockCount image.now ≤ length marks.old) }
-    ensures { marks.new ≡ marked marks.old (writeNamed image.now (entry_at found.block found.slot) offset count) }
+    requires { (check image.now ≡ 0) × (Standing image.now (file_refusal image.now) found.slot found.block found.first found.size found.blocks) × (write_at_refusal image.now (entry_at found.block found.slot) offset count ≡ 0) × (block_count image.now ≤ length marks.old) }
+    ensures { marks.new ≡ marked marks.old (write_named image.now (entry_at found.block found.slot) offset count) }
 {
     let b = found.block;
     let first = found.first;

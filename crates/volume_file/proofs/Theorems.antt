@@ -8,12 +8,12 @@ use native.Mathlib.Omega.{arith}
 use lib.ListN.{length, get_or}
 use Rattle.layout.specs.Bytes.{part, block}
 use Rattle.layout.proofs.Laws.Tests.{lt-or-ge}
-use Rattle.volume_file.specs.Format.{homeSectors, home_of, image_of, journalOf, own_of, waits, count, numberSectors, saved_at, fileRefusal}
-use Rattle.volume_file.specs.Save.{homeWith, changes, prepared, prepareRefusal, afterPrepare, committed, commitRefusal, afterCommit, replayed, recovered}
-use Rattle.volume_file.specs.Answers.{prepareAnswer}
-use Rattle.volume_file.specs.Writes.{written, logPlacesOf, commitPlace, homePlaces}
+use Rattle.volume_file.specs.Format.{home_sectors, home_of, image_of, journal_of, own_of, waits, count, number_sectors, saved_at, file_refusal}
+use Rattle.volume_file.specs.Save.{home_with, changes, prepared, prepare_refusal, after_prepare, committed, commit_refusal, after_commit, replayed, recovered}
+use Rattle.volume_file.specs.Answers.{prepare_answer}
+use Rattle.volume_file.specs.Writes.{written, log_places_of, commit_place, home_places}
 use Rattle.volume_file.specs.Cuts.{Crash, LogSector, CommitSector, NamedSector, RecoveryCut, RecoveryCuts, Cut, Quiet, Fits}
-use Rattle.volume_file.specs.Begin.{begun, beginRefusal}
+use Rattle.volume_file.specs.Begin.{begun, begin_refusal}
 use Rattle.volume_file.specs.History.{HistoryTheorem}
 use Rattle.volume_file.proofs.Laws.Sectors.{sector-mixed}
 use Rattle.volume_file.proofs.Laws.Facts.{file-facts, file-ok, flagged-length, flagged-other}
@@ -29,7 +29,7 @@ use Rattle.volume_file.proofs.Laws.Commits as commits
 
 -- ALL OR NOTHING. Whatever a cut of a save leaves is a volume file with the same header, and recovered it has the old home or the new one.
 pub all-or-nothing : (d new d' : List ℕ) → Quiet d → Fits d new → Cut d new d'
-    → (fileRefusal d' ≡ 0) × (block d' 0 ≡ block d 0) × ((home_of (recovered d') ≡ home_of d) ⊎ (home_of (recovered d') ≡ new))
+    → (file_refusal d' ≡ 0) × (block d' 0 ≡ block d 0) × ((home_of (recovered d') ≡ home_of d) ⊎ (home_of (recovered d') ≡ new))
 all-or-nothing d new d' q f x =
     let e = cut-either new (file-facts d q.ok) (quiet-fits d new q f) q.none d' x in
     (file-ok _ d' e.volume, e.head, e.home)
@@ -48,21 +48,21 @@ new-after d new d' q f x =
 
 -- RECOVERY cut anywhere, any number of times, and run again is never refused, and gives what it gives uncut: every sector but the commit sector, in which
 -- nothing waits, and so the same home.
-pub recovered-again : (d d' : List ℕ) → fileRefusal d ≡ 0 → RecoveryCuts d d'
-    → (fileRefusal d' ≡ 0) × Crash CommitSector (recovered d) (recovered d') × (home_of (recovered d') ≡ home_of (recovered d))
+pub recovered-again : (d d' : List ℕ) → file_refusal d ≡ 0 → RecoveryCuts d d'
+    → (file_refusal d' ≡ 0) × Crash CommitSector (recovered d) (recovered d') × (home_of (recovered d') ≡ home_of (recovered d))
 recovered-again d d' ok x =
     let v = file-facts d ok in
     let m = many-cuts v x in
     (file-ok _ d' m.volume, m.same, beside-home (recovered-file v) (recovered-file m.volume) m.same)
 
 -- It leaves a file whose log does not wait, and its header and its log as they were; where nothing waits it changes nothing.
-pub recovered-is-quiet : (d : List ℕ) → fileRefusal d ≡ 0 → Quiet (recovered d)
+pub recovered-is-quiet : (d : List ℕ) → file_refusal d ≡ 0 → Quiet (recovered d)
 recovered-is-quiet d ok = quiet-again (file-facts d ok)
 
-pub header-stays : (d : List ℕ) → fileRefusal d ≡ 0 → block (recovered d) 0 ≡ block d 0
+pub header-stays : (d : List ℕ) → file_refusal d ≡ 0 → block (recovered d) 0 ≡ block d 0
 header-stays d ok = recovered-out (file-facts d ok) 0 (inl (omega arith))
 
-pub log-stays : (d : List ℕ) (s : ℕ) → fileRefusal d ≡ 0 → LogSector d s → block (recovered d) s ≡ block d s
+pub log-stays : (d : List ℕ) (s : ℕ) → file_refusal d ≡ 0 → LogSector d s → block (recovered d) s ≡ block d s
 log-stays d s ok l = recovered-out (file-facts d ok) s (inr l)
 
 pub quiet-stays : (d : List ℕ) → Quiet d → recovered d ≡ d
@@ -83,14 +83,14 @@ pub nothing-to-save : (d new : List ℕ) → Quiet d → Fits d new → length (
 nothing-to-save d new q f = home_same new (file-facts d q.ok) (quiet-fits d new q f)
 
 -- What `prepare` accepts is a file whose log does not wait, and a new home that fits it.
-pub prepare-accepts : (d image journal own : List ℕ) → prepareRefusal d image journal own ≡ 0 → Quiet d × Fits d (homeWith image journal own)
+pub prepare-accepts : (d image journal own : List ℕ) → prepare_refusal d image journal own ≡ 0 → Quiet d × Fits d (home_with image journal own)
 prepare-accepts d image journal own e =
     let p = prepares d image journal own e in
     (p.quiet, together d image journal own e)
 
 -- A NEW FILE has a log that does not wait, and its three parts are what stood there.
-pub new-file : (d : List ℕ) (n m x : ℕ) → beginRefusal d n m x ≡ 0
-    → Quiet (begun d n m x) × (image_of (begun d n m x) ≡ part d 1024 (512 * n)) × (journalOf (begun d n m x) ≡ part d (1024 + 512 * n) (512 * m))
+pub new-file : (d : List ℕ) (n m x : ℕ) → begin_refusal d n m x ≡ 0
+    → Quiet (begun d n m x) × (image_of (begun d n m x) ≡ part d 1024 (512 * n)) × (journal_of (begun d n m x) ≡ part d (1024 + 512 * n) (512 * m))
     × (own_of (begun d n m x) ≡ part d (1024 + 512 * n + 512 * m) (512 * x))
 new-file d n m x e = let b = begins d n m x e in let p = begun-parts d n m x b in (begun-quiet d n m x b, p.0, p.1, p.2)
 
@@ -106,11 +106,11 @@ step-1 d new q f =
     let g = quiet-fits d new q f in
     record { size = prepared-length new v g; kept = λ s n. prepared-low new v g s (below s n) }
   where
-    below : (s : ℕ) → (LogSector d s → ⊥) → s < 2 + homeSectors d
-    below s n = ⊎_elim (λ l. l) (λ l. absurd (n l)) (lt-or-ge s (2 + homeSectors d))
+    below : (s : ℕ) → (LogSector d s → ⊥) → s < 2 + home_sectors d
+    below s n = ⊎_elim (λ l. l) (λ l. absurd (n l)) (lt-or-ge s (2 + home_sectors d))
 
 pub step-1-log : (d new : List ℕ) (s : ℕ) → Quiet d → Fits d new
-    → ((2 + homeSectors d + numberSectors (length (changes d new)) ≤ s) × (s < saved_at (homeSectors d) 0)) ⊎ (saved_at (homeSectors d) (length (changes d new)) ≤ s)
+    → ((2 + home_sectors d + number_sectors (length (changes d new)) ≤ s) × (s < saved_at (home_sectors d) 0)) ⊎ (saved_at (home_sectors d) (length (changes d new)) ≤ s)
     → block (prepared d new) s ≡ block d s
 step-1-log d new s q f (inl (l, m)) = prepared-numbers new (file-facts d q.ok) (quiet-fits d new q f) s l m
 step-1-log d new s q f (inr l) = prepared-rest new (file-facts d q.ok) (quiet-fits d new q f) s l
@@ -121,10 +121,10 @@ step-2 d new q f =
     let g = quiet-fits d new q f in
     record { size = committed-length new v g ∙ sym (prepared-length new v g); kept = committed-other new v g }
 
-pub step-3 : (d : List ℕ) → fileRefusal d ≡ 0 → Crash (NamedSector d) d (replayed d)
+pub step-3 : (d : List ℕ) → file_refusal d ≡ 0 → Crash (NamedSector d) d (replayed d)
 step-3 d ok = let v = file-facts d ok in record { size = replayed-length v; kept = λ s n. replayed-out v s (λ j l e. n (j, l, e)) }
 
-pub step-4 : (d : List ℕ) → fileRefusal d ≡ 0 → waits d ≡ true → Crash CommitSector (replayed d) (recovered d)
+pub step-4 : (d : List ℕ) → file_refusal d ≡ 0 → waits d ≡ true → Crash CommitSector (replayed d) (recovered d)
 step-4 d ok w =
     let v = file-facts d ok in
     let l : 1024 ≤ length (replayed d) = omega (arith, replayed-length v, v.size) in
@@ -132,22 +132,22 @@ step-4 d ok w =
 
 -- WHAT THE CALLER WRITES IS ENOUGH: where the file on the disk is the one in memory before a step, and the places that the calls answer are written from
 -- memory, it is the one in memory after the step. Step 3 leaves `replayed`, and step 4 what recovery gave.
-pub written-1 : (d image journal own : List ℕ) → prepareRefusal d image journal own ≡ 0
-    → written d (afterPrepare d image journal own) (logPlacesOf (prepareAnswer d image journal own)) ≡ afterPrepare d image journal own
+pub written-1 : (d image journal own : List ℕ) → prepare_refusal d image journal own ≡ 0
+    → written d (after_prepare d image journal own) (log_places_of (prepare_answer d image journal own)) ≡ after_prepare d image journal own
 written-1 = places.written-1
 
-pub written_2 : (d : List ℕ) → commitRefusal d ≡ 0 → written d (afterCommit d) commitPlace ≡ afterCommit d
+pub written_2 : (d : List ℕ) → commit_refusal d ≡ 0 → written d (after_commit d) commit_place ≡ after_commit d
 written_2 = places.written_2
 
-pub written-3 : (d : List ℕ) → fileRefusal d ≡ 0 → waits d ≡ true → written d (recovered d) (homePlaces (recovered d) (count d)) ≡ replayed d
+pub written-3 : (d : List ℕ) → file_refusal d ≡ 0 → waits d ≡ true → written d (recovered d) (home_places (recovered d) (count d)) ≡ replayed d
 written-3 = places.written-3
 
-pub written_4 : (d : List ℕ) → fileRefusal d ≡ 0 → waits d ≡ true → written (replayed d) (recovered d) commitPlace ≡ recovered d
+pub written_4 : (d : List ℕ) → file_refusal d ≡ 0 → waits d ≡ true → written (replayed d) (recovered d) commit_place ≡ recovered d
 written_4 = places.written_4
 
 -- What `prepare` leaves `commit` accepts, and it leaves what the theorems above call committed.
-pub commit-accepts : (d image journal own : List ℕ) → prepareRefusal d image journal own ≡ 0
-    → (commitRefusal (afterPrepare d image journal own) ≡ 0) × (afterCommit (afterPrepare d image journal own) ≡ committed d (homeWith image journal own))
+pub commit-accepts : (d image journal own : List ℕ) → prepare_refusal d image journal own ≡ 0
+    → (commit_refusal (after_prepare d image journal own) ≡ 0) × (after_commit (after_prepare d image journal own) ≡ committed d (home_with image journal own))
 commit-accepts = commits.commit-accepts
 
 -- Two milder models are covered. Sectors are written whole or not at all, from d to e; or each byte of the file is that of d or of e, in whatever pages the

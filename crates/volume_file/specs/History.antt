@@ -14,7 +14,7 @@ pub data Event : Type 0 where
 pub data Leads : List ℕ → List Event → List ℕ → Type 0 where
   still : (d : List ℕ) → Leads d [] d
   after : {d e : List ℕ} {new : List ℕ} {es : List Event} → Fits d new → Leads (recovered (committed d new)) es e → Leads d (done new ∷ es) e
-  afterCut : {d d' d'' e : List ℕ} {new : List ℕ} {es : List Event} → Fits d new → Cut d new d' → RecoveryCuts d' d'' → Leads (recovered d'') es e
+  after_cut : {d d' d'' e : List ℕ} {new : List ℕ} {es : List Event} → Fits d new → Cut d new d' → RecoveryCuts d' d'' → Leads (recovered d'') es e
       → Leads d (cut new ∷ es) e
 
 -- what the home may be after the events, where it was `old` before: a save that is done leaves `new`, one that is cut leaves `old` or `new`, and nothing else

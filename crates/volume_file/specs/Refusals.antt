@@ -2,35 +2,35 @@
 use Rattle.std.specs.Prelude.{ℕ}
 
 -- it is shorter than its first two sectors
-abbrev pub tooShort : ℕ
-tooShort = 1
+abbrev pub too_short : ℕ
+too_short = 1
 
 -- the header is none, or the sizes asked for are out of their ranges
-abbrev pub badHeader : ℕ
-badHeader = 2
+abbrev pub bad_header : ℕ
+bad_header = 2
 
 -- its length is not the one of its n, m and x
-abbrev pub badLength : ℕ
-badLength = 3
+abbrev pub bad_length : ℕ
+bad_length = 3
 
 -- the log counts more sectors than the home has
-abbrev pub badCount : ℕ
-badCount = 4
+abbrev pub bad_count : ℕ
+bad_count = 4
 
 -- the log's addresses do not rise, or one of them is no home sector
-abbrev pub badAddress : ℕ
-badAddress = 5
+abbrev pub bad_address : ℕ
+bad_address = 5
 
 -- the log waits: it must be recovered first
-abbrev pub logWaits : ℕ
-logWaits = 6
+abbrev pub log_waits : ℕ
+log_waits = 6
 
 -- image, journal or the program's own bytes are not as long as their places
-abbrev pub imageLength : ℕ
-imageLength = 7
+abbrev pub image_length_of : ℕ
+image_length = 7
 
-abbrev pub journalLength : ℕ
-journalLength = 8
+abbrev pub journal_length_of : ℕ
+journal_length = 8
 
-abbrev pub ownLength : ℕ
-ownLength = 9
+abbrev pub own_length_of : ℕ
+own_length = 9

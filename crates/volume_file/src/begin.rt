@@ -1,7 +1,7 @@
 // A new volume file.
 ghost use Rattle.std.specs.Prelude.{◌+◌, ◌≤◌, ◌≡◌, length};
 ghost use Rattle.layout.specs.Bytes.{splice};
-ghost use Rattle.volume_file.specs.Begin.{headerSector, beginRefusal, afterBegin};
+ghost use Rattle.volume_file.specs.Begin.{header_sector, begin_refusal, after_begin};
 
 use super::refusals;
 use volume::number::put32;
@@ -9,7 +9,7 @@ use volume::number::put32;
 // Writes the header.
 fn write_header(file: &mut [u8], n: u32, m: u32, x: u32)
     requires { 1024 ≤ length file.old }
-    ensures { file.new ≡ splice file.old 0 (headerSector n m x) }
+    ensures { file.new ≡ splice file.old 0 (header_sector n m x) }
 {
     let a = 0;
     let e = 12;
@@ -24,7 +24,7 @@ fn write_header(file: &mut [u8], n: u32, m: u32, x: u32)
 
 // Why there can be no file of n, m and x; 0 if there can.
 fn begin_refusal(file: &[u8], n: u32, m: u32, x: u32) -> u32
-    ensures { result ≡ beginRefusal file.now n m x }
+    ensures { result ≡ begin_refusal file.now n m x }
 {
     if !super::header::sizes_ok(n, m, x) {
         return refusals::BAD_HEADER;
@@ -38,8 +38,8 @@ fn begin_refusal(file: &[u8], n: u32, m: u32, x: u32) -> u32
 
 // Makes a volume file of an image of n sectors, a journal of m and x sectors of the program's own, which stand from byte 1,024 on. Gives the refusal.
 pub fn begin(file: &mut [u8], n: u32, m: u32, x: u32) -> u32
-    ensures answer { result ≡ beginRefusal file.old n m x }
-    ensures file { file.new ≡ afterBegin file.old n m x }
+    ensures answer { result ≡ begin_refusal file.old n m x }
+    ensures file { file.new ≡ after_begin file.old n m x }
 {
     let number = begin_refusal(file, n, m, x);
     if number != 0 {

@@ -1,10 +1,10 @@
 // Whether bytes are a volume file.
 ghost use Rattle.std.specs.Prelude.{◌≡◌};
-ghost use Rattle.volume_file.specs.Format.{fileRefusal};
+ghost use Rattle.volume_file.specs.Format.{file_refusal};
 
 // Why bytes are no volume file; 0 if they are one.
 pub fn refusal(file: &[u8]) -> u32
-    ensures { result ≡ fileRefusal file.now }
+    ensures { result ≡ file_refusal file.now }
 {
     let number = super::header::head_refusal(file);
     if number != 0 {

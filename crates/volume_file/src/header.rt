@@ -1,6 +1,6 @@
 // The header of a volume file, and its length.
 ghost use Rattle.std.specs.Prelude.{◌*◌, ◌≤◌, ◌≡◌, length, eqb};
-ghost use Rattle.volume_file.specs.Format.{sizesOk, headerOk, homeSectors, fileSectors, headRefusal};
+ghost use Rattle.volume_file.specs.Format.{sizes_ok, header_ok, home_sectors, file_sectors, head_refusal};
 
 use super::refusals;
 use layout::bytes::block;
@@ -8,7 +8,7 @@ use layout::number::get32;
 
 // Whether n, m and x are in their ranges.
 pub fn sizes_ok(n: u32, m: u32, x: u32) -> bool
-    ensures { result ≡ sizesOk n m x }
+    ensures { result ≡ sizes_ok n m x }
 {
     ((3 <= n) & (n <= 65536)) & (((1 <= m) & (m <= 131072)) & (x <= 128))
 }
@@ -16,7 +16,7 @@ pub fn sizes_ok(n: u32, m: u32, x: u32) -> bool
 // Whether a header sector is right.
 fn header_ok(head: &[u8]) -> bool
     requires { length head.now ≡ 512 }
-    ensures { result ≡ headerOk head.now }
+    ensures { result ≡ header_ok head.now }
 {
     let a = 0;
     let e = 12;
@@ -30,7 +30,7 @@ fn header_ok(head: &[u8]) -> bool
 // How many home sectors a file has.
 pub fn home_sectors(file: &[u8]) -> usize
     requires { 512 ≤ length file.now }
-    ensures { result ≡ homeSectors file.now }
+    ensures { result ≡ home_sectors file.now }
 {
     let head = block(file, 0);
     get32(head, 12) as usize + get32(head, 16) as usize + get32(head, 20) as usize
@@ -39,7 +39,7 @@ pub fn home_sectors(file: &[u8]) -> usize
 // Whether a file has the length of its h home sectors.
 pub fn length_ok(file: &[u8], h: usize) -> bool
     requires { h ≤ 196736 }
-    ensures { result ≡ eqb (length file.now) (512 * fileSectors h) }
+    ensures { result ≡ eqb (length file.now) (512 * file_sectors h) }
 {
     let a = (h + 128) / 128;
     file.len() == 512 * (2 + h + a + h)
@@ -47,7 +47,7 @@ pub fn length_ok(file: &[u8], h: usize) -> bool
 
 // Why header and length are not those of a volume file; 0 if they are.
 pub fn head_refusal(file: &[u8]) -> u32
-    ensures { result ≡ headRefusal file.now }
+    ensures { result ≡ head_refusal file.now }
 {
     if file.len() < 1024 {
         return refusals::TOO_SHORT;

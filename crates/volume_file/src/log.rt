@@ -1,6 +1,6 @@
 // The log of a volume file, and the flag that says that it waits.
 ghost use Rattle.std.specs.Prelude.{◌+◌, ◌*◌, ◌≤◌, ◌≡◌, length};
-ghost use Rattle.volume_file.specs.Format.{homeSectors, addressAt, fileSectors, address, waits, logCount, count, rising, logRefusal};
+ghost use Rattle.volume_file.specs.Format.{home_sectors, address_at, file_sectors, address, waits, log_count, count, rising, log_refusal};
 ghost use Rattle.volume_file.specs.Save.{flagged};
 
 use super::refusals;
@@ -16,8 +16,8 @@ pub fn log_waits(file: &[u8]) -> bool
 
 // How many sectors the log says it has.
 pub fn log_count(file: &[u8], h: usize) -> usize
-    requires { (h ≤ 196736) × (length file.now ≡ 512 * fileSectors h) × (h ≡ homeSectors file.now) }
-    ensures { result ≡ logCount file.now }
+    requires { (h ≤ 196736) × (length file.now ≡ 512 * file_sectors h) × (h ≡ home_sectors file.now) }
+    ensures { result ≡ log_count file.now }
 {
     let at = 512 * (2 + h);
     get32(file, at) as usize
@@ -25,7 +25,7 @@ pub fn log_count(file: &[u8], h: usize) -> usize
 
 // How many sectors of the log wait.
 pub fn waiting(file: &[u8], h: usize) -> usize
-    requires { (h ≤ 196736) × (length file.now ≡ 512 * fileSectors h) × (h ≡ homeSectors file.now) }
+    requires { (h ≤ 196736) × (length file.now ≡ 512 * file_sectors h) × (h ≡ home_sectors file.now) }
     ensures { result ≡ count file.now }
 {
     if !log_waits(file) {
@@ -36,7 +36,7 @@ pub fn waiting(file: &[u8], h: usize) -> usize
 
 // The j-th address in the log.
 pub fn address(file: &[u8], h: usize, j: usize) -> usize
-    requires { (h ≤ 196736) × (j ≤ 196736) × (addressAt h j + 4 ≤ length file.now) }
+    requires { (h ≤ 196736) × (j ≤ 196736) × (address_at h j + 4 ≤ length file.now) }
     ensures { result ≡ address h file.now j }
 {
     let at = 512 * (2 + h) + 4 + 4 * j;
@@ -45,7 +45,7 @@ pub fn address(file: &[u8], h: usize, j: usize) -> usize
 
 // Whether the first k addresses rise and are below h, from the last to the first.
 fn addresses_rise(file: &[u8], h: usize, k: usize) -> bool
-    requires { (h ≤ 196736) × (k ≤ h) × (length file.now ≡ 512 * fileSectors h) }
+    requires { (h ≤ 196736) × (k ≤ h) × (length file.now ≡ 512 * file_sectors h) }
     ensures { result ≡ rising h file.now h k }
 {
     let mut limit = h;
@@ -63,8 +63,8 @@ fn addresses_rise(file: &[u8], h: usize, k: usize) -> bool
 
 // Why a log of k sectors is none; 0 if it is one.
 pub fn log_refusal(file: &[u8], h: usize, k: usize) -> u32
-    requires { (h ≤ 196736) × (length file.now ≡ 512 * fileSectors h) × (h ≡ homeSectors file.now) }
-    ensures { result ≡ logRefusal file.now k }
+    requires { (h ≤ 196736) × (length file.now ≡ 512 * file_sectors h) × (h ≡ home_sectors file.now) }
+    ensures { result ≡ log_refusal file.now k }
 {
     if h < k {
         return refusals::BAD_COUNT;

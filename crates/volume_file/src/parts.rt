@@ -1,8 +1,8 @@
 // Where the parts of a volume file stand, for a program that reads and writes it.
 ghost use Rattle.std.specs.Prelude.{cond, ◌≡◌};
 ghost use Rattle.layout.specs.Looks.{Extent as ExtentAnswer};
-ghost use Rattle.volume_file.specs.Format.{fileSize};
-ghost use Rattle.volume_file.specs.Answers.{PartsAnswer, parts_of, homeExtent};
+ghost use Rattle.volume_file.specs.Format.{file_size};
+ghost use Rattle.volume_file.specs.Answers.{PartsAnswer, parts_of, home_extent};
 
 use layout::bytes::block;
 use layout::number::get32;
@@ -31,7 +31,7 @@ pub struct Extent {
 
 // How many bytes a file of n, m and x has; 0 if one of them is out of its range.
 pub fn file_size(n: u32, m: u32, x: u32) -> usize
-    ensures { result ≡ fileSize n m x }
+    ensures { result ≡ file_size n m x }
 {
     if !super::header::sizes_ok(n, m, x) {
         return 0;
@@ -53,7 +53,7 @@ fn one(test: bool) -> u32
 
 // The parts of a file, whatever its bytes are.
 pub fn parts_of(file: &[u8]) -> Parts
-    ensures { ◌≡◌ {A = PartsAnswer} (record { number = result.number; waits = result.waits; imageStart = result.image_start; imageLength = result.image_length; journalStart = result.journal_start; journalLength = result.journal_length; ownStart = result.own_start; ownLength = result.own_length }) (parts_of file.now) }
+    ensures { ◌≡◌ {A = PartsAnswer} (record { number = result.number; waits = result.waits; image_start = result.image_start; image_length = result.image_length; journal_start = result.journal_start; journal_length = result.journal_length; own_start = result.own_start; own_length = result.own_length }) (parts_of file.now) }
 {
     let number = super::check::refusal(file);
     if number != 0 {
@@ -87,7 +87,7 @@ pub fn parts_of(file: &[u8]) -> Parts
 
 // Where the sector of the log with this index has its home; of length 0 where there is none.
 pub fn home_extent(file: &[u8], index: usize) -> Extent
-    ensures { ◌≡◌ {A = ExtentAnswer} (record { start = result.start; size = result.length }) (homeExtent file.now index) }
+    ensures { ◌≡◌ {A = ExtentAnswer} (record { start = result.start; size = result.length }) (home_extent file.now index) }
 {
     if super::check::refusal(file) != 0 {
         return Extent {

@@ -1,9 +1,9 @@
 // Recovery: the sectors of the log are written to their home, and then nothing waits.
 ghost use Rattle.std.specs.Prelude.{◌+◌, ◌*◌, ◌≤◌, true, ◌≡◌, length};
 ghost use Rattle.layout.specs.Bytes.{block, part, splice};
-ghost use Rattle.volume_file.specs.Format.{home_at, saved_at, fileSectors, address, rising};
-ghost use Rattle.volume_file.specs.Save.{restored, afterRecover};
-ghost use Rattle.volume_file.specs.Answers.{recoverAnswered, recoverAnswer};
+ghost use Rattle.volume_file.specs.Format.{home_at, saved_at, file_sectors, address, rising};
+ghost use Rattle.volume_file.specs.Save.{restored, after_recover};
+ghost use Rattle.volume_file.specs.Answers.{recover_answered, recover_answer};
 
 // The refusal, or 0; 1 if the log waited; and how many of its sectors were written home.
 #[repr(C)]
@@ -26,7 +26,7 @@ fn copy_down(file: &mut [u8], from: usize, to: usize)
 
 // Writes the j-th sector of the log to its home.
 fn restore_one(file: &mut [u8], h: usize, j: usize)
-    requires { (h ≤ 196736) × (j + 1 ≤ h) × (length file.old ≡ 512 * fileSectors h) × (address h file.old j + 1 ≤ h) }
+    requires { (h ≤ 196736) × (j + 1 ≤ h) × (length file.old ≡ 512 * file_sectors h) × (address h file.old j + 1 ≤ h) }
     ensures { file.new ≡ splice file.old (512 * home_at (address h file.old j)) (block file.old (saved_at h j)) }
 {
     let x = super::log::address(file, h, j);
@@ -38,7 +38,7 @@ fn restore_one(file: &mut [u8], h: usize, j: usize)
 
 // Writes the first k sectors of the log to their home.
 fn restore(file: &mut [u8], h: usize, k: usize)
-    requires { (h ≤ 196736) × (k ≤ h) × (length file.old ≡ 512 * fileSectors h) × (rising h file.old h k ≡ true) }
+    requires { (h ≤ 196736) × (k ≤ h) × (length file.old ≡ 512 * file_sectors h) × (rising h file.old h k ≡ true) }
     ensures { file.new ≡ restored h file.old k }
 {
     for j in 0..k {
@@ -48,8 +48,8 @@ fn restore(file: &mut [u8], h: usize, k: usize)
 
 // Steps 3 and 4 of a save, or what is left of them after a cut: recovers a file, whatever its bytes are.
 pub fn recover(file: &mut [u8]) -> Recovered
-    ensures answer { recoverAnswered result.number result.waited result.sectors ≡ recoverAnswer file.old }
-    ensures file { file.new ≡ afterRecover file.old }
+    ensures answer { recover_answered result.number result.waited result.sectors ≡ recover_answer file.old }
+    ensures file { file.new ≡ after_recover file.old }
 {
     let number = super::check::refusal(file);
     if number != 0 {

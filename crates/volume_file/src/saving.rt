@@ -2,10 +2,10 @@
 // sector is written.
 ghost use Rattle.std.specs.Prelude.{◌+◌, ◌*◌, ◌≤◌, ◌<◌, ◌≡◌, length};
 ghost use Rattle.layout.specs.Bytes.{bytes4, block, splice};
-ghost use Rattle.volume_file.specs.Format.{homeSectors, addressAt, saved_at, fileSectors};
-ghost use Rattle.volume_file.specs.Save.{homeWith, differs, changes, filled, lengthsRefusal, prepareRefusal, afterPrepare, commitRefusal, afterCommit};
+ghost use Rattle.volume_file.specs.Format.{home_sectors, address_at, saved_at, file_sectors};
+ghost use Rattle.volume_file.specs.Save.{home_with, differs, changes, filled, lengths_refusal, prepare_refusal, after_prepare, commit_refusal, after_commit};
 ghost use Rattle.volume_file.specs.Walks.Sectors.{WholeSectors};
-ghost use Rattle.volume_file.specs.Answers.{prepareAnswered, logPlaces, prepareAnswer};
+ghost use Rattle.volume_file.specs.Answers.{prepare_answered, log_places, prepare_answer};
 
 use super::header::home_sectors;
 use super::log::log_waits;
@@ -28,7 +28,7 @@ pub struct Prepared {
 // The 512 bytes of sector i of image, journal and the program's own bytes, one after the other.
 fn sector_of<'a>(image: &'a [u8], journal: &'a [u8], own: &'a [u8], i: usize, h: usize) -> &'a [u8]
     requires { (WholeSectors image.now journal.now own.now h) × (i < h) }
-    ensures bytes { result.now ≡ block (homeWith image.now journal.now own.now) i }
+    ensures bytes { result.now ≡ block (home_with image.now journal.now own.now) i }
     ensures size { length result.now ≡ 512 }
 {
     let n = image.len() / 512;
@@ -53,8 +53,8 @@ fn changed<'a>(
     i: usize,
     h: usize,
 ) -> bool
-    requires { (WholeSectors image.now journal.now own.now h) × (i < h) × (length file.now ≡ 512 * fileSectors h) × (h ≤ 196736) }
-    ensures { result ≡ differs file.now (homeWith image.now journal.now own.now) i }
+    requires { (WholeSectors image.now journal.now own.now h) × (i < h) × (length file.now ≡ 512 * file_sectors h) × (h ≤ 196736) }
+    ensures { result ≡ differs file.now (home_with image.now journal.now own.now) i }
 {
     let b = 2 + i;
     !layout::bytes::equal(block(file, b), sector_of(image, journal, own, i, h))
@@ -62,8 +62,8 @@ fn changed<'a>(
 
 // Writes the number i and the bytes of a sector as the k-th of the log.
 fn log_one(file: &mut [u8], sector: &[u8], k: usize, i: usize, h: usize)
-    requires { (length sector.now ≡ 512) × (k < h) × (i < h) × (length file.old ≡ 512 * fileSectors h) × (h ≤ 196736) }
-    ensures { file.new ≡ splice (splice file.old (addressAt h k) (bytes4 i)) (512 * saved_at h k) sector.now }
+    requires { (length sector.now ≡ 512) × (k < h) × (i < h) × (length file.old ≡ 512 * file_sectors h) × (h ≤ 196736) }
+    ensures { file.new ≡ splice (splice file.old (address_at h k) (bytes4 i)) (512 * saved_at h k) sector.now }
 {
     let at = 512 * (2 + h) + 4 + 4 * k;
     volume::number::put32(file, at, i as u32);
@@ -81,9 +81,9 @@ fn fill_log<'a>(
     own: &'a [u8],
     h: usize,
 ) -> usize
-    requires { (WholeSectors image.now journal.now own.now h) × (length file.old ≡ 512 * fileSectors h) × (h ≤ 196736) × (h ≡ homeSectors file.old) }
-    ensures count { result ≡ length (changes file.old (homeWith image.now journal.now own.now)) }
-    ensures file { file.new ≡ filled file.old (homeWith image.now journal.now own.now) }
+    requires { (WholeSectors image.now journal.now own.now h) × (length file.old ≡ 512 * file_sectors h) × (h ≤ 196736) × (h ≡ home_sectors file.old) }
+    ensures count { result ≡ length (changes file.old (home_with image.now journal.now own.now)) }
+    ensures file { file.new ≡ filled file.old (home_with image.now journal.now own.now) }
     ensures few { result ≤ h }
 {
     let mut k = 0;
@@ -100,7 +100,7 @@ fn fill_log<'a>(
 // Why image, journal and the program's own bytes do not fit their places; 0 if they do.
 fn lengths_refusal(head: &[u8], image: &[u8], journal: &[u8], own: &[u8]) -> u32
     requires { length head.now ≡ 512 }
-    ensures { result ≡ lengthsRefusal head.now image.now journal.now own.now }
+    ensures { result ≡ lengths_refusal head.now image.now journal.now own.now }
 {
     if image.len() != 512 * get32(head, 12) as usize {
         return refusals::IMAGE_LENGTH;
@@ -116,7 +116,7 @@ fn lengths_refusal(head: &[u8], image: &[u8], journal: &[u8], own: &[u8]) -> u32
 
 // Why they cannot be saved; 0 if they can.
 fn prepare_refusal(file: &[u8], image: &[u8], journal: &[u8], own: &[u8]) -> u32
-    ensures { result ≡ prepareRefusal file.now image.now journal.now own.now }
+    ensures { result ≡ prepare_refusal file.now image.now journal.now own.now }
 {
     let number = super::check::refusal(file);
     if number != 0 {
@@ -131,7 +131,7 @@ fn prepare_refusal(file: &[u8], image: &[u8], journal: &[u8], own: &[u8]) -> u32
 // The places that a log of k sectors takes.
 fn log_places(h: usize, k: usize) -> Prepared
     requires { (h ≤ 196736) × (k ≤ h) }
-    ensures { prepareAnswered result.number result.sectors result.numbers_start result.numbers_length result.sectors_start result.sectors_length ≡ logPlaces h k }
+    ensures { prepare_answered result.number result.sectors result.numbers_start result.numbers_length result.sectors_start result.sectors_length ≡ log_places h k }
 {
     let a = (h + 128) / 128;
     let b = (k + 128) / 128;
@@ -147,8 +147,8 @@ fn log_places(h: usize, k: usize) -> Prepared
 
 // Step 1 of a save: the log.
 pub fn prepare<'a>(file: &mut [u8], image: &'a [u8], journal: &'a [u8], own: &'a [u8]) -> Prepared
-    ensures answer { prepareAnswered result.number result.sectors result.numbers_start result.numbers_length result.sectors_start result.sectors_length ≡ prepareAnswer file.old image.now journal.now own.now }
-    ensures file { file.new ≡ afterPrepare file.old image.now journal.now own.now }
+    ensures answer { prepare_answered result.number result.sectors result.numbers_start result.numbers_length result.sectors_start result.sectors_length ≡ prepare_answer file.old image.now journal.now own.now }
+    ensures file { file.new ≡ after_prepare file.old image.now journal.now own.now }
 {
     let number = prepare_refusal(file, image, journal, own);
     if number != 0 {
@@ -170,7 +170,7 @@ pub fn prepare<'a>(file: &mut [u8], image: &'a [u8], journal: &'a [u8], own: &'a
 
 // Why the log cannot be committed; 0 if it can.
 fn commit_refusal(file: &[u8]) -> u32
-    ensures { result ≡ commitRefusal file.now }
+    ensures { result ≡ commit_refusal file.now }
 {
     let number = super::header::head_refusal(file);
     if number != 0 {
@@ -190,8 +190,8 @@ fn commit_refusal(file: &[u8]) -> u32
 
 // Step 2: the commit sector. Steps 3 and 4 are recovery. Gives the refusal.
 pub fn commit(file: &mut [u8]) -> u32
-    ensures answer { result ≡ commitRefusal file.old }
-    ensures file { file.new ≡ afterCommit file.old }
+    ensures answer { result ≡ commit_refusal file.old }
+    ensures file { file.new ≡ after_commit file.old }
 {
     let number = commit_refusal(file);
     if number != 0 {

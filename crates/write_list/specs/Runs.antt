@@ -4,7 +4,7 @@ use Rattle.std.specs.Prelude.{ℕ, ◌+◌, List, map, take}
 use Rattle.journal.specs.Run.{change}
 use Rattle.journal.specs.Kinds.{Kind, FreeRunTheorem}
 use Rattle.journal.specs.Back.{Tell}
-use Rattle.write_list.specs.List.{writes, writeList}
+use Rattle.write_list.specs.List.{writes, write_list}
 
 -- what a list answers
 pub record Stopped : Type 0 where
@@ -16,9 +16,9 @@ abbrev pub lists : Kind
 lists = record {
   Further = List ℕ;
   Reply = Stopped;
-  after = λ p l. (writeList p l).state;
-  reply = λ p l. record { number = (writeList p l).number; done = (writeList p l).done };
-  calls = λ p l. map change (take (writeList p l).done (writes l));
+  after = λ p l. (write_list p l).state;
+  reply = λ p l. record { number = (write_list p l).number; done = (write_list p l).done };
+  calls = λ p l. map change (take (write_list p l).done (writes l));
   Fits = λ p l. Unit {0};
 }
 
@@ -26,5 +26,5 @@ abbrev pub ListRunTheorem : Type 0
 ListRunTheorem = FreeRunTheorem lists
 
 -- how a program counts the changes that stand: as many more as were done
-abbrev pub listTell : Tell lists
-listTell k r = k + r.done
+abbrev pub list_tell : Tell lists
+list_tell k r = k + r.done

@@ -1,9 +1,9 @@
 // Write list: the writes of a list in order, each with its own record, until the first refusal.
 ghost use Rattle.std.specs.Prelude.{◌≡◌, true};
-ghost use Rattle.journal.specs.Run.{number_of, changeRefusal, afterChange, state};
-ghost use Rattle.journal.specs.Answers.{changedAnswer};
+ghost use Rattle.journal.specs.Run.{number_of, change_refusal, after_change, state};
+ghost use Rattle.journal.specs.Answers.{changed_answer};
 ghost use Rattle.journal.specs.Walks.Changes.{Ready};
-ghost use Rattle.write_list.specs.List.{writeAt, itemOk, listOk, writes, listed, oneByOne, writeList};
+ghost use Rattle.write_list.specs.List.{write_at, item_ok, list_ok, writes, listed, one_by_one, write_list};
 
 use journal::calls::Changed;
 use store::change::Change;
@@ -18,7 +18,7 @@ pub struct Listed {
 
 // The number of a change's answer.
 fn number_of(c: Changed) -> u32
-    ensures { result ≡ number_of (changedAnswer c) }
+    ensures { result ≡ number_of (changed_answer c) }
 {
     match c {
         Changed::Done { .. } => 0,
@@ -28,9 +28,9 @@ fn number_of(c: Changed) -> u32
 
 // Does the write of the item at `at`; gives the number of its refusal, or 0.
 fn write_item(image: &mut [u8], journal: &mut [u8], list: &[u8], at: usize) -> u32
-    requires { (Ready image.old journal.old) × (itemOk list.now at ≡ true) }
-    ensures number { result ≡ changeRefusal (state image.old journal.old) (writeAt list.now at) }
-    ensures state { state image.new journal.new ≡ afterChange (state image.old journal.old) (writeAt list.now at) }
+    requires { (Ready image.old journal.old) × (item_ok list.now at ≡ true) }
+    ensures number { result ≡ change_refusal (state image.old journal.old) (write_at list.now at) }
+    ensures state { state image.new journal.new ≡ after_change (state image.old journal.old) (write_at list.now at) }
 {
     let what = VolumeChange::Write {
         offset: layout::number::get32(list, at + 12) as usize,
@@ -44,8 +44,8 @@ fn write_item(image: &mut [u8], journal: &mut [u8], list: &[u8], at: usize) -> u
 
 // Does the writes of a list of the form, until the first refusal.
 fn write_items(image: &mut [u8], journal: &mut [u8], list: &[u8]) -> Listed
-    requires { (Ready image.old journal.old) × (listOk list.now ≡ true) }
-    ensures { listed (state image.new journal.new) result.number result.done ≡ oneByOne (state image.old journal.old) 0 (writes list.now) }
+    requires { (Ready image.old journal.old) × (list_ok list.now ≡ true) }
+    ensures { listed (state image.new journal.new) result.number result.done ≡ one_by_one (state image.old journal.old) 0 (writes list.now) }
 {
     let mut done = 0;
     let mut at = 5;
@@ -68,7 +68,7 @@ fn write_items(image: &mut [u8], journal: &mut [u8], list: &[u8]) -> Listed
 
 // Writes a list. Image and journal are checked once: an accepted write leaves both as the next one needs them.
 pub fn write_list(image: &mut [u8], journal: &mut [u8], list: &[u8]) -> Listed
-    ensures { listed (state image.new journal.new) result.number result.done ≡ writeList (state image.old journal.old) list.now }
+    ensures { listed (state image.new journal.new) result.number result.done ≡ write_list (state image.old journal.old) list.now }
 {
     let unready = journal::calls::ready_refusal(image, journal);
     if unready != 0 {

@@ -1,7 +1,7 @@
 // The form of a list of writes, and the fields of its items.
 ghost use Rattle.std.specs.Prelude.{◌≡◌, true, ◌+◌, ◌≤◌, ◌<◌, length};
 ghost use Rattle.layout.specs.Lists.{every};
-ghost use Rattle.write_list.specs.List.{maxList, pathLength, pathAt, dataAt, itemOk, items, listOk};
+ghost use Rattle.write_list.specs.List.{max_list, path_length, path_at, data_at, item_ok, items, list_ok};
 
 use layout::number::get32;
 
@@ -17,7 +17,7 @@ fn wide(x: u8) -> usize
 // The length of the path of the item at `at`.
 fn path_length(list: &[u8], at: usize) -> usize
     requires { at + 18 ≤ length list.now }
-    ensures { (result ≡ pathLength list.now at) × (result < 65536) }
+    ensures { (result ≡ path_length list.now at) × (result < 65536) }
 {
     let high = wide(list[at + 16]);
     let low = wide(list[at + 17]);
@@ -26,8 +26,8 @@ fn path_length(list: &[u8], at: usize) -> usize
 
 // The path of the item at `at`.
 pub fn path_of(list: &[u8], at: usize) -> &[u8]
-    requires { itemOk list.now at ≡ true }
-    ensures { result.now ≡ pathAt list.now at }
+    requires { item_ok list.now at ≡ true }
+    ensures { result.now ≡ path_at list.now at }
 {
     let a = at + 18;
     let e = a + path_length(list, at);
@@ -36,8 +36,8 @@ pub fn path_of(list: &[u8], at: usize) -> &[u8]
 
 // The data of the item at `at`.
 pub fn data_of(list: &[u8], at: usize) -> &[u8]
-    requires { itemOk list.now at ≡ true }
-    ensures { result.now ≡ dataAt list.now at }
+    requires { item_ok list.now at ≡ true }
+    ensures { result.now ≡ data_at list.now at }
 {
     let a = at + 18 + path_length(list, at);
     let e = at + get32(list, at) as usize;
@@ -47,7 +47,7 @@ pub fn data_of(list: &[u8], at: usize) -> &[u8]
 // Whether an item stands at `at` that ends within the list and has room for its path.
 fn item_ok(list: &[u8], at: usize) -> bool
     requires { at < length list.now }
-    ensures { result ≡ itemOk list.now at }
+    ensures { result ≡ item_ok list.now at }
 {
     let left = list.len() - at;
     if left < 18 {
@@ -62,8 +62,8 @@ fn item_ok(list: &[u8], at: usize) -> bool
 
 // Whether items fill the list exactly, from its sixth byte on.
 fn items_ok(list: &[u8]) -> bool
-    requires { (5 ≤ length list.now) × (length list.now ≤ maxList) }
-    ensures { result ≡ every (itemOk list.now) (items list.now) }
+    requires { (5 ≤ length list.now) × (length list.now ≤ max_list) }
+    ensures { result ≡ every (item_ok list.now) (items list.now) }
 {
     let mut at = 5;
     while at < list.len() {
@@ -77,7 +77,7 @@ fn items_ok(list: &[u8]) -> bool
 
 // Whether a list is of the form.
 pub fn list_ok(list: &[u8]) -> bool
-    ensures { result ≡ listOk list.now }
+    ensures { result ≡ list_ok list.now }
 {
     if list.len() < 5 {
         return false;

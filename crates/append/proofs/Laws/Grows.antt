@@ -6,9 +6,9 @@ use mathlib.Core.Logic.{◌⊎◌, inl, inr, ⊎_elim}
 use native.Mathlib.Omega.{arith}
 use lib.ListN.{length, take, drop}
 use Rattle.layout.specs.Bytes.{be32, bytes4, zeros, splice}
-use Rattle.layout.specs.Geometry.{tableBlocks, rootBlock}
-use Rattle.layout.specs.Table.{setNext}
-use Rattle.volume.specs.Entries.{setOccupied, linked, taken, grown}
+use Rattle.layout.specs.Geometry.{table_blocks, root_block}
+use Rattle.layout.specs.Table.{set_next}
+use Rattle.volume.specs.Entries.{set_occupied, linked, taken, grown}
 use Rattle.volume.specs.Write.{put}
 use Rattle.layout.proofs.Laws.Tests.{lt-or-ge, lt-or-gt}
 use Rattle.layout.proofs.Laws.Lists.{In}
@@ -20,9 +20,9 @@ use Rattle.volume.proofs.Laws.Puts.{run_length}
 
 module _ (n : ℕ) (n₁ : 3 ≤ n) where
   -- bytes behind the table
-  module _ (at : ℕ) (p : List ℕ) (low : 512 * rootBlock n ≤ at) (fit : at + length p ≤ 512 * n) where
-    entry-commutes : (s : List ℕ) (b v : ℕ) → length s ≡ 512 * n → b < n → setNext (splice s at p) b v ≡ splice (setNext s b v) at p
-    unfolding setNext bytes4
+  module _ (at : ℕ) (p : List ℕ) (low : 512 * root_block n ≤ at) (fit : at + length p ≤ 512 * n) where
+    entry-commutes : (s : List ℕ) (b v : ℕ) → length s ≡ 512 * n → b < n → set_next (splice s at p) b v ≡ splice (set_next s b v) at p
+    unfolding set_next bytes4
     entry-commutes s b v len bn = splice-commutes s at p (512 + 4 * b) (bytes4 v) (omega arith) (omega arith) (inr (omega arith))
 
     link-commutes : (s : List ℕ) (a b : ℕ) → length s ≡ 512 * n → a < n → linked (splice s at p) a b ≡ splice (linked s a b) at p
@@ -30,8 +30,8 @@ module _ (n : ℕ) (n₁ : 3 ≤ n) where
     link-commutes s zero b len an = refl
     link-commutes s (suc a) b len an = entry-commutes s (suc a) b len an
 
-    counts-commute : (s : List ℕ) (u : ℕ) → length s ≡ 512 * n → setOccupied (splice s at p) n u ≡ splice (setOccupied s n u) at p
-    unfolding setOccupied bytes4
+    counts-commute : (s : List ℕ) (u : ℕ) → length s ≡ 512 * n → set_occupied (splice s at p) n u ≡ splice (set_occupied s n u) at p
+    unfolding set_occupied bytes4
     counts-commute s u len = splice-commutes s at p 20 (bytes4 u ++ bytes4 (n - u)) (omega arith) (omega arith) (inr (omega arith))
 
     taken-commutes : (s : List ℕ) (a b : ℕ) → length s ≡ 512 * n → a < n → b < n → (at + length p ≤ 512 * b) ⊎ (512 * b + 512 ≤ at) → taken (splice s at p) n a b ≡ splice (taken s n a b) at p
@@ -40,14 +40,14 @@ module _ (n : ℕ) (n₁ : 3 ≤ n) where
         let lz : length (zeros 512) ≡ 512 = length-zeros 512 in
         let u : List ℕ = splice s (512 * b) (zeros 512) in
         let lu : length u ≡ 512 * n = cleared-length n n₁ s a b len an bn in
-        let v : List ℕ = setNext u b 1 in
+        let v : List ℕ = set_next u b 1 in
         let lv : length v ≡ 512 * n = set-next-length u b 1 (omega arith) ∙ lu in
         let w : List ℕ = linked v a b in
         let lw : length w ≡ 512 * n = linked-length v b a (omega arith) ∙ lv in
         let c₀ : be32 (splice s at p) 20 ≡ be32 s 20 = same-be32 s (splice s at p) 20 4 20 (same_beside s at p (omega arith) 20 4 (inl (omega arith))) (omega arith) (omega arith) in
         let c₁ : splice (splice s at p) (512 * b) (zeros 512) ≡ splice u at p =
         splice-commutes s at p (512 * b) (zeros 512) (omega arith) (omega arith) (⊎_elim (λ g. inl g) (λ g. inr (omega arith)) apart) in
-        let c₂ : setNext (splice u at p) b 1 ≡ splice v at p = entry-commutes u b 1 lu bn in
+        let c₂ : set_next (splice u at p) b 1 ≡ splice v at p = entry-commutes u b 1 lu bn in
         let c₃ : linked (splice v at p) a b ≡ splice w at p = link-commutes v a b lv an in
         rw (c₀, c₁, c₂, c₃) (counts-commute w (be32 s 20 + 1) lw)
 
@@ -61,7 +61,7 @@ module _ (n : ℕ) (n₁ : 3 ≤ n) where
         ∙ grown-commutes bs (taken s n a b) b (taken-length n n₁ s a b len an bn) bn (λ q i. h q (inr i)) (λ q i. apart q (inr i))
 
   -- data in other blocks
-  pub grown-put : (bs cs s : List ℕ) (o : ℕ) (x : List ℕ) (a : ℕ) → length s ≡ 512 * n → a < n → ((q : ℕ) → In q bs → (tableBlocks n < q) × (q < n)) → ((q : ℕ) → In q cs → q < n)
+  pub grown-put : (bs cs s : List ℕ) (o : ℕ) (x : List ℕ) (a : ℕ) → length s ≡ 512 * n → a < n → ((q : ℕ) → In q bs → (table_blocks n < q) × (q < n)) → ((q : ℕ) → In q cs → q < n)
       → ((q : ℕ) → In q bs → In q cs → ⊥) → grown (put s bs o x) n a cs ≡ put (grown s n a cs) bs o x
   unfolding put
   grown-put [] cs s o x a len an h g far = refl

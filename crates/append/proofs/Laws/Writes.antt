@@ -9,9 +9,9 @@ use lib.ListN.{length, get_or}
 use lib.Dec.{eqb}
 use Rattle.layout.specs.Bytes.{bytes4, bytes8, splice}
 use Rattle.layout.specs.Lists.{last_or, distinct}
-use Rattle.layout.specs.Geometry.{tableBlocks, rootBlock}
+use Rattle.layout.specs.Geometry.{table_blocks, root_block}
 use Rattle.volume.specs.Entries.{grown}
-use Rattle.volume.specs.Write.{put, setFile}
+use Rattle.volume.specs.Write.{put, set_file}
 use Rattle.layout.proofs.Laws.Lists.{In, in_left, in_right, last-in, last-append, distinct_apart}
 use Rattle.layout.proofs.Laws.Tests.{eqb-self}
 use Rattle.layout.proofs.Laws.Bytes.{length-splice, length-bytes8}
@@ -23,13 +23,13 @@ use Rattle.append.proofs.Laws.Grows.{grown-commutes, grown-put}
 
 -- what a write leaves, by the blocks that the file has and those that it takes
 abbrev pub wrote : List ℕ → ℕ → (old new : List ℕ) → ℕ → List ℕ → ℕ → ℕ → ℕ → List ℕ
-wrote s n old new offset bytes e size time = setFile (put (grown s n (last_or 0 old) new) (old ++ new) offset bytes) e (get_or (old ++ new) 0 0) size (length (old ++ new)) time
+wrote s n old new offset bytes e size time = set_file (put (grown s n (last_or 0 old) new) (old ++ new) offset bytes) e (get_or (old ++ new) 0 0) size (length (old ++ new)) time
 
-module _ (n : ℕ) (n₁ : 3 ≤ n) (e : ℕ) (low : 512 * rootBlock n ≤ e) (high : e + 128 ≤ 512 * n) where
+module _ (n : ℕ) (n₁ : 3 ≤ n) (e : ℕ) (low : 512 * root_block n ≤ e) (high : e + 128 ≤ 512 * n) where
   -- an entry set before or after blocks are taken
   set_grown : (bs s : List ℕ) (a first size blocks time : ℕ) → length s ≡ 512 * n → a < n → ((q : ℕ) → In q bs → q < n)
-      → ((q : ℕ) → In q bs → (e + 128 ≤ 512 * q) ⊎ (512 * q + 512 ≤ e)) → grown (setFile s e first size blocks time) n a bs ≡ setFile (grown s n a bs) e first size blocks time
-  unfolding setFile bytes4
+      → ((q : ℕ) → In q bs → (e + 128 ≤ 512 * q) ⊎ (512 * q + 512 ≤ e)) → grown (set_file s e first size blocks time) n a bs ≡ set_file (grown s n a bs) e first size blocks time
+  unfolding set_file bytes4
   set_grown bs s a first size blocks time len an below apart =
       let p : List ℕ = bytes4 first ++ (bytes4 size ++ bytes4 blocks) in
       let lp : length p ≡ 12 = refl in
@@ -42,8 +42,8 @@ module _ (n : ℕ) (n₁ : 3 ≤ n) (e : ℕ) (low : 512 * rootBlock n ≤ e) (h
 
   -- and before or after data is put
   set-put : (bs s : List ℕ) (o : ℕ) (x : List ℕ) (first size blocks time : ℕ) → length s ≡ 512 * n → ((q : ℕ) → In q bs → q < n)
-      → ((q : ℕ) → In q bs → (e + 128 ≤ 512 * q) ⊎ (512 * q + 512 ≤ e)) → put (setFile s e first size blocks time) bs o x ≡ setFile (put s bs o x) e first size blocks time
-  unfolding setFile bytes4
+      → ((q : ℕ) → In q bs → (e + 128 ≤ 512 * q) ⊎ (512 * q + 512 ≤ e)) → put (set_file s e first size blocks time) bs o x ≡ set_file (put s bs o x) e first size blocks time
+  unfolding set_file bytes4
   set-put bs s o x first size blocks time len below apart =
       let p : List ℕ = bytes4 first ++ (bytes4 size ++ bytes4 blocks) in
       let lp : length p ≡ 12 = refl in
@@ -54,7 +54,7 @@ module _ (n : ℕ) (n₁ : 3 ≤ n) (e : ℕ) (low : 512 * rootBlock n ≤ e) (h
       ∙ ap (λ (r : List ℕ). splice r (e + 24) t)
       (put-commutes n bs s o x (e + 4) p len below (omega arith) (λ q i. ⊎_elim (λ g. inl (omega arith)) (λ g. inr (omega arith)) (apart q i)))
 
-  module _ (s old new more : List ℕ) (len : length s ≡ 512 * n) (above : (q : ℕ) → In q ((old ++ new) ++ more) → tableBlocks n < q) (below : (q : ℕ) → In q ((old ++ new) ++ more) → q < n)
+  module _ (s old new more : List ℕ) (len : length s ≡ 512 * n) (above : (q : ℕ) → In q ((old ++ new) ++ more) → table_blocks n < q) (below : (q : ℕ) → In q ((old ++ new) ++ more) → q < n)
       (once : distinct eqb ((old ++ new) ++ more) ≡ true) (apart : (q : ℕ) → In q ((old ++ new) ++ more) → (e + 128 ≤ 512 * q) ⊎ (512 * q + 512 ≤ e))
       (z : ℕ) (x y : List ℕ) (fits : z + length x ≤ 512 * length (old ++ new)) (size size' time : ℕ)
     where
@@ -115,12 +115,12 @@ module _ (n : ℕ) (n₁ : 3 ≤ n) (e : ℕ) (low : 512 * rootBlock n ≤ e) (h
           let first' : ℕ = get_or ((old ++ new) ++ more) 0 0 in
           let c : ℕ = length (old ++ new) in
           let c' : ℕ = length ((old ++ new) ++ more) in
-          let a : grown (setFile P e first size c time) n (last_or 0 (old ++ new)) more ≡ setFile Q e first size c time =
-          set_grown more P (last_or 0 (old ++ new)) first size c time lp last-new (λ q i. below q (back q i)) (λ q i. apart q (back q i)) ∙ ap (λ (u : List ℕ). setFile u e first size c time) puts in
-          let b : put (setFile Q e first size c time) ((old ++ new) ++ more) (z + length x) y ≡ setFile R e first size c time =
+          let a : grown (set_file P e first size c time) n (last_or 0 (old ++ new)) more ≡ set_file Q e first size c time =
+          set_grown more P (last_or 0 (old ++ new)) first size c time lp last-new (λ q i. below q (back q i)) (λ q i. apart q (back q i)) ∙ ap (λ (u : List ℕ). set_file u e first size c time) puts in
+          let b : put (set_file Q e first size c time) ((old ++ new) ++ more) (z + length x) y ≡ set_file R e first size c time =
           set-put ((old ++ new) ++ more) Q (z + length x) y first size c time lq below apart
-          ∙ ap (λ (u : List ℕ). setFile u e first size c time) (put-joined n ((old ++ new) ++ more) G' z x y lg' below) in
-          let d : setFile (setFile R e first size c time) e first' size' c' time ≡ setFile R e first' size' c' time = set-file-again R e first size c first' size' c' time (omega (arith, lr)) in
-          ap (λ (u : List ℕ). setFile (put u ((old ++ new) ++ more) (z + length x) y) e first' size' c' time) a
-          ∙ ap (λ (u : List ℕ). setFile u e first' size' c' time) b ∙ d
-          ∙ ap (λ (bs : List ℕ). setFile (put G' bs z (x ++ y)) e (get_or bs 0 0) size' (length bs) time) (append_assoc old new more)
+          ∙ ap (λ (u : List ℕ). set_file u e first size c time) (put-joined n ((old ++ new) ++ more) G' z x y lg' below) in
+          let d : set_file (set_file R e first size c time) e first' size' c' time ≡ set_file R e first' size' c' time = set-file-again R e first size c first' size' c' time (omega (arith, lr)) in
+          ap (λ (u : List ℕ). set_file (put u ((old ++ new) ++ more) (z + length x) y) e first' size' c' time) a
+          ∙ ap (λ (u : List ℕ). set_file u e first' size' c' time) b ∙ d
+          ∙ ap (λ (bs : List ℕ). set_file (put G' bs z (x ++ y)) e (get_or bs 0 0) size' (length bs) time) (append_assoc old new more)

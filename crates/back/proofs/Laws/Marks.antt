@@ -10,7 +10,7 @@ use lib.Dec.{leb, ltb, eqb}
 use lib.ListN.{length}
 use Rattle.layout.specs.Lists.{has, keep, select}
 use Rattle.layout.specs.Bytes.{be32}
-use Rattle.journal.specs.Journal.{used, recordOk, recordsFrom, records, wellFormed, lastRecord, undoneJournal}
+use Rattle.journal.specs.Journal.{used, record_ok, records_from, records, well_formed, last_record, undone_journal}
 use Rattle.layout.proofs.Laws.Lists.{In, in-elim, in_right, in-here, in-append, every_in, has-eqb-in, in-has-eqb}
 use Rattle.layout.proofs.Laws.Joins.{select-none}
 use Rattle.journal.proofs.Laws.Append.{fine, WellFormed, well}
@@ -19,26 +19,26 @@ use Rattle.journal.proofs.Laws.Dropped.{records-between, Dropped, dropped}
 
 -- records that are not empty and end within the used part u: each begins where the one before it ends, and the last one ends at u
 module _ (size : ℕ → ℕ) (u : ℕ) where
-  walked-ends : (fuel at : ℕ) → at ≤ u → u ≤ at + fuel → ((x : ℕ) → In x (recordsFrom size u at fuel) → (1 ≤ size x) × (x + size x ≤ u))
-      → recordsFrom size u at fuel ++ (u ∷ []) ≡ at ∷ map (λ x. x + size x) (recordsFrom size u at fuel)
-  unfolding recordsFrom
+  walked-ends : (fuel at : ℕ) → at ≤ u → u ≤ at + fuel → ((x : ℕ) → In x (records_from size u at fuel) → (1 ≤ size x) × (x + size x ≤ u))
+      → records_from size u at fuel ++ (u ∷ []) ≡ at ∷ map (λ x. x + size x) (records_from size u at fuel)
+  unfolding records_from
   walked-ends zero at h f each = let e : at ≡ u = omega arith in rw e
   walked-ends (suc fuel) at h f each = go (ltb at u) refl each (walked-ends fuel (at + size at))
     where
-      go : (b : Bool) → ltb at u ≡ b → ((x : ℕ) → In x (cond b (at ∷ recordsFrom size u (at + size at) fuel) []) → (1 ≤ size x) × (x + size x ≤ u))
-          → (at + size at ≤ u → u ≤ at + size at + fuel → ((x : ℕ) → In x (recordsFrom size u (at + size at) fuel) → (1 ≤ size x) × (x + size x ≤ u))
-          → recordsFrom size u (at + size at) fuel ++ (u ∷ []) ≡ (at + size at) ∷ map (λ x. x + size x) (recordsFrom size u (at + size at) fuel))
-          → cond b (at ∷ recordsFrom size u (at + size at) fuel) [] ++ (u ∷ []) ≡ at ∷ map (λ x. x + size x) (cond b (at ∷ recordsFrom size u (at + size at) fuel) [])
+      go : (b : Bool) → ltb at u ≡ b → ((x : ℕ) → In x (cond b (at ∷ records_from size u (at + size at) fuel) []) → (1 ≤ size x) × (x + size x ≤ u))
+          → (at + size at ≤ u → u ≤ at + size at + fuel → ((x : ℕ) → In x (records_from size u (at + size at) fuel) → (1 ≤ size x) × (x + size x ≤ u))
+          → records_from size u (at + size at) fuel ++ (u ∷ []) ≡ (at + size at) ∷ map (λ x. x + size x) (records_from size u (at + size at) fuel))
+          → cond b (at ∷ records_from size u (at + size at) fuel) [] ++ (u ∷ []) ≡ at ∷ map (λ x. x + size x) (cond b (at ∷ records_from size u (at + size at) fuel) [])
       go true e all more = let a = all at (inl refl) in ap (λ (xs : List ℕ). at ∷ xs) (more a.1 (omega (arith, a.0)) (λ x i. all x (inr i)))
       go false e all more = let l : u ≤ at = ltb-false at u e in let q : u ≡ at = omega arith in ap (λ (x : ℕ). x ∷ []) q
 
 -- so the marks are 5 and where each record ends
-pub marks-end : (j : List ℕ) (n : ℕ) → wellFormed j n ≡ true → marks j ≡ 5 ∷ map (λ at. at + be32 j at) (records j)
+pub marks-end : (j : List ℕ) (n : ℕ) → well_formed j n ≡ true → marks j ≡ 5 ∷ map (λ at. at + be32 j at) (records j)
 unfolding marks records
 marks-end j n t =
     let w = well j n t in
     walked-ends (be32 j) (used j) (used j) 5 w.used_low (omega arith)
-    (λ x i. let f = fine j n x (every_in (recordOk j n) (records j) x w.recorded i) in (omega (arith, f.size), f.inside))
+    (λ x i. let f = fine j n x (every_in (record_ok j n) (records j) x w.recorded i) in (omega (arith, f.size), f.inside))
 
 -- one number more at the end, which passes
 select-snoc : (mark x : ℕ) → mark ≤ x → (xs : List ℕ) → length (select (leb mark) (xs ++ (x ∷ []))) ≡ suc (length (select (leb mark) xs))
@@ -93,25 +93,25 @@ module _ (j : List ℕ) where
 
 -- the last record taken back, which stands at a mark or behind it
 module _ (n : ℕ) (j : List ℕ) (w : WellFormed j n) (mark : ℕ) (m : In mark (records j)) where
-  gone : Dropped n j (undoneJournal j)
+  gone : Dropped n j (undone_journal j)
   gone = dropped n j w mark m
 
-  in-fewer : In mark (records (undoneJournal j) ++ (lastRecord j ∷ []))
+  in-fewer : In mark (records (undone_journal j) ++ (last_record j ∷ []))
   in-fewer = rw gone.records-are at m
 
-  pub mark-before : mark ≤ lastRecord j
+  pub mark-before : mark ≤ last_record j
   mark-before =
-      ⊎_elim (λ i. let b = record-between (undoneJournal j) mark i in omega (arith, b.1, gone.used-is))
-      (λ i. in-elim mark (lastRecord j) [] i (λ e. omega arith) (λ z. absurd z))
-      (in-append mark (records (undoneJournal j)) (lastRecord j ∷ []) in-fewer)
+      ⊎_elim (λ i. let b = record-between (undone_journal j) mark i in omega (arith, b.1, gone.used-is))
+      (λ i. in-elim mark (last_record j) [] i (λ e. omega arith) (λ z. absurd z))
+      (in-append mark (records (undone_journal j)) (last_record j ∷ []) in-fewer)
 
-  pub marks-fewer : marks (undoneJournal j) ≡ records j
+  pub marks-fewer : marks (undone_journal j) ≡ records j
   unfolding marks
-  marks-fewer = ap (λ (u : ℕ). records (undoneJournal j) ++ (u ∷ [])) gone.used-is ∙ sym gone.records-are
+  marks-fewer = ap (λ (u : ℕ). records (undone_journal j) ++ (u ∷ [])) gone.used-is ∙ sym gone.records-are
 
-  pub still-mark : has eqb mark (marks (undoneJournal j)) ≡ true
+  pub still-mark : has eqb mark (marks (undone_journal j)) ≡ true
   still-mark = rw marks-fewer (in-has-eqb mark (records j) m)
 
-  pub one-behind : behind j mark ≡ suc (behind (undoneJournal j) mark)
+  pub one-behind : behind j mark ≡ suc (behind (undone_journal j) mark)
   unfolding behind
-  one-behind = ap (λ (xs : List ℕ). length (select (leb mark) xs)) gone.records-are ∙ select-snoc mark (lastRecord j) mark-before (records (undoneJournal j))
+  one-behind = ap (λ (xs : List ℕ). length (select (leb mark) xs)) gone.records-are ∙ select-snoc mark (last_record j) mark-before (records (undone_journal j))

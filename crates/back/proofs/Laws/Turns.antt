@@ -12,13 +12,13 @@ use lib.ListN.{length, get_or, take, set, length-append, length-set}
 use lib.Seq.{take-suc, take-suc-set, take-append_seam}
 use Rattle.layout.specs.Lists.{has, every, select, last_or}
 use Rattle.layout.specs.Bytes.{be32}
-use Rattle.layout.specs.Limits.{maxJournal}
+use Rattle.layout.specs.Limits.{max_journal}
 use Rattle.layout.specs.Refusals.{require}
-use Rattle.layout.specs.Geometry.{blockCount}
+use Rattle.layout.specs.Geometry.{block_count}
 use Rattle.layout.specs.Check.{check}
-use Rattle.journal.specs.Journal.{used, recordOk, recordsFrom, records, wellFormed, lastRecord, undoneImage, undoneJournal}
+use Rattle.journal.specs.Journal.{used, record_ok, records_from, records, well_formed, last_record, undone_image, undone_journal}
 use Rattle.journal.specs.Run.{State, state}
-use Rattle.journal.specs.Walks.Changes.{Ready, readyRefusal}
+use Rattle.journal.specs.Walks.Changes.{Ready, ready_refusal}
 use Rattle.journal.specs.Walks.Undoing.{Last}
 use Rattle.layout.proofs.Laws.Tests.{and_split, accept-refused, lt-or-ge}
 use Rattle.layout.proofs.Laws.Lists.{In, in-elim, in-here, in_right, has-eqb-in, in-has-eqb, last_snoc}
@@ -27,14 +27,14 @@ use Rattle.journal.proofs.Laws.RecordWalk.{records-none, records-more}
 use Rattle.journal.proofs.Laws.Append.{WellFormed, well, well-ok}
 use Rattle.journal.proofs.Walks.Scanning.{record-size}
 use Rattle.journal.proofs.Walks.Undoing.{unready}
-use Rattle.back.specs.Marks.{marks, behind, lastLength, info, infoRefusal, journalInfo}
-use Rattle.back.specs.UndoTo.{withoutLast, back_by, backed, backRefusal, undoTo}
+use Rattle.back.specs.Marks.{marks, behind, last_length, info, info_refusal, journal_info}
+use Rattle.back.specs.UndoTo.{without_last, back_by, backed, back_refusal, undo_to}
 use Rattle.back.specs.Walks.Right.{Right, Whole, Noted}
 use Rattle.journal.proofs.Laws.Dropped.{records-between, Dropped, dropped}
 use Rattle.back.proofs.Laws.Marks.{select-both, select-each, none-behind, mark-record, record-between, still-mark, one-behind}
 
 pub right-ready : {s j : List ℕ} → Ready s j → Right j
-right-ready {s} w = record { blocks = blockCount s; well-formed = w.well-formed }
+right-ready {s} w = record { blocks = block_count s; well-formed = w.well-formed }
 
 pub right-head : (j : List ℕ) (r : Right j) → WellFormed j r.blocks
 right-head j r = well j r.blocks r.well-formed
@@ -46,10 +46,10 @@ pub record Ahead (j : List ℕ) (at : ℕ) : Type 0 where
   pub enough : used j ≤ at + fuel
   pub inside : at ≤ used j
   pub whole : WellFormed j blocks
-  pub right : every (recordOk j blocks) (recordsFrom (be32 j) (used j) at fuel) ≡ true
+  pub right : every (record_ok j blocks) (records_from (be32 j) (used j) at fuel) ≡ true
 
 abbrev pub left : (j : List ℕ) {at : ℕ} → Ahead j at → List ℕ
-left j {at} a = recordsFrom (be32 j) (used j) at a.fuel
+left j {at} a = records_from (be32 j) (used j) at a.fuel
 
 module _ (j : List ℕ) where
   pub ahead-start : Right j → Ahead j 5
@@ -67,11 +67,11 @@ module _ (j : List ℕ) where
     left_end h = records-none (be32 j) (used j) at a.fuel h
 
     module _ (h : at < used j) where
-      pub left-first : left j a ≡ at ∷ recordsFrom (be32 j) (used j) (at + be32 j at) (a.fuel - 1)
+      pub left-first : left j a ≡ at ∷ records_from (be32 j) (used j) (at + be32 j at) (a.fuel - 1)
       left-first = records-more (be32 j) (used j) at a.fuel h (omega (arith, a.enough))
 
-      split : (recordOk j a.blocks at ≡ true) × (every (recordOk j a.blocks) (recordsFrom (be32 j) (used j) (at + be32 j at) (a.fuel - 1)) ≡ true)
-      split = and_split (recordOk j a.blocks at) _ (ap (λ (xs : List ℕ). every (recordOk j a.blocks) xs) (sym left-first) ∙ a.right)
+      split : (record_ok j a.blocks at ≡ true) × (every (record_ok j a.blocks) (records_from (be32 j) (used j) (at + be32 j at) (a.fuel - 1)) ≡ true)
+      split = and_split (record_ok j a.blocks at) _ (ap (λ (xs : List ℕ). every (record_ok j a.blocks) xs) (sym left-first) ∙ a.right)
 
       -- the record here has at least 520 bytes, and ends within the used part
       pub ahead-size : (520 ≤ be32 j at) × (at + be32 j at ≤ used j)
@@ -96,10 +96,10 @@ pub record Tallying (j : List ℕ) (count last at : ℕ) : Type 0 where
   pub ahead : Ahead j at
   pub few : count ≤ at
   pub counted : length (records j) ≡ count + length (left j ahead)
-  pub found : lastLength j ≡ last_or last (map (be32 j) (left j ahead))
+  pub found : last_length j ≡ last_or last (map (be32 j) (left j ahead))
 
 pub tally-start : (j : List ℕ) → Right j → Tallying j 0 0 5
-unfolding lastLength
+unfolding last_length
 tally-start j r = record {
   ahead = ahead-start j r;
   few = omega arith;
@@ -121,7 +121,7 @@ module _ (j : List ℕ) (count last at : ℕ) (t : Tallying j count last at) whe
   pub tally-count : used j ≤ at → count ≡ length (records j)
   tally-count h = sym (t.counted ∙ ap (λ (xs : List ℕ). count + length xs) (left_end j t.ahead h) ∙ omega arith)
 
-  pub tally-last : used j ≤ at → last ≡ lastLength j
+  pub tally-last : used j ≤ at → last ≡ last_length j
   tally-last h = sym (t.found ∙ ap (λ (xs : List ℕ). last_or last (map (be32 j) xs)) (left_end j t.ahead h))
 
 -- the search for a mark: it is one of the journal's exactly if it is ahead
@@ -279,15 +279,15 @@ module _ (p₀ : State) (offsets : List ℕ) (count : ℕ) (p : State) (togo : �
         ∙ ap (λ (xs : List ℕ). t.noted.front ++ xs) (take-suc offsets (togo - 1) 0 (omega (arith, t.noted.fits)))
         ∙ sym (append_assoc t.noted.front (take (togo - 1) offsets) (here ∷ []))
 
-    last-is : lastRecord p.journal ≡ here
-    unfolding lastRecord
+    last-is : last_record p.journal ≡ here
+    unfolding last_record
     last-is = ap (λ (xs : List ℕ). last_or 0 xs) with-last ∙ last_snoc earlier 0 here
 
     in-records : In here (records p.journal)
     in-records = rw with-last (in_right here earlier (here ∷ []) (in-here here []))
 
-    gone : Dropped (blockCount p.image) p.journal (undoneJournal p.journal)
-    gone = dropped (blockCount p.image) p.journal (well p.journal (blockCount p.image) t.good.well-formed) here in-records
+    gone : Dropped (block_count p.image) p.journal (undone_journal p.journal)
+    gone = dropped (block_count p.image) p.journal (well p.journal (block_count p.image) t.good.well-formed) here in-records
 
     pub take_last : (at : ℕ) → at ≡ get_or offsets (togo - 1) 0 → Last p.image p.journal at
     take_last at e = record {
@@ -298,20 +298,20 @@ module _ (p₀ : State) (offsets : List ℕ) (count : ℕ) (p : State) (togo : �
       some = λ z. omega (arith, gone.low, last-is);
     }
 
-    pub take_next : (s j : List ℕ) → length s ≡ length p.image → s ≡ undoneImage p.image p.journal → j ≡ undoneJournal p.journal
+    pub take_next : (s j : List ℕ) → length s ≡ length p.image → s ≡ undone_image p.image p.journal → j ≡ undone_journal p.journal
         → Taking p₀ offsets count (state s j) (togo - 1)
-    unfolding back_by withoutLast
+    unfolding back_by without_last
     take_next s j l i k =
         let e : togo ≡ suc (togo - 1) = omega arith in
         record {
           good = record {
             whole = rw l t.good.whole;
             blocks = rw l t.good.blocks;
-            well-formed = rw (l, k) (well-ok (undoneJournal p.journal) (blockCount p.image) gone.well-formed);
+            well-formed = rw (l, k) (well-ok (undone_journal p.journal) (block_count p.image) gone.well-formed);
           };
           noted = record {
             front = t.noted.front;
-            whole = rw k (snoc-same (records (undoneJournal p.journal)) earlier (lastRecord p.journal) here (sym gone.records-are ∙ with-last));
+            whole = rw k (snoc-same (records (undone_journal p.journal)) earlier (last_record p.journal) here (sym gone.records-are ∙ with-last));
             fits = omega (arith, t.noted.fits);
           };
           outcome = t.outcome ∙ ap (back_by p) e ∙ rw (i, k);
@@ -325,7 +325,7 @@ module _ (p₀ : State) (offsets : List ℕ) (count : ℕ) (p : State) (togo : �
 pub back-add : (m k : ℕ) (p : State) → back_by p (m + k) ≡ back_by (back_by p k) m
 unfolding back_by
 back-add m zero p = let e : m + 0 ≡ m = omega arith in ap (back_by p) e
-back-add m (suc k) p = let e : m + suc k ≡ suc (m + k) = omega arith in ap (back_by p) e ∙ back-add m k (withoutLast p)
+back-add m (suc k) p = let e : m + suc k ≡ suc (m + k) = omega arith in ap (back_by p) e ∙ back-add m k (without_last p)
 
 record Marked (n mark : ℕ) (j : List ℕ) : Type 0 where
   well-formed : WellFormed j n
@@ -338,24 +338,24 @@ record Many (n mark k : ℕ) (j i : List ℕ) : Type 0 where
 
 -- one record taken back, and then k
 one : (n mark k : ℕ) (p : State) → Marked n mark p.journal → In mark (records p.journal) → suc k ≤ behind p.journal mark
-    → (Marked n mark (withoutLast p).journal → k ≤ behind (withoutLast p).journal mark → Many n mark k (withoutLast p).journal (back_by (withoutLast p) k).journal)
-    → Many n mark (suc k) p.journal (back_by (withoutLast p) k).journal
-unfolding withoutLast
+    → (Marked n mark (without_last p).journal → k ≤ behind (without_last p).journal mark → Many n mark k (without_last p).journal (back_by (without_last p) k).journal)
+    → Many n mark (suc k) p.journal (back_by (without_last p) k).journal
+unfolding without_last
 one n mark k p m i h rest =
     let j = p.journal in
     let d = dropped n j m.well-formed mark i in
-    let b : behind j mark ≡ suc (behind (undoneJournal j) mark) = one-behind n j m.well-formed mark i in
+    let b : behind j mark ≡ suc (behind (undone_journal j) mark) = one-behind n j m.well-formed mark i in
     let r = rest (record { well-formed = d.well-formed; is-mark = still-mark n j m.well-formed mark i }) (omega (arith, b)) in
     record { marked = r.marked; count = omega (arith, b, r.count); lower = omega (arith, r.lower, d.used-is, d.below) }
 
 many : (n mark k : ℕ) (p : State) → Marked n mark p.journal → k ≤ behind p.journal mark → Many n mark k p.journal (back_by p k).journal
 unfolding back_by
 many n mark zero p m h = record { marked = m; count = omega arith; lower = omega arith }
-many n mark (suc k) p m h = go (lt-or-ge mark (used p.journal)) (many n mark k (withoutLast p))
+many n mark (suc k) p m h = go (lt-or-ge mark (used p.journal)) (many n mark k (without_last p))
   where
     go : (mark < used p.journal) ⊎ (used p.journal ≤ mark)
-        → (Marked n mark (withoutLast p).journal → k ≤ behind (withoutLast p).journal mark → Many n mark k (withoutLast p).journal (back_by (withoutLast p) k).journal)
-        → Many n mark (suc k) p.journal (back_by (withoutLast p) k).journal
+        → (Marked n mark (without_last p).journal → k ≤ behind (without_last p).journal mark → Many n mark k (without_last p).journal (back_by (without_last p) k).journal)
+        → Many n mark (suc k) p.journal (back_by (without_last p) k).journal
     go (inl b) rest = one n mark k p m (mark-record p.journal mark m.is-mark b) h rest
     go (inr b) rest = absurd (let z = none-behind p.journal mark b in omega (arith, z))
 
@@ -364,14 +364,14 @@ pub record Going (p₀ : State) (mark : ℕ) (p : State) (u done : ℕ) : Type 0
   pub used-is : u ≡ used p.journal
   pub good : Whole p.image p.journal
   pub is-mark : has eqb mark (marks p.journal) ≡ true
-  pub few : done + u ≤ maxJournal
+  pub few : done + u ≤ max_journal
   pub count : done + behind p.journal mark ≡ behind p₀.journal mark
   pub outcome : back_by p₀ (behind p₀.journal mark) ≡ back_by p (behind p.journal mark)
 
 pub go-start : (p : State) (mark u : ℕ) → Ready p.image p.journal → has eqb mark (marks p.journal) ≡ true → u ≡ used p.journal → Going p mark p u 0
 go-start p mark u r t e =
     let z = sound p.image r.sound in
-    let w = well p.journal (blockCount p.image) r.well-formed in
+    let w = well p.journal (block_count p.image) r.well-formed in
     record {
       used-is = e;
       good = record { whole = z.whole; blocks = z.most; well-formed = r.well-formed };
@@ -383,17 +383,17 @@ go-start p mark u r t e =
 
 module _ (p₀ : State) (mark : ℕ) (p : State) (u done : ℕ) (g : Going p₀ mark p u done) where
   pub go_right : Right p.journal
-  go_right = record { blocks = blockCount p.image; well-formed = g.good.well-formed }
+  go_right = record { blocks = block_count p.image; well-formed = g.good.well-formed }
 
   pub go-record : mark < u → has eqb mark (records p.journal) ≡ true
   go-record h = in-has-eqb mark (records p.journal) (mark-record p.journal mark g.is-mark (rw g.used-is at h))
 
   module _ (count : ℕ) (h : count ≤ behind p.journal mark) (q : State) (e : q ≡ back_by p count) where
-    taken : Many (blockCount p.image) mark count p.journal q.journal
+    taken : Many (block_count p.image) mark count p.journal q.journal
     taken =
         rw e
-        (many (blockCount p.image) mark count p
-        (record { well-formed = well p.journal (blockCount p.image) g.good.well-formed; is-mark = g.is-mark }) h)
+        (many (block_count p.image) mark count p
+        (record { well-formed = well p.journal (block_count p.image) g.good.well-formed; is-mark = g.is-mark }) h)
 
     pub go-lower : (v : ℕ) → v ≡ used q.journal → count + v ≤ u
     go-lower v f = omega (arith, taken.lower, g.used-is)
@@ -407,7 +407,7 @@ module _ (p₀ : State) (mark : ℕ) (p : State) (u done : ℕ) (g : Going p₀ 
           good = record {
             whole = rw l g.good.whole;
             blocks = rw l g.good.blocks;
-            well-formed = rw l (well-ok q.journal (blockCount p.image) m.marked.well-formed);
+            well-formed = rw l (well-ok q.journal (block_count p.image) m.marked.well-formed);
           };
           is-mark = m.marked.is-mark;
           few = omega (arith, g.few, go-lower v f);
@@ -425,30 +425,30 @@ module _ (p₀ : State) (mark : ℕ) (p : State) (u done : ℕ) (g : Going p₀ 
 
 -- the exits of undo to a mark
 module _ (p : State) (mark : ℕ) where
-  refused : (k : ℕ) → backRefusal p mark ≡ k → (k ≡ 0 → ⊥) → backed p k 0 ≡ undoTo p mark
-  unfolding undoTo
+  refused : (k : ℕ) → back_refusal p mark ≡ k → (k ≡ 0 → ⊥) → backed p k 0 ≡ undo_to p mark
+  unfolding undo_to
   refused k e n = rw e (sym (accept-refused k _ (backed p k 0) n))
 
-  pub back-unready : (k : ℕ) → k ≡ readyRefusal p → (k ≡ 0 → ⊥) → backed p k 0 ≡ undoTo p mark
-  unfolding readyRefusal backRefusal
-  back-unready k e n = refused k (unready (check p.image) (require (has eqb mark (marks p.journal)) 27 0) (wellFormed p.journal (blockCount p.image)) k e n) n
+  pub back-unready : (k : ℕ) → k ≡ ready_refusal p → (k ≡ 0 → ⊥) → backed p k 0 ≡ undo_to p mark
+  unfolding ready_refusal back_refusal
+  back-unready k e n = refused k (unready (check p.image) (require (has eqb mark (marks p.journal)) 27 0) (well_formed p.journal (block_count p.image)) k e n) n
 
   module _ (w : Ready p.image p.journal) where
-    pub back-unmarked : has eqb mark (marks p.journal) ≡ false → backed p 27 0 ≡ undoTo p mark
-    unfolding backRefusal
+    pub back-unmarked : has eqb mark (marks p.journal) ≡ false → backed p 27 0 ≡ undo_to p mark
+    unfolding back_refusal
     back-unmarked f = refused 27 (rw (w.sound, w.well-formed, f)) (λ e. omega arith)
 
-    pub back_done : has eqb mark (marks p.journal) ≡ true → backed (back_by p (behind p.journal mark)) 0 (behind p.journal mark) ≡ undoTo p mark
-    unfolding backRefusal undoTo
+    pub back_done : has eqb mark (marks p.journal) ≡ true → backed (back_by p (behind p.journal mark)) 0 (behind p.journal mark) ≡ undo_to p mark
+    unfolding back_refusal undo_to
     back_done t = rw (w.sound, w.well-formed, t)
 
 -- the exits of an info
 module _ (p : State) where
-  pub info-unready : (k : ℕ) → k ≡ readyRefusal p → (k ≡ 0 → ⊥) → info k 0 0 0 ≡ journalInfo p
-  unfolding readyRefusal infoRefusal journalInfo
+  pub info-unready : (k : ℕ) → k ≡ ready_refusal p → (k ≡ 0 → ⊥) → info k 0 0 0 ≡ journal_info p
+  unfolding ready_refusal info_refusal journal_info
   info-unready k e n = rw (← e) (sym (accept-refused k _ (info k 0 0 0) n))
 
-  pub info-ready : Ready p.image p.journal → (u k last : ℕ) → u ≡ used p.journal → k ≡ length (records p.journal) → last ≡ lastLength p.journal
-      → info 0 u k last ≡ journalInfo p
-  unfolding infoRefusal journalInfo
+  pub info-ready : Ready p.image p.journal → (u k last : ℕ) → u ≡ used p.journal → k ≡ length (records p.journal) → last ≡ last_length p.journal
+      → info 0 u k last ≡ journal_info p
+  unfolding info_refusal journal_info
   info-ready w u k last a b c = rw (w.sound, w.well-formed, a, b, c)

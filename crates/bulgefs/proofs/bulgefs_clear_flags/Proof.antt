@@ -1,6 +1,6 @@
 use mathlib.Core.Path.{refl}
 use Rattle.volume.specs.Change as volume
-use Rattle.store.specs.Change.{slotGiven}
+use Rattle.store.specs.Change.{slot_given}
 use borrow.Author.Rules.{rules}
 use Rattle.bulgefs.proofs.bulgefs_clear_flags.Statement.{statement}
 use Rattle.bulgefs.proofs.bulgefs_clear_flags.Tie as tie
@@ -18,7 +18,7 @@ same-length-2 : tie.Need-same-length-2
 same-length-2 c = search rules
 
 returns : tie.Need-returns
-unfolding slotGiven volume.slotGiven
+unfolding slot_given volume.slot_given
 returns c =
     let clear-flags = c.before.before.before.before.before.clear-flags in
     (c.slotless.ensures _ _ refl clear-flags.ensures.0, clear-flags.ensures.1.0)

@@ -1,6 +1,6 @@
 use mathlib.Core.Path.{refl}
 use Rattle.volume.specs.Change as volume
-use Rattle.store.specs.Change.{slotGiven}
+use Rattle.store.specs.Change.{slot_given}
 use borrow.Author.Rules.{rules}
 use Rattle.bulgefs.proofs.bulgefs_delete.Statement.{statement}
 use Rattle.bulgefs.proofs.bulgefs_delete.Tie as tie
@@ -18,7 +18,7 @@ same-length-2 : tie.Need-same-length-2
 same-length-2 c = search rules
 
 returns : tie.Need-returns
-unfolding slotGiven volume.slotGiven
+unfolding slot_given volume.slot_given
 returns c =
     let delete = c.before.before.before.before.before.delete in
     (c.slotless.ensures _ _ refl delete.ensures.0, delete.ensures.1.0)

@@ -1,6 +1,6 @@
 use mathlib.Core.Path.{refl}
 use Rattle.volume.specs.Change as volume
-use Rattle.store.specs.Change.{slotGiven}
+use Rattle.store.specs.Change.{slot_given}
 use borrow.Author.Rules.{rules}
 use Rattle.bulgefs.proofs.bulgefs_delete_directory.Statement.{statement}
 use Rattle.bulgefs.proofs.bulgefs_delete_directory.Tie as tie
@@ -18,7 +18,7 @@ same-length-2 : tie.Need-same-length-2
 same-length-2 c = search rules
 
 returns : tie.Need-returns
-unfolding slotGiven volume.slotGiven
+unfolding slot_given volume.slot_given
 returns c =
     let call = c.before.before.before.before.before.delete-directory in
     (c.slotless.ensures _ _ refl call.ensures.0, call.ensures.1.0)

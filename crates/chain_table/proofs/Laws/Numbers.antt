@@ -9,9 +9,9 @@ use Rattle.layout.specs.Lists.{interval, joined}
 use Rattle.layout.specs.Bytes.{be32, bytes4, splice}
 use Rattle.layout.specs.Table.{next, chain}
 use Rattle.layout.proofs.Laws.Bytes.{splice-ext, splice-nil, splice-append, length-joined4}
-use Rattle.layout.proofs.Laws.Chains.{nth, length-chain, getD-chain}
-use Rattle.layout.proofs.Laws.Lists.{getD-interval, length-interval}
-use Rattle.chain_table.specs.Numbers.{valueIn, entriesOf, stored, Held}
+use Rattle.layout.proofs.Laws.Chains.{nth, length-chain, get_d-chain}
+use Rattle.layout.proofs.Laws.Lists.{get_d-interval, length-interval}
+use Rattle.chain_table.specs.Numbers.{value_in, entries_of, stored, Held}
 
 length-map : (v : ℕ → ℕ) (xs : List ℕ) → length (map v xs) ≡ length xs
 length-map v [] = refl
@@ -23,29 +23,29 @@ get_d_map v (x ∷ xs) zero h = refl
 get_d_map v (x ∷ xs) (suc i) h = get_d_map v xs i (omega arith)
 
 module _ (v : ℕ → ℕ) (n : ℕ) where
-  pub length-entries : length (entriesOf v n) ≡ n
-  unfolding entriesOf
+  pub length-entries : length (entries_of v n) ≡ n
+  unfolding entries_of
   length-entries = length-map v (interval 0 n) ∙ length-interval 0 n
 
-  pub entries_at : (b : ℕ) → b < n → valueIn (entriesOf v n) b ≡ v b
-  unfolding entriesOf
+  pub entries_at : (b : ℕ) → b < n → value_in (entries_of v n) b ≡ v b
+  unfolding entries_of
   entries_at b h =
       let z : 0 + b ≡ b = omega arith in
-      get_d_map v (interval 0 n) b (omega (arith, length-interval 0 n)) ∙ ap v (getD-interval 0 n b h ∙ z)
+      get_d_map v (interval 0 n) b (omega (arith, length-interval 0 n)) ∙ ap v (get_d-interval 0 n b h ∙ z)
 
   -- numbers that are the values are the entries
-  pub entries-are : (xs : List ℕ) → length xs ≡ n → ((b : ℕ) → b < n → valueIn xs b ≡ v b) → xs ≡ entriesOf v n
-  entries-are xs e f = ext_get_or 0 xs (entriesOf v n) (e ∙ sym length-entries) λ i h. f i (omega arith) ∙ sym (entries_at i (omega arith))
+  pub entries-are : (xs : List ℕ) → length xs ≡ n → ((b : ℕ) → b < n → value_in xs b ≡ v b) → xs ≡ entries_of v n
+  entries-are xs e f = ext_get_or 0 xs (entries_of v n) (e ∙ sym length-entries) λ i h. f i (omega arith) ∙ sym (entries_at i (omega arith))
 
 -- a chain is the list of its positions
-pub chain-entries : (v : ℕ → ℕ) (b k : ℕ) → entriesOf (λ x. nth v x b) k ≡ chain v b k
+pub chain-entries : (v : ℕ → ℕ) (b k : ℕ) → entries_of (λ x. nth v x b) k ≡ chain v b k
 chain-entries v b k =
-    sym (entries-are (λ x. nth v x b) k (chain v b k) (length-chain v b k) (λ x h. getD-chain v b k x h))
+    sym (entries-are (λ x. nth v x b) k (chain v b k) (length-chain v b k) (λ x h. get_d-chain v b k x h))
 
-pub held-entries : (s : List ℕ) (n : ℕ) → Held s (entriesOf (next s) n) n
+pub held-entries : (s : List ℕ) (n : ℕ) → Held s (entries_of (next s) n) n
 held-entries s n = record { size = length-entries (next s) n; same = entries_at (next s) n }
 
-pub held-are : {s xs : List ℕ} {n : ℕ} → Held s xs n → xs ≡ entriesOf (next s) n
+pub held-are : {s xs : List ℕ} {n : ℕ} → Held s xs n → xs ≡ entries_of (next s) n
 held-are {s} {xs} {n} h = entries-are (next s) n xs h.size h.same
 
 -- numbers written where they stand change nothing
@@ -75,6 +75,6 @@ module _ (s : List ℕ) (bytes : (i : ℕ) → get_or s i 0 < 256) where
       ∙ ap (λ (j : ℕ). splice s j q) at
       ∙ same_from k (suc a) (omega arith)
 
-  pub stored-own : (n : ℕ) → 512 + 4 * n ≤ length s → stored s (entriesOf (next s) n) ≡ s
-  unfolding stored entriesOf
+  pub stored-own : (n : ℕ) → 512 + 4 * n ≤ length s → stored s (entries_of (next s) n) ≡ s
+  unfolding stored entries_of
   stored-own n h = same_from n 0 (omega arith)

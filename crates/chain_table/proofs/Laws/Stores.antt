@@ -8,11 +8,11 @@ use native.Mathlib.Omega.{arith}
 use lib.ListN.{length, get_or}
 use Rattle.layout.specs.Lists.{joined}
 use Rattle.layout.specs.Bytes.{bytes4, splice}
-use Rattle.layout.specs.Geometry.{blockCount}
+use Rattle.layout.specs.Geometry.{block_count}
 use Rattle.layout.specs.Table.{next}
-use Rattle.layout.proofs.Laws.Bytes.{be32-same, length-joined4, joined4-at, length-splice, getD-splice-before, getD-splice-inside, getD-splice-after}
-use Rattle.chain_table.specs.Numbers.{valueIn, stored, Held}
-use Rattle.chain_table.specs.Transfer.{tableRefusal, storeTable}
+use Rattle.layout.proofs.Laws.Bytes.{be32-same, length-joined4, joined4-at, length-splice, get_d-splice-before, get_d-splice-inside, get_d-splice-after}
+use Rattle.chain_table.specs.Numbers.{value_in, stored, Held}
+use Rattle.chain_table.specs.Transfer.{table_refusal, store_table}
 use Rattle.chain_table.proofs.Laws.Outcomes.{accepted, store-not, store-done}
 
 module _ (s xs : List ℕ) (fits : 512 + 4 * length xs ≤ length s) where
@@ -25,9 +25,9 @@ module _ (s xs : List ℕ) (fits : 512 + 4 * length xs ≤ length s) where
   stored_at : (b : ℕ) → b < length xs → (i : ℕ) → i < 4 → get_or (splice s 512 run) (512 + 4 * b + i) 0 ≡ get_or run (4 * b + i) 0
   stored_at b h i g =
       let e : 512 + 4 * b + i ≡ 512 + (4 * b + i) = omega arith in
-      ap (λ (j : ℕ). get_or (splice s 512 run) j 0) e ∙ getD-splice-inside s 512 run inside (4 * b + i) (omega (arith, length-joined4 xs))
+      ap (λ (j : ℕ). get_or (splice s 512 run) j 0) e ∙ get_d-splice-inside s 512 run inside (4 * b + i) (omega (arith, length-joined4 xs))
 
-  stored-held : ((b : ℕ) → valueIn xs b < 0x100000000) → Held (stored s xs) xs (length xs)
+  stored-held : ((b : ℕ) → value_in xs b < 0x100000000) → Held (stored s xs) xs (length xs)
   unfolding stored next
   stored-held small =
       record { size = refl; same = λ b h. sym (be32-same run (splice s 512 run) (4 * b) (512 + 4 * b) (stored_at b h) ∙ joined4-at xs b h (small b)) }
@@ -38,31 +38,31 @@ module _ (s xs : List ℕ) (fits : 512 + 4 * length xs ≤ length s) where
 
   stored-others : (i : ℕ) → (i < 512) ⊎ (512 + 4 * length xs ≤ i) → get_or (stored s xs) i 0 ≡ get_or s i 0
   unfolding stored
-  stored-others i (inl h) = getD-splice-before s 512 run inside i h
-  stored-others i (inr h) = getD-splice-after s 512 run inside i (omega (arith, length-joined4 xs))
+  stored-others i (inl h) = get_d-splice-before s 512 run inside i h
+  stored-others i (inr h) = get_d-splice-after s 512 run inside i (omega (arith, length-joined4 xs))
 
 -- of the call: refused, it leaves the image
 module _ (s xs : List ℕ) where
-  done : tableRefusal s (length xs) ≡ 0 → stored s xs ≡ (storeTable s xs).image
+  done : table_refusal s (length xs) ≡ 0 → stored s xs ≡ (store_table s xs).image
   done e = (store-done s xs 0 (sym e) refl (stored s xs) refl).1
 
-  by-refusal : (P : List ℕ → Type 0) → P s → (tableRefusal s (length xs) ≡ 0 → P (stored s xs)) → P (storeTable s xs).image
-  by-refusal P left made = go (ℕ_discrete (tableRefusal s (length xs)) 0)
+  by-refusal : (P : List ℕ → Type 0) → P s → (table_refusal s (length xs) ≡ 0 → P (stored s xs)) → P (store_table s xs).image
+  by-refusal P left made = go (ℕ_discrete (table_refusal s (length xs)) 0)
     where
-      go : Dec (tableRefusal s (length xs) ≡ 0) → P (storeTable s xs).image
+      go : Dec (table_refusal s (length xs) ≡ 0) → P (store_table s xs).image
       go (yes e) = subst P (done e) (made e)
-      go (no e) = subst P (store-not s xs (tableRefusal s (length xs)) refl e).1 left
+      go (no e) = subst P (store-not s xs (table_refusal s (length xs)) refl e).1 left
 
-  pub store-held : ((b : ℕ) → valueIn xs b < 0x100000000) → tableRefusal s (length xs) ≡ 0 → Held (storeTable s xs).image xs (blockCount s)
+  pub store-held : ((b : ℕ) → value_in xs b < 0x100000000) → table_refusal s (length xs) ≡ 0 → Held (store_table s xs).image xs (block_count s)
   store-held small e =
       let a = accepted s (length xs) e in
       let h : Held (stored s xs) xs (length xs) = stored-held s xs (omega (arith, a.2)) small in
-      subst (λ (n : ℕ). Held (storeTable s xs).image xs n) a.1 (subst (λ (t : List ℕ). Held t xs (length xs)) (done e) h)
+      subst (λ (n : ℕ). Held (store_table s xs).image xs n) a.1 (subst (λ (t : List ℕ). Held t xs (length xs)) (done e) h)
 
-  pub store_length : length (storeTable s xs).image ≡ length s
+  pub store_length : length (store_table s xs).image ≡ length s
   store_length = by-refusal (λ t. length t ≡ length s) refl (λ e. stored-length s xs (omega (arith, (accepted s (length xs) e).2)))
 
-  pub store-others : (i : ℕ) → (i < 512) ⊎ (512 + 4 * blockCount s ≤ i) → get_or (storeTable s xs).image i 0 ≡ get_or s i 0
+  pub store-others : (i : ℕ) → (i < 512) ⊎ (512 + 4 * block_count s ≤ i) → get_or (store_table s xs).image i 0 ≡ get_or s i 0
   store-others i h =
       by-refusal (λ t. get_or t i 0 ≡ get_or s i 0) refl λ e.
       let a = accepted s (length xs) e in

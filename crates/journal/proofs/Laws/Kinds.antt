@@ -3,14 +3,14 @@ use Prim.Native.Nat.{ℕ, ◌≤◌}
 use mathlib.Core.List.{List, [], ◌∷◌, ◌++◌}
 use lib.ListN.{length}
 use mathlib.Core.Path.{◌≡◌, refl, sym, ap, subst, ◌∙◌}
-use Rattle.layout.specs.Limits.{minJournal, maxJournal}
+use Rattle.layout.specs.Limits.{min_journal, max_journal}
 use Rattle.layout.specs.Check.{check}
 use Rattle.store.specs.Change.{Change}
 use Rattle.store.proofs.Laws.Sound.{KeptSound}
 use Rattle.journal.specs.Journal.{started}
 use Rattle.journal.specs.Run.{Call, change, undo, State, state, step, answer, run, answers as run-answers}
-use Rattle.journal.specs.Replay.{replayed, standingAfter, standing}
-use Rattle.journal.specs.Kinds.{Kind, KindCall, call, further, KindAnswer, answered, step_of, answer_of, run_of, answersOf, FitsRun, AllFit, calls_of, asCalls, standingOf, replayAnswerOf, replayAnswersOf, Reached, StandsFor, KindRunTheorem, FreeRunTheorem, one_of}
+use Rattle.journal.specs.Replay.{replayed, standing_after, standing}
+use Rattle.journal.specs.Kinds.{Kind, KindCall, call, further, KindAnswer, answered, step_of, answer_of, run_of, answers_of, FitsRun, AllFit, calls_of, as_calls, standing_of, replay_answer_of, replay_answers_of, Reached, StandsFor, KindRunTheorem, FreeRunTheorem, one_of}
 use Rattle.journal.specs.Back.{undos, KindBackTheorem, Tell, count_of, TellsRight, KindCountTheorem}
 use Rattle.journal.proofs.Laws.Runs.{Stand, One, one-call, run-after}
 use Rattle.journal.proofs.Laws.Back.{standing-append, count-call, back-to-start}
@@ -49,15 +49,15 @@ module _ (K : Kind) (stands : StandsFor K) where
   step-calls p m (further c) f = stands p m c f
 
   -- on a state that a run reaches, a run is the same run as calls alone
-  pub calls-run : (cs : List (KindCall K)) (p : State) → Reached p → AllFit p cs → run_of p cs ≡ run p (asCalls p cs)
-  unfolding run_of asCalls AllFit run
+  pub calls-run : (cs : List (KindCall K)) (p : State) → Reached p → AllFit p cs → run_of p cs ≡ run p (as_calls p cs)
+  unfolding run_of as_calls AllFit run
   calls-run [] p m f = refl
   calls-run (c ∷ cs) p m f =
       calls-run cs (step_of p c) (subst Reached (sym (step-calls p m c f.0)) (reached-run p (calls_of p c) m)) f.1
-      ∙ ap (λ (q : State). run q (asCalls (step_of p c) cs)) (step-calls p m c f.0)
-      ∙ sym (run-append (calls_of p c) (asCalls (step_of p c) cs) p)
+      ∙ ap (λ (q : State). run q (as_calls (step_of p c) cs)) (step-calls p m c f.0)
+      ∙ sym (run-append (calls_of p c) (as_calls (step_of p c) cs) p)
 
-  module _ (sound : KeptSound) (image : List ℕ) (size : ℕ) (ok : check image ≡ 0) (low : minJournal ≤ size) (high : size ≤ maxJournal) where
+  module _ (sound : KeptSound) (image : List ℕ) (size : ℕ) (ok : check image ≡ 0) (low : min_journal ≤ size) (high : size ≤ max_journal) where
     abbrev start : State
     start = record { image = image; journal = started size }
 
@@ -76,39 +76,39 @@ module _ (K : Kind) (stands : StandsFor K) where
         let r = run-after sound image size ok low high changes (calls_of (replayed start changes) c) t in
         (step-calls (replayed start changes) (reached-changes start reached-start changes) c f ∙ r.0, r.1)
 
-    replies : (changes : List Change) (c : KindCall K) → Stand start changes → answer_of (replayed start changes) c ≡ replayAnswerOf start changes c
-    unfolding answer_of replayAnswerOf One
+    replies : (changes : List Change) (c : KindCall K) → Stand start changes → answer_of (replayed start changes) c ≡ replay_answer_of start changes c
+    unfolding answer_of replay_answer_of One
     replies changes (call c) t = ap answered (one-call sound image size ok low high changes c t).1
     replies changes (further c) t = refl
 
     -- what stands is what stands of the same run as calls alone
     pub standing-calls : (cs : List (KindCall K)) (changes : List Change) → Stand start changes → AllFit (replayed start changes) cs
-        → standingOf start changes cs ≡ standing start changes (asCalls (replayed start changes) cs)
-    unfolding standingOf standing asCalls AllFit
+        → standing_of start changes cs ≡ standing start changes (as_calls (replayed start changes) cs)
+    unfolding standing_of standing as_calls AllFit
     standing-calls [] changes t f = refl
     standing-calls (c ∷ cs) changes t f =
         let m = moves changes c t f.0 in
         let p = replayed start changes in
         standing-calls cs (next changes c) m.1 (subst (λ (q : State). AllFit q cs) m.0 f.1)
-        ∙ ap (λ (q : State). standing start (next changes c) (asCalls q cs)) (sym m.0)
-        ∙ sym (standing-append start changes (calls_of p c) (asCalls (step_of p c) cs))
+        ∙ ap (λ (q : State). standing start (next changes c) (as_calls q cs)) (sym m.0)
+        ∙ sym (standing-append start changes (calls_of p c) (as_calls (step_of p c) cs))
 
     states : (cs : List (KindCall K)) (changes : List Change) → Stand start changes → AllFit (replayed start changes) cs
-        → run_of (replayed start changes) cs ≡ replayed start (standingOf start changes cs)
-    unfolding run_of standingOf AllFit
+        → run_of (replayed start changes) cs ≡ replayed start (standing_of start changes cs)
+    unfolding run_of standing_of AllFit
     states [] changes t f = refl
     states (c ∷ cs) changes t f =
         let m = moves changes c t f.0 in
         ap (λ (p : State). run_of p cs) m.0 ∙ states cs (next changes c) m.1 (subst (λ (p : State). AllFit p cs) m.0 f.1)
 
     answers : (cs : List (KindCall K)) (changes : List Change) → Stand start changes → AllFit (replayed start changes) cs
-        → answersOf (replayed start changes) cs ≡ replayAnswersOf start changes cs
-    unfolding answersOf replayAnswersOf AllFit
+        → answers_of (replayed start changes) cs ≡ replay_answers_of start changes cs
+    unfolding answers_of replay_answers_of AllFit
     answers [] changes t f = refl
     answers (c ∷ cs) changes t f =
         let m = moves changes c t f.0 in
         rw (m.0, replies changes c t)
-        (ap (λ (l : List (KindAnswer K)). replayAnswerOf start changes c ∷ l) (answers cs (next changes c) m.1 (subst (λ (p : State). AllFit p cs) m.0 f.1)))
+        (ap (λ (l : List (KindAnswer K)). replay_answer_of start changes c ∷ l) (answers cs (next changes c) m.1 (subst (λ (p : State). AllFit p cs) m.0 f.1)))
 
 -- EVERY RUN WITH FURTHER CALLS is the run as calls alone, and its replay
 pub kind-run : KeptSound → (K : Kind) → StandsFor K → KindRunTheorem K
@@ -136,10 +136,10 @@ pub kind-back : KeptSound → (K : Kind) → StandsFor K → KindBackTheorem K
 unfolding replayed Stand
 kind-back sound K stands image size calls ok low high f =
     let start : State = record { image = image; journal = started size } in
-    let cs = asCalls start calls in
+    let cs = as_calls start calls in
     let b = back-to-start sound image size cs ok low high in
     let m = reached-start K stands sound image size ok low high in
-    let e : standingOf start [] calls ≡ standing start [] cs = standing-calls K stands sound image size ok low high calls [] tt f in
+    let e : standing_of start [] calls ≡ standing start [] cs = standing-calls K stands sound image size ok low high calls [] tt f in
     let go : (k : ℕ) → run (run_of start calls) (undos k) ≡ run start (cs ++ undos k) =
     λ k. ap (λ (p : State). run p (undos k)) (calls-run K stands calls start m f) ∙ sym (run-append cs (undos k) start) in
     record {
@@ -151,15 +151,15 @@ kind-back sound K stands image size calls ok low high f =
 
 -- THE COUNT by the answers is the number of changes that stand
 count-kind : (K : Kind) (tell : Tell K) → TellsRight K tell → (start : State) (cs : List (KindCall K)) (changes : List Change)
-    → count_of tell (length changes) (replayAnswersOf start changes cs) ≡ length (standingOf start changes cs)
-unfolding count_of replayAnswersOf replayAnswerOf standingOf calls_of standing
+    → count_of tell (length changes) (replay_answers_of start changes cs) ≡ length (standing_of start changes cs)
+unfolding count_of replay_answers_of replay_answer_of standing_of calls_of standing
 count-kind K tell right start [] changes = refl
 count-kind K tell right start (call c ∷ cs) changes =
-    let next = standingAfter start changes c in
-    ap (λ (k : ℕ). count_of tell k (replayAnswersOf start next cs)) (count-call start changes c) ∙ count-kind K tell right start cs next
+    let next = standing_after start changes c in
+    ap (λ (k : ℕ). count_of tell k (replay_answers_of start next cs)) (count-call start changes c) ∙ count-kind K tell right start cs next
 count-kind K tell right start (further c ∷ cs) changes =
     let next = standing start changes (K.calls (replayed start changes) c) in
-    ap (λ (k : ℕ). count_of tell k (replayAnswersOf start next cs)) (right start changes c) ∙ count-kind K tell right start cs next
+    ap (λ (k : ℕ). count_of tell k (replay_answers_of start next cs)) (right start changes c) ∙ count-kind K tell right start cs next
 
 pub kind-counted : KeptSound → (K : Kind) → StandsFor K → (tell : Tell K) → TellsRight K tell → KindCountTheorem K tell
 kind-counted sound K stands tell right image size calls ok low high f =

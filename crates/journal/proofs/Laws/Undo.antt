@@ -8,17 +8,17 @@ use native.Mathlib.Omega.{arith}
 use borrow.Author.Tests.{leb-true, ne_eqb}
 use lib.Dec.{leb}
 use lib.ListN.{length}
-use Rattle.layout.specs.Geometry.{blockCount}
+use Rattle.layout.specs.Geometry.{block_count}
 use Rattle.layout.specs.Check.{check}
 use Rattle.store.specs.Change.{Change, refusal, after, named}
-use Rattle.journal.specs.Journal.{used, started, recordsFrom, records, wellFormed, ascending, added, lastRecord, undoneImage, Shaped}
-use Rattle.journal.specs.Run.{State, undone, recordOf, changeRefusal, afterChange, undoRefusal, afterUndo, undoAnswer}
+use Rattle.journal.specs.Journal.{used, started, records_from, records, well_formed, ascending, added, last_record, undone_image, Shaped}
+use Rattle.journal.specs.Run.{State, undone, record_of, change_refusal, after_change, undo_refusal, after_undo, undo_answer}
 use Rattle.journal.specs.Replay.{RunInvariant}
 use Rattle.journal.specs.Walks.Changes.{Ready}
-use Rattle.layout.specs.Limits.{minJournal, maxJournal}
+use Rattle.layout.specs.Limits.{min_journal, max_journal}
 use Rattle.store.proofs.Laws.Framed.{Framed, frame}
 use Rattle.store.proofs.Laws.Sound.{KeptSound}
-use Rattle.layout.proofs.Laws.Tests.{require-zero, firstOf-zero}
+use Rattle.layout.proofs.Laws.Tests.{require-zero, first_of-zero}
 use Rattle.layout.proofs.Laws.Lists.{in_some, has-eqb-in}
 use Rattle.layout.proofs.Laws.Sound.{Sound, sound}
 use Rattle.journal.proofs.Laws.Ascending.{ascending-below, ascending-rising, ascending-all}
@@ -29,20 +29,20 @@ use Rattle.journal.proofs.Laws.Append.{well, well-ok, Appended, appended}
 -- what an accepted change has asked
 pub record Accepted (p : State) (c : Change) : Type 0 where
   pub sound : check p.image ≡ 0
-  pub well-formed : wellFormed p.journal (blockCount p.image) ≡ true
+  pub well-formed : well_formed p.journal (block_count p.image) ≡ true
   pub allowed : refusal p.image c ≡ 0
-  pub fits : used p.journal + length (recordOf p c) ≤ length p.journal
+  pub fits : used p.journal + length (record_of p c) ≤ length p.journal
 
-pub accepted : (p : State) (c : Change) → changeRefusal p c ≡ 0 → Accepted p c
-unfolding changeRefusal
+pub accepted : (p : State) (c : Change) → change_refusal p c ≡ 0 → Accepted p c
+unfolding change_refusal
 accepted p c e =
-    let a = firstOf-zero (check p.image) _ e in
-    let b = require-zero (wellFormed p.journal (blockCount p.image)) 7 _ a.1 in
-    let d = firstOf-zero (refusal p.image c) _ b.1 in
-    let f = require-zero (leb (used p.journal + length (recordOf p c)) (length p.journal)) 14 0 d.1 in
+    let a = first_of-zero (check p.image) _ e in
+    let b = require-zero (well_formed p.journal (block_count p.image)) 7 _ a.1 in
+    let d = first_of-zero (refusal p.image c) _ b.1 in
+    let f = require-zero (leb (used p.journal + length (record_of p c)) (length p.journal)) 14 0 d.1 in
     record { sound = a.0; well-formed = b.0; allowed = d.0; fits = leb-true _ _ f.0 }
 
-module _ (kept-sound : KeptSound) (p : State) (c : Change) (ok : changeRefusal p c ≡ 0) where
+module _ (kept-sound : KeptSound) (p : State) (c : Change) (ok : change_refusal p c ≡ 0) where
   acc : Accepted p c
   acc = accepted p c ok
 
@@ -54,15 +54,15 @@ module _ (kept-sound : KeptSound) (p : State) (c : Change) (ok : changeRefusal p
 
   -- the blocks of the record, and the journal with it
   abbrev bs : List ℕ
-  bs = ascending (blockCount p.image) (named p.image c)
+  bs = ascending (block_count p.image) (named p.image c)
 
   abbrev new : List ℕ
-  new = added p.journal (recordOf p c)
+  new = added p.journal (record_of p c)
 
-  laws : Appended (blockCount p.image) p.image bs p.journal new
-  unfolding recordOf
+  laws : Appended (block_count p.image) p.image bs p.journal new
+  unfolding record_of
   laws =
-      let k = blockCount p.image in
+      let k = block_count p.image in
       let ns = named p.image c in
       let in-record = ascending-all k ns framed.one (has-eqb-in framed.one ns framed.listed) (framed.inside framed.one framed.listed) in
       appended k p.image (omega (arith, sz.whole)) sz.most bs (ascending-below k ns) (ascending-rising k ns) (in_some framed.one bs in-record)
@@ -71,64 +71,64 @@ module _ (kept-sound : KeptSound) (p : State) (c : Change) (ok : changeRefusal p
   abbrev q : State
   q = record { image = after p.image c; journal = new }
 
-  after_is : afterChange p c ≡ q
-  unfolding afterChange
+  after_is : after_change p c ≡ q
+  unfolding after_change
   after_is = rw ok
 
-  blocks-stay : blockCount (after p.image c) ≡ blockCount p.image
+  blocks-stay : block_count (after p.image c) ≡ block_count p.image
   blocks-stay = rw framed.agree.size
 
-  well-new : wellFormed new (blockCount (after p.image c)) ≡ true
-  well-new = rw blocks-stay (well-ok new (blockCount p.image) laws.well-formed)
+  well-new : well_formed new (block_count (after p.image c)) ≡ true
+  well-new = rw blocks-stay (well-ok new (block_count p.image) laws.well-formed)
 
   sound-new : check (after p.image c) ≡ 0
   sound-new = kept-sound p.image c acc.sound acc.allowed
 
   -- the refusals 1 to 8 are passed again, whatever stands past the used part of the journal
-  pub ready-again : Ready (afterChange p c).image (afterChange p c).journal
+  pub ready-again : Ready (after_change p c).image (after_change p c).journal
   ready-again = rw after_is (record { sound = sound-new; well-formed = well-new })
 
-  pub kept : {n size : ℕ} → RunInvariant n size p → RunInvariant n size (afterChange p c)
+  pub kept : {n size : ℕ} → RunInvariant n size p → RunInvariant n size (after_change p c)
   kept {n} {size} m =
       let k : RunInvariant n size q = record
       { sound = sound-new; blocks = blocks-stay ∙ m.blocks; well-formed = well-new; long = laws.long ∙ m.long; shaped = laws.shaped m.shaped } in
       rw after_is k
 
-  undo-ok : undoRefusal q ≡ 0
-  unfolding undoRefusal
-  undo-ok = rw (sound-new, well-new, ne_eqb (lastRecord new) 0 laws.some)
+  undo-ok : undo_refusal q ≡ 0
+  unfolding undo_refusal
+  undo-ok = rw (sound-new, well-new, ne_eqb (last_record new) 0 laws.some)
 
-  image-back : undoneImage (after p.image c) new ≡ p.image
+  image-back : undone_image (after p.image c) new ≡ p.image
   image-back =
-      let k = blockCount p.image in
+      let k = block_count p.image in
       let ns = named p.image c in
       laws.image-back (after p.image c)
       ∙ puts_back k p.image sz.whole bs (after p.image c) (ascending-below k ns)
       (agree-ascending k p.image (after p.image c) ns sz.whole framed.agree)
 
-  pub undone-image : (afterUndo (afterChange p c)).image ≡ p.image
-  unfolding afterUndo
+  pub undone-image : (after_undo (after_change p c)).image ≡ p.image
+  unfolding after_undo
   undone-image = rw (after_is, undo-ok, image-back)
 
-  pub back : Shaped p.journal → afterUndo (afterChange p c) ≡ p
-  unfolding afterUndo
+  pub back : Shaped p.journal → after_undo (after_change p c) ≡ p
+  unfolding after_undo
   back m = rw (after_is, undo-ok, image-back, laws.journal-back m)
 
-  pub undone-length : undoAnswer (afterChange p c) ≡ undone 0 (length (recordOf p c))
-  unfolding undoAnswer recordOf
+  pub undone-length : undo_answer (after_change p c) ≡ undone 0 (length (record_of p c))
+  unfolding undo_answer record_of
   undone-length = rw (after_is, undo-ok, laws.size)
 
 -- a journal just started, where there is nothing to undo
-module _ (s : List ℕ) (size : ℕ) (sound : check s ≡ 0) (low : minJournal ≤ size) (high : size ≤ maxJournal) where
+module _ (s : List ℕ) (size : ℕ) (sound : check s ≡ 0) (low : min_journal ≤ size) (high : size ≤ max_journal) where
   used_start : used (started size) ≡ 5
   used_start = rw started-filled (used-filled 5 [] (size - 5) (omega arith))
 
   records-start : records (started size) ≡ []
-  unfolding records recordsFrom
+  unfolding records records_from
   records-start = rw used_start
 
-  well-start : wellFormed (started size) (blockCount s) ≡ true
-  well-start = well-ok (started size) (blockCount s) (record {
+  well-start : well_formed (started size) (block_count s) ≡ true
+  well-start = well-ok (started size) (block_count s) (record {
     long = omega (arith, length-started size low);
     short = omega (arith, length-started size low);
     version = rw started-filled (version-filled 5 [] (size - 5));
@@ -137,7 +137,7 @@ module _ (s : List ℕ) (size : ℕ) (sound : check s ≡ 0) (low : minJournal �
     recorded = rw records-start;
   })
 
-  pub first : RunInvariant (blockCount s) size (record { image = s; journal = started size })
+  pub first : RunInvariant (block_count s) size (record { image = s; journal = started size })
   first = record {
     sound = sound;
     blocks = refl;
@@ -146,14 +146,14 @@ module _ (s : List ℕ) (size : ℕ) (sound : check s ≡ 0) (low : minJournal �
     shaped = record { body = []; room = size - 5; shape = started-filled size };
   }
 
-  refused : undoRefusal (record { image = s; journal = started size }) ≡ 16
-  unfolding undoRefusal lastRecord
+  refused : undo_refusal (record { image = s; journal = started size }) ≡ 16
+  unfolding undo_refusal last_record
   refused = rw (sound, well-start, records-start)
 
-  pub none : afterUndo (record { image = s; journal = started size }) ≡ record { image = s; journal = started size }
-  unfolding afterUndo
+  pub none : after_undo (record { image = s; journal = started size }) ≡ record { image = s; journal = started size }
+  unfolding after_undo
   none = rw refused
 
-  pub undone-none : undoAnswer (record { image = s; journal = started size }) ≡ undone 16 0
-  unfolding undoAnswer
+  pub undone-none : undo_answer (record { image = s; journal = started size }) ≡ undone 16 0
+  unfolding undo_answer
   undone-none = rw refused

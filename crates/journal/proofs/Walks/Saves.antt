@@ -9,8 +9,8 @@ use lib.Dec.{ltb}
 use lib.ListN.{length, get_or}
 use Rattle.layout.specs.Lists.{every, joined}
 use Rattle.layout.specs.Bytes.{bytes4, splice}
-use Rattle.journal.specs.Journal.{used, recordBytes, added}
-use Rattle.journal.specs.Walks.Saves.{Marks, markedFrom}
+use Rattle.journal.specs.Journal.{used, record_bytes, added}
+use Rattle.journal.specs.Walks.Saves.{Marks, marked_from}
 use Rattle.layout.proofs.Laws.Lists.{joined-append}
 use Rattle.layout.proofs.Laws.Bytes.{length-splice, length-bytes4, splice-nil, splice-append, splice-two}
 use Rattle.journal.proofs.Laws.Records.{piece, length-pieces, length-record}
@@ -27,13 +27,13 @@ marks-fewer s m n e k h = record { whole = omega (arith, k.whole); blocks = omeg
 pub record Saving (s m old bs : List ℕ) (at e : ℕ) (j : List ℕ) (p b : ℕ) : Type 0 where
   pub within : b ≤ e
   pub long : length j ≡ length old
-  pub place : p + 516 * length (markedFrom m b (e - b)) ≡ at + 516 * length bs
-  pub whole : splice old at (joined (piece s) bs) ≡ splice j p (joined (piece s) (markedFrom m b (e - b)))
+  pub place : p + 516 * length (marked_from m b (e - b)) ≡ at + 516 * length bs
+  pub whole : splice old at (joined (piece s) bs) ≡ splice j p (joined (piece s) (marked_from m b (e - b)))
 
-pub save-start : (s m j : List ℕ) (at a e : ℕ) → a ≤ e → Saving s m j (markedFrom m a (e - a)) at e j at a
+pub save-start : (s m j : List ℕ) (at a e : ℕ) → a ≤ e → Saving s m j (marked_from m a (e - a)) at e j at a
 save-start s m j at a e h = record { within = h; long = refl; place = refl; whole = refl }
 
-pub save-all : (s m j : List ℕ) (at n : ℕ) → Saving s m j (markedFrom m 0 n) at n j at 0
+pub save-all : (s m j : List ℕ) (at n : ℕ) → Saving s m j (marked_from m 0 n) at n j at 0
 save-all s m j at n = record { within = omega arith; long = refl; place = rw sub-zero; whole = rw sub-zero }
 
 no-elements : (xs : List ℕ) → length xs ≡ 0 → xs ≡ []
@@ -45,9 +45,9 @@ module _ (s m old bs : List ℕ) (at e : ℕ) (j : List ℕ) (p b : ℕ) (i : Sa
   -- the marked ones of the blocks from b up to c
   module _ (c : ℕ) (h : b ≤ c) (g : c ≤ e) where
     abbrev these : List ℕ
-    these = markedFrom m b (c - b)
+    these = marked_from m b (c - b)
 
-    parts : length (markedFrom m b (e - b)) ≡ length these + length (markedFrom m c (e - c))
+    parts : length (marked_from m b (e - b)) ≡ length these + length (marked_from m c (e - c))
     parts = marked-parts m b c e h g
 
     pub save-room : p + 516 * length these ≤ length j
@@ -55,7 +55,7 @@ module _ (s m old bs : List ℕ) (at e : ℕ) (j : List ℕ) (p b : ℕ) (i : Sa
 
     pub save-more : (t : List ℕ) → t ≡ splice j p (joined (piece s) these) → (q : ℕ) → q ≡ p + 516 * length these → Saving s m old bs at e t q c
     save-more t is q to =
-        let rest : List ℕ = markedFrom m c (e - c) in
+        let rest : List ℕ = marked_from m c (e - c) in
         let x : List ℕ = joined (piece s) these in
         let y : List ℕ = joined (piece s) rest in
         let lx : length x ≡ 516 * length these = length-pieces c s (omega (arith, k.whole)) (omega (arith, k.blocks)) these (marked-below m b c h) in
@@ -77,7 +77,7 @@ module _ (s m old bs : List ℕ) (at e : ℕ) (j : List ℕ) (p b : ℕ) (i : Sa
     pub save-skip : get_or m b 0 ≡ 0 → Saving s m old bs at e j p (b + 1)
     save-skip z = save-none (b + 1) (omega arith) (omega arith) (ap length (marked-skip m b (b + 1) (omega arith) z ∙ marked-done m (b + 1) (b + 1) (omega arith)))
 
-    only : (get_or m b 0 ≡ 0 → ⊥) → markedFrom m b (b + 1 - b) ≡ b ∷ []
+    only : (get_or m b 0 ≡ 0 → ⊥) → marked_from m b (b + 1 - b) ≡ b ∷ []
     only z = marked-take m b (b + 1) (omega arith) z ∙ rw (marked-done m (b + 1) (b + 1) (omega arith))
 
     pub save-room-one : (get_or m b 0 ≡ 0 → ⊥) → p + 516 ≤ length j
@@ -93,13 +93,13 @@ module _ (s m old bs : List ℕ) (at e : ℕ) (j : List ℕ) (p b : ℕ) (i : Sa
   save-end h = sym (i.whole ∙ rw (marked-done m b e h, splice-nil))
 
 -- the record's length, its blocks and the new used length, written one after the other
-pub record-made : (s m j : List ℕ) (n u size : ℕ) → Marks s m n → u ≡ used j → size ≡ 4 + 516 * length (markedFrom m 0 n) → u + size ≤ length j
-    → splice (splice (splice j u (bytes4 size)) (u + 4) (joined (piece s) (markedFrom m 0 n))) 1 (bytes4 (u + size)) ≡ added j (recordBytes s (markedFrom m 0 n))
-unfolding added recordBytes
+pub record-made : (s m j : List ℕ) (n u size : ℕ) → Marks s m n → u ≡ used j → size ≡ 4 + 516 * length (marked_from m 0 n) → u + size ≤ length j
+    → splice (splice (splice j u (bytes4 size)) (u + 4) (joined (piece s) (marked_from m 0 n))) 1 (bytes4 (u + size)) ≡ added j (record_bytes s (marked_from m 0 n))
+unfolding added record_bytes
 record-made s m j n u size k at-is size_is fits =
-    let bs : List ℕ = markedFrom m 0 n in
+    let bs : List ℕ = marked_from m 0 n in
     let low : every (λ b. ltb b n) bs ≡ true = rw sub-zero at (marked-below m 0 n (omega arith)) in
-    let long : length (recordBytes s bs) ≡ size = length-record n s k.whole k.blocks bs low ∙ sym size_is in
+    let long : length (record_bytes s bs) ≡ size = length-record n s k.whole k.blocks bs low ∙ sym size_is in
     let pieces : length (joined (piece s) bs) ≡ 516 * length bs = length-pieces n s k.whole k.blocks bs low in
     let four : length (bytes4 size) ≡ 4 = length-bytes4 size in
     let e : u + 4 ≡ u + length (bytes4 size) = omega arith in

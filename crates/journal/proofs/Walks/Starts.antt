@@ -8,20 +8,20 @@ use borrow.Author.Tests.{le-leb, lt-leb}
 use lib.Dec.{leb}
 use lib.ListN.{length, set, replicate}
 use Rattle.layout.specs.Bytes.{bytes4, zeros, splice}
-use Rattle.layout.specs.Limits.{maxJournal}
-use Rattle.journal.specs.Journal.{started, startRefusal}
+use Rattle.layout.specs.Limits.{max_journal}
+use Rattle.journal.specs.Journal.{started, start_refusal}
 
-pub start-short : (j : List ℕ) → length j < 5 → startRefusal j ≡ 8
-unfolding startRefusal
+pub start-short : (j : List ℕ) → length j < 5 → start_refusal j ≡ 8
+unfolding start_refusal
 start-short j h = rw (lt-leb 5 (length j) h)
 
-pub start-long : (j : List ℕ) → maxJournal < length j → startRefusal j ≡ 8
-unfolding startRefusal
-start-long j h = rw (lt-leb (length j) maxJournal h, and-false (leb 5 (length j)))
+pub start-long : (j : List ℕ) → max_journal < length j → start_refusal j ≡ 8
+unfolding start_refusal
+start-long j h = rw (lt-leb (length j) max_journal h, and-false (leb 5 (length j)))
 
-pub start_fits : (j : List ℕ) → 5 ≤ length j → length j ≤ maxJournal → startRefusal j ≡ 0
-unfolding startRefusal
-start_fits j h g = rw (le-leb 5 (length j) h, le-leb (length j) maxJournal g)
+pub start_fits : (j : List ℕ) → 5 ≤ length j → length j ≤ max_journal → start_refusal j ≡ 0
+unfolding start_refusal
+start_fits j h g = rw (le-leb 5 (length j) h, le-leb (length j) max_journal g)
 
 stored : (r : ℕ) → splice (set (replicate (suc (suc (suc (suc (suc r))))) 0) 0 1) 1 (bytes4 5) ≡ 1 ∷ (bytes4 5 ++ zeros r)
 unfolding splice bytes4 zeros

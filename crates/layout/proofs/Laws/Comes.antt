@@ -11,18 +11,18 @@ use native.Mathlib.Omega.{arith}
 use lib.Dec.{eqb}
 use lib.ListN.{length}
 use borrow.Author.Tests.{eqb-true}
-use Rattle.layout.specs.Limits.{maxLevels}
+use Rattle.layout.specs.Limits.{max_levels}
 use Rattle.layout.specs.Lists.{interval, distinct, keep, select, joined}
 use Rattle.layout.specs.Bytes.{be32}
-use Rattle.layout.specs.Geometry.{blockCount, rootBlock}
+use Rattle.layout.specs.Geometry.{block_count, root_block}
 use Rattle.layout.specs.Table.{next, occupied}
-use Rattle.layout.specs.Directory.{slot_at, slots, type_of, firstBlock, isDirectory, name_of, directory, rootOf, children, below, dirs}
-use Rattle.layout.specs.Check.{slotOk, childOk}
+use Rattle.layout.specs.Directory.{slot_at, slots, type_of, first_block, is_directory, name_of, directory, root_of, children, below, dirs}
+use Rattle.layout.specs.Check.{slot_ok, child_ok}
 use Rattle.layout.specs.Claims.{Inserted}
 use Rattle.layout.proofs.Laws.Tests.{eqb-self, true-not-false}
 use Rattle.layout.proofs.Laws.Lists.{In, in_left, in_right, in-append, distinct-left, distinct-right, distinct_apart, distinct_append, joined_same}
 use Rattle.layout.proofs.Laws.Joins.{in-interval, join-append, select-agree}
-use Rattle.layout.proofs.Laws.Visits.{Local, Tree, blocksIn, dirBlocks, below-is, under, childOk-directory, directoryOk-distinct}
+use Rattle.layout.proofs.Laws.Visits.{Local, Tree, blocks_in, dir_blocks, below-is, under, child_ok-directory, directory_ok-distinct}
 use Rattle.layout.proofs.Laws.Trees.{size_at, directory-in, length-directory, pair_same, root_in}
 use Rattle.layout.proofs.Laws.Tables.{Table}
 use Rattle.layout.proofs.Laws.Sound.{Sound, Entry, held_at, Owner}
@@ -83,9 +83,9 @@ pair-dec d d' = go (ℕ_discrete d.0 d'.0) (ℕ_discrete d.1 d'.1)
     go (yes p) (no q) = no (λ e. q (ap (λ (w : ℕ × ℕ). w.1) e))
 
 -- what is below a child of a directory of the tree is of the tree
-pub inside-tree : (s : List ℕ) (b j : ℕ) → In (b, suc j) (dirs s) → (a : ℕ) → In a (children s b) → (d : ℕ × ℕ) → In d (below s j (firstBlock s a)) → In d (dirs s)
+pub inside-tree : (s : List ℕ) (b j : ℕ) → In (b, suc j) (dirs s) → (a : ℕ) → In a (children s b) → (d : ℕ × ℕ) → In d (below s j (first_block s a)) → In d (dirs s)
 unfolding dirs
-inside-tree s b j i a m d n = below-trans s maxLevels (rootOf s) (firstBlock s a) j d (child-below s maxLevels (rootOf s) b j a i m) n
+inside-tree s b j i a m d n = below-trans s max_levels (root_of s) (first_block s a) j d (child-below s max_levels (root_of s) b j a i m) n
 
 -- different numbers, with some put between
 pub distinct-insert : (xs ys zs : List ℕ) → distinct eqb (xs ++ zs) ≡ true → distinct eqb ys ≡ true → ((q : ℕ) → In q ys → In q (xs ++ zs) → ⊥) → distinct eqb (xs ++ (ys ++ zs)) ≡ true
@@ -102,7 +102,7 @@ distinct_remove xs ys zs d =
 
 module _ (s s' : List ℕ) (S : Sound s) (b₀ j : ℕ) (i₀ : In (b₀, suc j) (dirs s)) (k : ℕ) (k₁ : 1 ≤ k) (k₂ : k < 4 * size_at s b₀ - 1) where
   abbrev n : ℕ
-  n = blockCount s
+  n = block_count s
 
   abbrev d₀ : ℕ × ℕ
   d₀ = (b₀, suc j)
@@ -111,21 +111,21 @@ module _ (s s' : List ℕ) (S : Sound s) (b₀ j : ℕ) (i₀ : In (b₀, suc j)
   e = slot_at (directory s b₀) k
 
   abbrev c : ℕ
-  c = firstBlock s' e
+  c = first_block s' e
 
   all : (d : ℕ × ℕ) → In d (dirs s) → In d (dirs s)
   all d i = i
 
-  module _ (O : OneSlot s (dirs s) s' e) (was : isDirectory (type_of s e) ≡ false) (now : isDirectory (type_of s' e) ≡ true) (leaf : children s' c ≡ []) where
+  module _ (O : OneSlot s (dirs s) s' e) (was : is_directory (type_of s e) ≡ false) (now : is_directory (type_of s' e) ≡ true) (leaf : children s' c ≡ []) where
     blocks-same : (d : ℕ × ℕ) → In d (dirs s) → directory s' d.0 ≡ directory s d.0
     blocks-same d di = blocks-stay s s' S (dirs s) all d₀ i₀ k k₁ k₂ O d di
 
     old-child : (d : ℕ × ℕ) → In d (dirs s) → (a : ℕ) → In a (children s d.0) → a ≢ e
     old-child d di a i q =
         let r = in-children s d.0 a i in
-        true-not-false {a = isDirectory (type_of s e)} (subst (λ (x : ℕ). isDirectory (type_of s x) ≡ true) (sym r.4 ∙ q) r.3) was
+        true-not-false {a = is_directory (type_of s e)} (subst (λ (x : ℕ). is_directory (type_of s x) ≡ true) (sym r.4 ∙ q) r.3) was
 
-    first-same : (d : ℕ × ℕ) (di : In d (dirs s)) (a : ℕ) → In a (children s d.0) → firstBlock s' a ≡ firstBlock s a
+    first-same : (d : ℕ × ℕ) (di : In d (dirs s)) (a : ℕ) → In a (children s d.0) → first_block s' a ≡ first_block s a
     first-same d di a i =
         field-stays s s' S (dirs s) all d₀ i₀ k k₁ k₂ O a (child-entry s s' S (dirs s) all d₀ i₀ k k₁ k₂ O d di a i) (old-child d di a i) 4 (omega arith)
 
@@ -137,9 +137,9 @@ module _ (s s' : List ℕ) (S : Sound s) (b₀ j : ℕ) (i₀ : In (b₀, suc j)
           blocks = blocks-same d di;
           kids =
               rw (blocks-same d di) (ap (map (slot_at (directory s d.0)))
-              (select-agree (λ x. isDirectory (type_of s (slot_at (directory s d.0) x))) (λ x. isDirectory (type_of s' (slot_at (directory s d.0) x))) (slots (directory s d.0))
+              (select-agree (λ x. is_directory (type_of s (slot_at (directory s d.0) x))) (λ x. is_directory (type_of s' (slot_at (directory s d.0) x))) (slots (directory s d.0))
               (λ x i. let w = in-slots s d.0 x i in
-              ap isDirectory (type-stays s s' S (dirs s) all d₀ i₀ k k₁ k₂ O (slot_at (directory s d.0) x) (slot-entry s S d di x (omega arith))
+              ap is_directory (type-stays s s' S (dirs s) all d₀ i₀ k k₁ k₂ O (slot_at (directory s d.0) x) (slot-entry s S d di x (omega arith))
               (slot-other s S d di x (omega arith) d₀ i₀ k (omega arith) (inl ne))))));
           firsts = first-same d di;
         }
@@ -149,10 +149,10 @@ module _ (s s' : List ℕ) (S : Sound s) (b₀ j : ℕ) (i₀ : In (b₀, suc j)
     unfolding children
     kids-more =
         let ds = directory s b₀ in
-        let p : ℕ → Bool = λ x. isDirectory (type_of s (slot_at ds x)) in
-        let q : ℕ → Bool = λ x. isDirectory (type_of s' (slot_at ds x)) in
+        let p : ℕ → Bool = λ x. is_directory (type_of s (slot_at ds x)) in
+        let q : ℕ → Bool = λ x. is_directory (type_of s' (slot_at ds x)) in
         let I = select-insert p q k (4 * length ds - 2) 1 was now
-        (λ x h g ne. ap isDirectory (type-stays s s' S (dirs s) all d₀ i₀ k k₁ k₂ O (slot_at ds x) (slot-entry s S d₀ i₀ x (omega (arith, length-directory s b₀)))
+        (λ x h g ne. ap is_directory (type-stays s s' S (dirs s) all d₀ i₀ k k₁ k₂ O (slot_at ds x) (slot-entry s S d₀ i₀ x (omega (arith, length-directory s b₀)))
         (slot-other s S d₀ i₀ x (omega (arith, length-directory s b₀)) d₀ i₀ k (omega arith) (inr ne)))) k₁ (omega (arith, length-directory s b₀)) in
         record {
           front = map (slot_at ds) I.front;
@@ -166,17 +166,17 @@ module _ (s s' : List ℕ) (S : Sound s) (b₀ j : ℕ) (i₀ : In (b₀, suc j)
       where
         none : (i : ℕ) → under s' i c ≡ []
         none zero = refl
-        none (suc i) = ap (joined (λ a. below s' i (firstBlock s' a))) leaf
+        none (suc i) = ap (joined (λ a. below s' i (first_block s' a))) leaf
 
     -- below it: what was there, and the new directory
     base : Inserted (c, j) (under s (suc j) b₀) (under s' (suc j) b₀)
     base =
         let K = kids-more in
-        let F : ℕ → List (ℕ × ℕ) = λ a. below s j (firstBlock s a) in
-        let G : ℕ → List (ℕ × ℕ) = λ a. below s' j (firstBlock s' a) in
+        let F : ℕ → List (ℕ × ℕ) = λ a. below s j (first_block s a) in
+        let G : ℕ → List (ℕ × ℕ) = λ a. below s' j (first_block s' a) in
         let same : (a : ℕ) → In a (children s b₀) → G a ≡ F a =
-        λ a i. ap (below s' j) (first-same d₀ i₀ a i) ∙ below-same s s' j (firstBlock s a)
-        (λ d m. kept-other d (inside a i d m) (λ z. let w = below-level s j (firstBlock s a) d m in let y : d.1 ≡ suc j = ap (λ (x : ℕ × ℕ). x.1) z in omega arith)) in
+        λ a i. ap (below s' j) (first-same d₀ i₀ a i) ∙ below-same s s' j (first_block s a)
+        (λ d m. kept-other d (inside a i d m) (λ z. let w = below-level s j (first_block s a) d m in let y : d.1 ≡ suc j = ap (λ (x : ℕ × ℕ). x.1) z in omega arith)) in
         record {
           front = joined F K.front;
           back = joined F K.back;
@@ -189,36 +189,36 @@ module _ (s s' : List ℕ) (S : Sound s) (b₀ j : ℕ) (i₀ : In (b₀, suc j)
               ∙ ap (λ (z : List (ℕ × ℕ)). (c, j) ∷ z) (joined_same F G K.back (λ a i. same a (rw K.less-is (in_right a K.front K.back i)))));
         }
       where
-        inside : (a : ℕ) → In a (children s b₀) → (d : ℕ × ℕ) → In d (below s j (firstBlock s a)) → In d (dirs s)
+        inside : (a : ℕ) → In a (children s b₀) → (d : ℕ × ℕ) → In d (below s j (first_block s a)) → In d (dirs s)
         inside a i d m = inside-tree s (b₀) j i₀ a i d m
 
     -- THE TREE HAS ONE DIRECTORY MORE
     pub dirs-more : Inserted (c, j) (dirs s) (dirs s')
     unfolding dirs
     dirs-more =
-        let r : rootOf s' ≡ rootOf s = ap (λ (x : ℕ). rootBlock (x / 512)) O.len in
+        let r : root_of s' ≡ root_of s = ap (λ (x : ℕ). root_block (x / 512)) O.len in
         rw r (spread s s' b₀ j (Inserted (c, j)) (inserted-around (c, j)) base
         (λ d di. directory-in s d.0 0 (dir-least s S d di))
         (λ d di no_sub. kept-other d di (λ z. no_sub (subst (λ (w : ℕ × ℕ). In w (below s (suc j) b₀)) (sym z) (rw (below-is s (suc j) b₀) (inl refl)))))
-        maxLevels (rootOf s) (λ d i. i) S.tree.once i₀)
+        max_levels (root_of s) (λ d i. i) S.tree.once i₀)
 
     -- the blocks of the directories: those that were there, and the new one's between
     abbrev old-front : List ℕ
-    old-front = joined (blocksIn s) dirs-more.front
+    old-front = joined (blocks_in s) dirs-more.front
 
     abbrev old-back : List ℕ
-    old-back = joined (blocksIn s) dirs-more.back
+    old-back = joined (blocks_in s) dirs-more.back
 
-    pub blocks-less : dirBlocks s ≡ old-front ++ old-back
-    blocks-less = ap (joined (blocksIn s)) dirs-more.less-is ∙ join-append (blocksIn s) dirs-more.front dirs-more.back
+    pub blocks-less : dir_blocks s ≡ old-front ++ old-back
+    blocks-less = ap (joined (blocks_in s)) dirs-more.less-is ∙ join-append (blocks_in s) dirs-more.front dirs-more.back
 
-    pub blocks_more : dirBlocks s' ≡ old-front ++ (directory s' c ++ old-back)
+    pub blocks_more : dir_blocks s' ≡ old-front ++ (directory s' c ++ old-back)
     blocks_more =
-        ap (joined (blocksIn s')) dirs-more.more-is ∙ join-append (blocksIn s') dirs-more.front ((c, j) ∷ dirs-more.back)
-        ∙ ap (λ (z : List ℕ). z ++ (directory s' c ++ joined (blocksIn s') dirs-more.back))
-        (joined_same (blocksIn s) (blocksIn s') dirs-more.front (λ d i. blocks-same d (rw dirs-more.less-is (in_left d dirs-more.front dirs-more.back i))))
+        ap (joined (blocks_in s')) dirs-more.more-is ∙ join-append (blocks_in s') dirs-more.front ((c, j) ∷ dirs-more.back)
+        ∙ ap (λ (z : List ℕ). z ++ (directory s' c ++ joined (blocks_in s') dirs-more.back))
+        (joined_same (blocks_in s) (blocks_in s') dirs-more.front (λ d i. blocks-same d (rw dirs-more.less-is (in_left d dirs-more.front dirs-more.back i))))
         ∙ ap (λ (z : List ℕ). old-front ++ (directory s' c ++ z))
-        (joined_same (blocksIn s) (blocksIn s') dirs-more.back (λ d i. blocks-same d (rw dirs-more.less-is (in_right d dirs-more.front dirs-more.back i))))
+        (joined_same (blocks_in s) (blocks_in s') dirs-more.back (λ d i. blocks-same d (rw dirs-more.less-is (in_right d dirs-more.front dirs-more.back i))))
 
     -- an entry of the larger tree: an old one, or one of the new directory
     pub entry_more : (a : ℕ) → Entry s' a → Entry s a ⊎ In (a / 512) (directory s' c)
@@ -243,24 +243,24 @@ module _ (s s' : List ℕ) (S : Sound s) (b₀ j : ℕ) (i₀ : In (b₀, suc j)
         record { within-tree = rw blocks_more (in_right (a / 512) old-front (directory s' c ++ old-back) (in_left (a / 512) (directory s' c) old-back i)); aligned = h }
 
     -- what is new is right: the slot and its name, the new directory and its blocks
-    module _ (ok : slotOk s' e ≡ true)
+    module _ (ok : slot_ok s' e ≡ true)
         (new : type_of s' e ≢ 0 → (x : ℕ) → 1 ≤ x → x < 4 * size_at s b₀ - 1 → x ≢ k → type_of s (slot_at (directory s b₀) x) ≢ 0 → name_of s' e ≢ name_of s (slot_at (directory s b₀) x))
-        (child : childOk s' n b₀ e ≡ true) (inner : SlotsRight s' c) (fresh : (q : ℕ) → In q (directory s' c) → In q (dirBlocks s) → ⊥)
+        (child : child_ok s' n b₀ e ≡ true) (inner : SlotsRight s' c) (fresh : (q : ℕ) → In q (directory s' c) → In q (dir_blocks s) → ⊥)
       where
-        kept-child : (d : ℕ × ℕ) (di : In d (dirs s)) (a : ℕ) → In a (children s d.0) → childOk s' n d.0 a ≡ true
+        kept-child : (d : ℕ × ℕ) (di : In d (dirs s)) (a : ℕ) → In a (children s d.0) → child_ok s' n d.0 a ≡ true
         kept-child d di a i =
             let w = child-dir s S d di a i in
             child-stays s s' S (dirs s) all d₀ i₀ k k₁ k₂ O d di a i (old-child d di a i) w.0 w.1
 
-        children-of : (d : ℕ × ℕ) → In d (dirs s) → (a : ℕ) → In a (children s' d.0) → childOk s' n d.0 a ≡ true
+        children-of : (d : ℕ × ℕ) → In d (dirs s) → (a : ℕ) → In a (children s' d.0) → child_ok s' n d.0 a ≡ true
         children-of d di a i = go (pair-dec d d₀)
           where
-            go : Dec (d ≡ d₀) → childOk s' n d.0 a ≡ true
+            go : Dec (d ≡ d₀) → child_ok s' n d.0 a ≡ true
             go (no ne) = kept-child d di a (rw (kept-other d di ne).kids at i)
             go (yes z) =
                 let y : d.0 ≡ b₀ = ap (λ (w : ℕ × ℕ). w.0) z in
-                subst (λ (w : ℕ). childOk s' n w a ≡ true) (sym y)
-                (⊎_elim (λ m. kept-child d₀ i₀ a m) (λ q. subst (λ (w : ℕ). childOk s' n b₀ w ≡ true) (sym q) child)
+                subst (λ (w : ℕ). child_ok s' n w a ≡ true) (sym y)
+                (⊎_elim (λ m. kept-child d₀ i₀ a m) (λ q. subst (λ (w : ℕ). child_ok s' n b₀ w ≡ true) (sym q) child)
                 (inserted-in e (children s b₀) (children s' b₀) kids-more a (subst (λ (w : ℕ). In a (children s' w)) y i)))
 
         depth-of : (d : ℕ × ℕ) → In d (dirs s) → d.1 ≡ 0 → children s' d.0 ≡ []
@@ -286,9 +286,9 @@ module _ (s s' : List ℕ) (S : Sound s) (b₀ j : ℕ) (i₀ : In (b₀, suc j)
               local = λ d i. ⊎_elim (λ m. local-old d m) (λ z. subst (λ (w : ℕ × ℕ). Local s' n w.0 w.1) (sym z) local-new) (inserted-in (c, j) (dirs s) (dirs s') dirs-more d i);
               once =
                   rw blocks_more (distinct-insert old-front (directory s' c) old-back (rw blocks-less at S.tree.once)
-                  (directoryOk-distinct s' n c b₀ (childOk-directory s' n b₀ e child)) (λ q x y. fresh q x (rw blocks-less y)));
+                  (directory_ok-distinct s' n c b₀ (child_ok-directory s' n b₀ e child)) (λ q x y. fresh q x (rw blocks-less y)));
             }
 
         -- A SOUND IMAGE AGAIN, where the owners are the old entries and the new self entry, and no other entry of the new directory owns a block
-        pub sound_more : Table n (Owner s') (next s') (firstBlock s') (held_at s') → be32 s' 20 ≡ occupied (next s') n → be32 s' 24 ≡ n - occupied (next s') n → Sound s'
+        pub sound_more : Table n (Owner s') (next s') (first_block s') (held_at s') → be32 s' 20 ≡ occupied (next s') n → be32 s' 24 ≡ n - occupied (next s') n → Sound s'
         sound_more table used free = sound-of s s' S O.len O.head O.tail tree-more table used free

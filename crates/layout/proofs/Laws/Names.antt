@@ -9,11 +9,11 @@ use native.Mathlib.Omega.{arith}
 use lib.Dec.{eqb}
 use lib.ListN.{length, get_or, take, drop, length-append}
 use borrow.Author.Tests.{eqb-false, eqb-true, not-true}
-use Rattle.layout.specs.Limits.{maxName}
+use Rattle.layout.specs.Limits.{max_name}
 use Rattle.layout.specs.Lists.{within, every, same}
-use Rattle.layout.specs.Directory.{nameByte, goodName, unpadded, name_of, nameOk, padded}
+use Rattle.layout.specs.Directory.{name_byte, good_name, unpadded, name_of, name_ok, padded}
 use Rattle.layout.specs.Bytes.{part, zeros}
-use Rattle.layout.proofs.Laws.Lists.{getD-in, every_in}
+use Rattle.layout.proofs.Laws.Lists.{get_d-in, every_in}
 use Rattle.layout.proofs.Laws.Tests.{and_split, and-join, within-split, eqb-self, true-or-false, true-not-false}
 use Rattle.layout.proofs.Laws.Bytes.{length-zeros}
 
@@ -53,19 +53,19 @@ unpadded-most (zero ∷ xs) = omega arith
 unpadded-most (suc x ∷ xs) = let r = unpadded-most xs in omega arith
 
 -- a good name has 1 to 80 bytes, none of them 0 or `/`
-pub goodName-split : (name : List ℕ) → goodName name ≡ true → (1 ≤ length name) × (length name ≤ maxName) × (every nameByte name ≡ true)
-unfolding goodName
-goodName-split name e =
-    let a = and_split (within 1 maxName (length name)) (every nameByte name) e in
-    let b = within-split 1 maxName (length name) a.0 in
+pub good_name-split : (name : List ℕ) → good_name name ≡ true → (1 ≤ length name) × (length name ≤ max_name) × (every name_byte name ≡ true)
+unfolding good_name
+good_name-split name e =
+    let a = and_split (within 1 max_name (length name)) (every name_byte name) e in
+    let b = within-split 1 max_name (length name) a.0 in
     (b.0, b.1, a.1)
 
-pub goodName-length : (name : List ℕ) → goodName name ≡ true → length name ≤ maxName
-goodName-length name e = (goodName-split name e).1
+pub good_name-length : (name : List ℕ) → good_name name ≡ true → length name ≤ max_name
+good_name-length name e = (good_name-split name e).1
 
-pub goodName-byte : (name : List ℕ) (i : ℕ) → goodName name ≡ true → i < length name → get_or name i 0 ≢ 0
-goodName-byte name i e h =
-    eqb-false _ _ (not-true _ (and_split (not (eqb (get_or name i 0) 0)) _ (every_in nameByte name (get_or name i 0) (goodName-split name e).2 (getD-in name i 0 h))).0)
+pub good_name-byte : (name : List ℕ) (i : ℕ) → good_name name ≡ true → i < length name → get_or name i 0 ≢ 0
+good_name-byte name i e h =
+    eqb-false _ _ (not-true _ (and_split (not (eqb (get_or name i 0) 0)) _ (every_in name_byte name (get_or name i 0) (good_name-split name e).2 (get_d-in name i 0 h))).0)
 
 -- a name and its padding
 unpadded-zeros : (k : ℕ) → unpadded (zeros k) ≡ []
@@ -73,17 +73,17 @@ unfolding zeros
 unpadded-zeros zero = refl
 unpadded-zeros (suc k) = refl
 
-unpadded-name : (name : List ℕ) (k : ℕ) → every nameByte name ≡ true → unpadded (name ++ zeros k) ≡ name
+unpadded-name : (name : List ℕ) (k : ℕ) → every name_byte name ≡ true → unpadded (name ++ zeros k) ≡ name
 unpadded-name [] k e = unpadded-zeros k
 unpadded-name (zero ∷ xs) k e = absurd (true-not-false e refl)
-unpadded-name (suc x ∷ xs) k e = ap (λ (r : List ℕ). suc x ∷ r) (unpadded-name xs k (and_split (nameByte (suc x)) (every nameByte xs) e).1)
+unpadded-name (suc x ∷ xs) k e = ap (λ (r : List ℕ). suc x ∷ r) (unpadded-name xs k (and_split (name_byte (suc x)) (every name_byte xs) e).1)
 
-module _ (name : List ℕ) (good : goodName name ≡ true) where
+module _ (name : List ℕ) (good : good_name name ≡ true) where
   pub padded-length : length (padded name) ≡ 80
-  padded-length = let h = goodName-length name good in simp (length-append, length-zeros) (omega arith)
+  padded-length = let h = good_name-length name good in simp (length-append, length-zeros) (omega arith)
 
   pub padded-name : unpadded (padded name) ≡ name
-  padded-name = unpadded-name name (80 - length name) (goodName-split name good).2
+  padded-name = unpadded-name name (80 - length name) (good_name-split name good).2
 
   -- an entry whose name field holds a good name
   module _ (s : List ℕ) (e : ℕ) (field : part s (e + 48) 80 ≡ padded name) where
@@ -91,6 +91,6 @@ module _ (name : List ℕ) (good : goodName name ≡ true) where
     unfolding name_of
     name-is = rw field padded-name
 
-    pub name-ok : nameOk s e ≡ true
-    unfolding nameOk
+    pub name-ok : name_ok s e ≡ true
+    unfolding name_ok
     name-ok = rw (name-is, field) (and-join good (same_refl (padded name)))

@@ -8,11 +8,11 @@ use native.Mathlib.Omega.{arith}
 use lib.Dec.{eqb}
 use lib.ListN.{length}
 use borrow.Author.Tests.{eq-eqb, eqb-false, ne_eqb, leb-true}
-use Rattle.layout.specs.Limits.{maxLevels}
+use Rattle.layout.specs.Limits.{max_levels}
 use Rattle.layout.specs.Lists.{same}
-use Rattle.layout.specs.Geometry.{blockCount}
-use Rattle.layout.specs.Directory.{slot_at, type_of, firstBlock, isDirectory, name_of, slot_of, directory, rootOf, dirs}
-use Rattle.layout.specs.Paths.{parts, leading, lastPart, shallow, childOf, resolve, home, pathSlot}
+use Rattle.layout.specs.Geometry.{block_count}
+use Rattle.layout.specs.Directory.{slot_at, type_of, first_block, is_directory, name_of, slot_of, directory, root_of, dirs}
+use Rattle.layout.specs.Paths.{parts, leading, last_part, shallow, child_of, resolve, home, path_slot}
 use Rattle.layout.proofs.Laws.Tests.{and_split, and-join}
 use Rattle.layout.proofs.Laws.Lists.{In, lowest-met, lowest-none}
 use Rattle.layout.proofs.Laws.Names.{same-eq, same_refl}
@@ -45,60 +45,60 @@ module _ (type : ℕ → Bool) (s : List ℕ) (b : ℕ) (name : List ℕ) where
 
 -- one part
 module _ (s : List ℕ) (b : ℕ) (name : List ℕ) where
-  pub child-found : childOf s b name ≢ 0 → Named isDirectory s b name (slot_of isDirectory s (directory s b) name) × (childOf s b name ≡ firstBlock s (slot_at (directory s b) (slot_of isDirectory s (directory s b) name)))
-  unfolding childOf
-  child-found ne = go (eqb (slot_of isDirectory s (directory s b) name) 0) refl
+  pub child-found : child_of s b name ≢ 0 → Named is_directory s b name (slot_of is_directory s (directory s b) name) × (child_of s b name ≡ first_block s (slot_at (directory s b) (slot_of is_directory s (directory s b) name)))
+  unfolding child_of
+  child-found ne = go (eqb (slot_of is_directory s (directory s b) name) 0) refl
     where
       k : ℕ
-      k = slot_of isDirectory s (directory s b) name
+      k = slot_of is_directory s (directory s b) name
 
-      go : (t : Bool) → eqb k 0 ≡ t → Named isDirectory s b name k × (childOf s b name ≡ firstBlock s (slot_at (directory s b) k))
+      go : (t : Bool) → eqb k 0 ≡ t → Named is_directory s b name k × (child_of s b name ≡ first_block s (slot_at (directory s b) k))
       go true q = absurd (ne (rw q))
-      go false q = (slot-named isDirectory s b name (eqb-false k 0 q), rw q)
+      go false q = (slot-named is_directory s b name (eqb-false k 0 q), rw q)
 
   -- it is a directory of the tree, one level lower
-  pub child-in-tree : (j : ℕ) → In (b, suc j) (dirs s) → childOf s b name ≢ 0 → In (childOf s b name, j) (dirs s)
+  pub child-in-tree : (j : ℕ) → In (b, suc j) (dirs s) → child_of s b name ≢ 0 → In (child_of s b name, j) (dirs s)
   unfolding dirs
   child-in-tree j i ne =
       let c = child-found ne in
-      rw c.1 (child-below s maxLevels (rootOf s) b j (slot_at (directory s b) (slot_of isDirectory s (directory s b) name)) i
-      (children-in s b (slot_of isDirectory s (directory s b) name) c.0.low c.0.high c.0.typed))
+      rw c.1 (child-below s max_levels (root_of s) b j (slot_at (directory s b) (slot_of is_directory s (directory s b) name)) i
+      (children-in s b (slot_of is_directory s (directory s b) name) c.0.low c.0.high c.0.typed))
 
 -- some parts: one level for each
 pub resolve-in-tree : (s : List ℕ) (ps : List (List ℕ)) (b left : ℕ) → In (b, left) (dirs s) → length ps ≤ left → resolve s b ps ≢ 0 → In (resolve s b ps, left - length ps) (dirs s)
 unfolding resolve
 resolve-in-tree s [] b left i h ne = let e : left - 0 ≡ left = omega arith in rw e i
 resolve-in-tree s (p ∷ ps) b zero i h ne = absurd (omega arith)
-resolve-in-tree s (p ∷ ps) b (suc left) i h ne = go (eqb (childOf s b p) 0) refl (resolve-in-tree s ps (childOf s b p) left) ne
+resolve-in-tree s (p ∷ ps) b (suc left) i h ne = go (eqb (child_of s b p) 0) refl (resolve-in-tree s ps (child_of s b p) left) ne
   where
-    go : (t : Bool) → eqb (childOf s b p) 0 ≡ t
-        → (In (childOf s b p, left) (dirs s) → length ps ≤ left → resolve s (childOf s b p) ps ≢ 0 → In (resolve s (childOf s b p) ps, left - length ps) (dirs s))
-        → cond t 0 (resolve s (childOf s b p) ps) ≢ 0 → In (cond t 0 (resolve s (childOf s b p) ps), suc left - suc (length ps)) (dirs s)
+    go : (t : Bool) → eqb (child_of s b p) 0 ≡ t
+        → (In (child_of s b p, left) (dirs s) → length ps ≤ left → resolve s (child_of s b p) ps ≢ 0 → In (resolve s (child_of s b p) ps, left - length ps) (dirs s))
+        → cond t 0 (resolve s (child_of s b p) ps) ≢ 0 → In (cond t 0 (resolve s (child_of s b p) ps), suc left - suc (length ps)) (dirs s)
     go true q ih f = absurd (f refl)
     go false q ih f =
         let e : suc left - suc (length ps) ≡ left - length ps = omega arith in
         rw e (ih (child-in-tree s b p left i (eqb-false _ 0 q)) (omega arith) f)
 
 -- WHERE A PATH LEADS: its last part is looked up in a directory of the tree
-pub home-in-tree : (s path : List ℕ) → shallow (leading (parts path)) ≡ true → home s path ≢ 0 → In (home s path, maxLevels - length (leading (parts path))) (dirs s)
+pub home-in-tree : (s path : List ℕ) → shallow (leading (parts path)) ≡ true → home s path ≢ 0 → In (home s path, max_levels - length (leading (parts path))) (dirs s)
 unfolding home shallow
 home-in-tree s path h ne =
-    resolve-in-tree s (leading (parts path)) (rootOf s) maxLevels (root_in s (blockCount s)) (leb-true _ _ h) ne
+    resolve-in-tree s (leading (parts path)) (root_of s) max_levels (root_in s (block_count s)) (leb-true _ _ h) ne
 
 -- the slot that it names there
-module _ (type : ℕ → Bool) (s path : List ℕ) (ne : pathSlot type s path ≢ 0) where
+module _ (type : ℕ → Bool) (s path : List ℕ) (ne : path_slot type s path ≢ 0) where
   pub home_found : home s path ≢ 0
-  unfolding pathSlot
+  unfolding path_slot
   home_found z = ne (rw (eq-eqb (home s path) 0 z))
 
-  pub path-slot : pathSlot type s path ≡ slot_of type s (directory s (home s path)) (lastPart (parts path))
-  unfolding pathSlot
+  pub path-slot : path_slot type s path ≡ slot_of type s (directory s (home s path)) (last_part (parts path))
+  unfolding path_slot
   path-slot = rw (ne_eqb (home s path) 0 home_found)
 
-  pub path-named : Named type s (home s path) (lastPart (parts path)) (pathSlot type s path)
+  pub path-named : Named type s (home s path) (last_part (parts path)) (path_slot type s path)
   path-named =
-      subst (Named type s (home s path) (lastPart (parts path))) (sym path-slot)
-      (slot-named type s (home s path) (lastPart (parts path)) (λ z. ne (path-slot ∙ z)))
+      subst (Named type s (home s path) (last_part (parts path))) (sym path-slot)
+      (slot-named type s (home s path) (last_part (parts path)) (λ z. ne (path-slot ∙ z)))
 
-  pub path-home : shallow (leading (parts path)) ≡ true → In (home s path, maxLevels - length (leading (parts path))) (dirs s)
+  pub path-home : shallow (leading (parts path)) ≡ true → In (home s path, max_levels - length (leading (parts path))) (dirs s)
   path-home h = home-in-tree s path h home_found

@@ -9,11 +9,11 @@ use native.Mathlib.Omega.{arith}
 use lib.Dec.{eqb}
 use borrow.Author.Tests.{eqb-true}
 use Rattle.layout.specs.Lists.{distinct, joined}
-use Rattle.layout.specs.Directory.{firstBlock, directory, children, below, dirs}
+use Rattle.layout.specs.Directory.{first_block, directory, children, below, dirs}
 use Rattle.layout.proofs.Laws.Tests.{eqb-self}
 use Rattle.layout.proofs.Laws.Lists.{In, in_left, in_right, distinct-left, distinct-right, distinct_apart, joined_same}
 use Rattle.layout.proofs.Laws.Joins.{of-join, to-join, join-append, join-join}
-use Rattle.layout.proofs.Laws.Visits.{blocksIn, below-is, under}
+use Rattle.layout.proofs.Laws.Visits.{blocks_in, below-is, under}
 use Rattle.layout.proofs.Laws.Changed.{Kept, below-same}
 
 -- levels fall
@@ -26,7 +26,7 @@ below-level s (suc left) b d i = first (λ c. below-level s left c d) (rw (below
   where
     first : ((c : ℕ) → In d (below s left c) → d.1 ≤ left) → In d ((b, suc left) ∷ under s (suc left) b) → d.1 ≤ suc left
     first ih (inl e) = let z : d.1 ≡ suc left = ap (λ (w : ℕ × ℕ). w.1) e in omega arith
-    first ih (inr m) = let r = of-join (λ e. below s left (firstBlock s e)) (children s b) d m in let z = ih (firstBlock s r.0) r.2 in omega arith
+    first ih (inr m) = let r = of-join (λ e. below s left (first_block s e)) (children s b) d m in let z = ih (first_block s r.0) r.2 in omega arith
 
 -- what is below a directory of the tree is of the tree
 pub below-trans : (s : List ℕ) (left r b i : ℕ) (d : ℕ × ℕ) → In (b, i) (below s left r) → In d (below s i b) → In d (below s left r)
@@ -45,8 +45,8 @@ below-trans s (suc left) r b i d m j = first (λ c n. below-trans s left c b i d
         let q : i ≡ suc left = ap (λ (w : ℕ × ℕ). w.1) e in
         subst (λ (z : ℕ). In d (below s (suc left) z)) p (subst (λ (z : ℕ). In d (below s z b)) q j)
     first ih (inr n) =
-        let w = of-join (λ e. below s left (firstBlock s e)) (children s r) (b, i) n in
-        rw (below-is s (suc left) r) (inr (to-join (λ e. below s left (firstBlock s e)) (children s r) w.0 d w.1 (ih (firstBlock s w.0) w.2)))
+        let w = of-join (λ e. below s left (first_block s e)) (children s r) (b, i) n in
+        rw (below-is s (suc left) r) (inr (to-join (λ e. below s left (first_block s e)) (children s r) w.0 d w.1 (ih (first_block s w.0) w.2)))
 
 -- a list at one of its elements
 pub split_at : {A : Type 0} (x : A) (xs : List A) → In x xs → (ps : List A) × (qs : List A) × (xs ≡ ps ++ (x ∷ qs))
@@ -64,33 +64,33 @@ module _ (x y : List ℕ) (b₀ j : ℕ) where
       (kept : (d : ℕ × ℕ) → In d (dirs x) → (In d (below x (suc j) b₀) → ⊥) → Kept x y d.0)
     where
       -- one level: the directory r, of which the child e₁ leads to d₀
-      module _ (left r : ℕ) (sub : (d : ℕ × ℕ) → In d (below x (suc left) r) → In d (dirs x)) (once : distinct eqb (joined (blocksIn x) (below x (suc left) r)) ≡ true) where
+      module _ (left r : ℕ) (sub : (d : ℕ × ℕ) → In d (below x (suc left) r) → In d (dirs x)) (once : distinct eqb (joined (blocks_in x) (below x (suc left) r)) ≡ true) where
         abbrev F : ℕ → List (ℕ × ℕ)
-        F e = below x left (firstBlock x e)
+        F e = below x left (first_block x e)
 
         abbrev G : ℕ → List (ℕ × ℕ)
-        G e = below y left (firstBlock y e)
+        G e = below y left (first_block y e)
 
         in-under : (e : ℕ) → In e (children x r) → (d : ℕ × ℕ) → In d (F e) → In d (below x (suc left) r)
         in-under e m d n = rw (below-is x (suc left) r) (inr (to-join F (children x r) e d m n))
 
-        rest-once : distinct eqb (joined (blocksIn x) (joined F (children x r))) ≡ true
-        rest-once = distinct-right eqb eqb-true eqb-self (directory x r) (joined (blocksIn x) (joined F (children x r))) (rw (below-is x (suc left) r) at once)
+        rest-once : distinct eqb (joined (blocks_in x) (joined F (children x r))) ≡ true
+        rest-once = distinct-right eqb eqb-true eqb-self (directory x r) (joined (blocks_in x) (joined F (children x r))) (rw (below-is x (suc left) r) at once)
 
         module _ (ps qs : List ℕ) (e₁ : ℕ) (cut : children x r ≡ ps ++ (e₁ ∷ qs)) (there : In d₀ (F e₁)) where
-          three : joined (blocksIn x) (joined F (children x r)) ≡ joined (blocksIn x) (joined F ps) ++ (joined (blocksIn x) (F e₁) ++ joined (blocksIn x) (joined F qs))
+          three : joined (blocks_in x) (joined F (children x r)) ≡ joined (blocks_in x) (joined F ps) ++ (joined (blocks_in x) (F e₁) ++ joined (blocks_in x) (joined F qs))
           three =
-              ap (λ (l : List ℕ). joined (blocksIn x) (joined F l)) cut ∙ ap (joined (blocksIn x)) (join-append F ps (e₁ ∷ qs))
-              ∙ join-append (blocksIn x) (joined F ps) (F e₁ ++ joined F qs)
-              ∙ ap (λ (l : List ℕ). joined (blocksIn x) (joined F ps) ++ l) (join-append (blocksIn x) (F e₁) (joined F qs))
+              ap (λ (l : List ℕ). joined (blocks_in x) (joined F l)) cut ∙ ap (joined (blocks_in x)) (join-append F ps (e₁ ∷ qs))
+              ∙ join-append (blocks_in x) (joined F ps) (F e₁ ++ joined F qs)
+              ∙ ap (λ (l : List ℕ). joined (blocks_in x) (joined F ps) ++ l) (join-append (blocks_in x) (F e₁) (joined F qs))
 
-          once₃ : distinct eqb (joined (blocksIn x) (joined F ps) ++ (joined (blocksIn x) (F e₁) ++ joined (blocksIn x) (joined F qs))) ≡ true
+          once₃ : distinct eqb (joined (blocks_in x) (joined F ps) ++ (joined (blocks_in x) (F e₁) ++ joined (blocks_in x) (joined F qs))) ≡ true
           once₃ = rw three at rest-once
 
-          pub middle-once : distinct eqb (joined (blocksIn x) (F e₁)) ≡ true
+          pub middle-once : distinct eqb (joined (blocks_in x) (F e₁)) ≡ true
           middle-once =
-              distinct-left eqb eqb-true eqb-self (joined (blocksIn x) (F e₁)) (joined (blocksIn x) (joined F qs))
-              (distinct-right eqb eqb-true eqb-self (joined (blocksIn x) (joined F ps)) (joined (blocksIn x) (F e₁) ++ joined (blocksIn x) (joined F qs)) once₃)
+              distinct-left eqb eqb-true eqb-self (joined (blocks_in x) (F e₁)) (joined (blocks_in x) (joined F qs))
+              (distinct-right eqb eqb-true eqb-self (joined (blocks_in x) (joined F ps)) (joined (blocks_in x) (F e₁) ++ joined (blocks_in x) (joined F qs)) once₃)
 
           member : (e : ℕ) → (In e ps ⊎ In e qs) → In e (children x r)
           member e (inl m) = rw cut (in_left e ps (e₁ ∷ qs) m)
@@ -102,45 +102,45 @@ module _ (x y : List ℕ) (b₀ j : ℕ) where
           -- nothing below d₀ is in the other children
           beside : (e : ℕ) → (In e ps ⊎ In e qs) → (d : ℕ × ℕ) → In d (F e) → In d (below x (suc j) b₀) → ⊥
           beside e s d n m =
-              let a : In d (F e₁) = below-trans x left (firstBlock x e₁) b₀ (suc j) d there m in
+              let a : In d (F e₁) = below-trans x left (first_block x e₁) b₀ (suc j) d there m in
               let o = own d (sub d (in-under e (member e s) d n)) in
-              let p : In d.0 (joined (blocksIn x) (F e₁)) = to-join (blocksIn x) (F e₁) d d.0 a o in
-              go s (to-join (blocksIn x) (F e) d d.0 n o) p
+              let p : In d.0 (joined (blocks_in x) (F e₁)) = to-join (blocks_in x) (F e₁) d d.0 a o in
+              go s (to-join (blocks_in x) (F e) d d.0 n o) p
             where
-              go : (In e ps ⊎ In e qs) → In d.0 (joined (blocksIn x) (F e)) → In d.0 (joined (blocksIn x) (F e₁)) → ⊥
+              go : (In e ps ⊎ In e qs) → In d.0 (joined (blocks_in x) (F e)) → In d.0 (joined (blocks_in x) (F e₁)) → ⊥
               go (inl u) p q =
-                  distinct_apart eqb eqb-true eqb-self (joined (blocksIn x) (joined F ps)) (joined (blocksIn x) (F e₁) ++ joined (blocksIn x) (joined F qs)) once₃ d.0
-                  (rw (join-join (blocksIn x) F ps) (to-join (λ z. joined (blocksIn x) (F z)) ps e d.0 u p))
-                  (in_left d.0 (joined (blocksIn x) (F e₁)) (joined (blocksIn x) (joined F qs)) q)
+                  distinct_apart eqb eqb-true eqb-self (joined (blocks_in x) (joined F ps)) (joined (blocks_in x) (F e₁) ++ joined (blocks_in x) (joined F qs)) once₃ d.0
+                  (rw (join-join (blocks_in x) F ps) (to-join (λ z. joined (blocks_in x) (F z)) ps e d.0 u p))
+                  (in_left d.0 (joined (blocks_in x) (F e₁)) (joined (blocks_in x) (joined F qs)) q)
               go (inr u) p q =
-                  distinct_apart eqb eqb-true eqb-self (joined (blocksIn x) (F e₁)) (joined (blocksIn x) (joined F qs))
-                  (distinct-right eqb eqb-true eqb-self (joined (blocksIn x) (joined F ps)) (joined (blocksIn x) (F e₁) ++ joined (blocksIn x) (joined F qs)) once₃) d.0 q
-                  (rw (join-join (blocksIn x) F qs) (to-join (λ z. joined (blocksIn x) (F z)) qs e d.0 u p))
+                  distinct_apart eqb eqb-true eqb-self (joined (blocks_in x) (F e₁)) (joined (blocks_in x) (joined F qs))
+                  (distinct-right eqb eqb-true eqb-self (joined (blocks_in x) (joined F ps)) (joined (blocks_in x) (F e₁) ++ joined (blocks_in x) (joined F qs)) once₃) d.0 q
+                  (rw (join-join (blocks_in x) F qs) (to-join (λ z. joined (blocks_in x) (F z)) qs e d.0 u p))
 
           -- the directory itself is above d₀
           above : Kept x y r
           above =
               kept (r, suc left) (sub (r, suc left) (rw (below-is x (suc left) r) (inl refl)))
-              (λ m. let p = below-level x (suc j) b₀ (r, suc left) m in let q = below-level x left (firstBlock x e₁) d₀ there in omega arith)
+              (λ m. let p = below-level x (suc j) b₀ (r, suc left) m in let q = below-level x left (first_block x e₁) d₀ there in omega arith)
 
           same_beside : (e : ℕ) → (In e ps ⊎ In e qs) → G e ≡ F e
           same_beside e s =
               ap (below y left) (above.firsts e (member e s))
-              ∙ below-same x y left (firstBlock x e) (λ d n. kept d (sub d (in-under e (member e s) d n)) (beside e s d n))
+              ∙ below-same x y left (first_block x e) (λ d n. kept d (sub d (in-under e (member e s) d n)) (beside e s d n))
 
-          one-level : Rel (F e₁) (below y left (firstBlock x e₁)) → Rel (below x (suc left) r) (below y (suc left) r)
+          one-level : Rel (F e₁) (below y left (first_block x e₁)) → Rel (below x (suc left) r) (below y (suc left) r)
           one-level R =
               let p : below x (suc left) r ≡ ((r, suc left) ∷ joined F ps) ++ (F e₁ ++ joined F qs) =
               below-is x (suc left) r ∙ ap (λ (l : List (ℕ × ℕ)). (r, suc left) ∷ l) (ap (joined F) cut ∙ join-append F ps (e₁ ∷ qs)) in
-              let q : below y (suc left) r ≡ ((r, suc left) ∷ joined F ps) ++ (below y left (firstBlock x e₁) ++ joined F qs) =
+              let q : below y (suc left) r ≡ ((r, suc left) ∷ joined F ps) ++ (below y left (first_block x e₁) ++ joined F qs) =
               below-is y (suc left) r ∙ ap (λ (l : List (ℕ × ℕ)). (r, suc left) ∷ l)
               (ap (joined G) (above.kids ∙ cut) ∙ join-append G ps (e₁ ∷ qs)
               ∙ ap (λ (l : List (ℕ × ℕ)). l ++ (G e₁ ++ joined G qs)) (joined_same F G ps (λ e m. same_beside e (inl m)))
               ∙ ap (λ (l : List (ℕ × ℕ)). joined F ps ++ l) (ap (λ (l : List (ℕ × ℕ)). G e₁ ++ l) (joined_same F G qs (λ e m. same_beside e (inr m)))
               ∙ ap (λ (c : ℕ). below y left c ++ joined F qs) (above.firsts e₁ me))) in
-              rw (p, q) (around ((r, suc left) ∷ joined F ps) (F e₁) (below y left (firstBlock x e₁)) (joined F qs) R)
+              rw (p, q) (around ((r, suc left) ∷ joined F ps) (F e₁) (below y left (first_block x e₁)) (joined F qs) R)
 
-      pub spread : (left r : ℕ) → ((d : ℕ × ℕ) → In d (below x left r) → In d (dirs x)) → distinct eqb (joined (blocksIn x) (below x left r)) ≡ true
+      pub spread : (left r : ℕ) → ((d : ℕ × ℕ) → In d (below x left r) → In d (dirs x)) → distinct eqb (joined (blocks_in x) (below x left r)) ≡ true
           → In d₀ (below x left r) → Rel (below x left r) (below y left r)
       spread zero r sub once i = first (rw (below-is x zero r) at i)
         where
@@ -154,7 +154,7 @@ module _ (x y : List ℕ) (b₀ j : ℕ) where
               (rw (below-is x (suc j) b₀, below-is y (suc j) b₀, ← append-nil (under x (suc j) b₀), ← append-nil (under y (suc j) b₀))
               (around (d₀ ∷ []) (under x (suc j) b₀) (under y (suc j) b₀) [] base)))
 
-          first : ((c : ℕ) → ((d : ℕ × ℕ) → In d (below x left c) → In d (dirs x)) → distinct eqb (joined (blocksIn x) (below x left c)) ≡ true → In d₀ (below x left c) → Rel (below x left c) (below y left c))
+          first : ((c : ℕ) → ((d : ℕ × ℕ) → In d (below x left c) → In d (dirs x)) → distinct eqb (joined (blocks_in x) (below x left c)) ≡ true → In d₀ (below x left c) → Rel (below x left c) (below y left c))
               → In d₀ ((r, suc left) ∷ under x (suc left) r) → Rel (below x (suc left) r) (below y (suc left) r)
           first ih (inl e) = let z : suc j ≡ suc left = ap (λ (w : ℕ × ℕ). w.1) e in here (ap (λ (w : ℕ × ℕ). w.0) e) (omega arith)
           first ih (inr m) =
@@ -162,4 +162,4 @@ module _ (x y : List ℕ) (b₀ j : ℕ) where
               let e₁ = w.0 in
               let c = split_at e₁ (children x r) w.1 in
               one-level left r sub once c.0 c.1 e₁ c.2 w.2
-              (ih (firstBlock x e₁) (λ d n. sub d (in-under left r sub once e₁ w.1 d n)) (middle-once left r sub once c.0 c.1 e₁ c.2 w.2) w.2)
+              (ih (first_block x e₁) (λ d n. sub d (in-under left r sub once e₁ w.1 d n)) (middle-once left r sub once c.0 c.1 e₁ c.2 w.2) w.2)

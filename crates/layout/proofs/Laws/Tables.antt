@@ -6,16 +6,16 @@ use mathlib.Core.Path.{◌≡◌, sym, ap, ◌∙◌, subst}
 use native.Mathlib.Decide.{ℕ_discrete}
 use native.Mathlib.Nat.{eq-or-lt_of_le}
 use native.Mathlib.Omega.{arith}
-use Rattle.layout.specs.Limits.{minBlocks}
-use Rattle.layout.specs.Geometry.{tableBlocks}
+use Rattle.layout.specs.Limits.{min_blocks}
+use Rattle.layout.specs.Geometry.{table_blocks}
 use Rattle.layout.proofs.Laws.Chains.{nth, nth-suc, nth-agree, Chain, chain-used, rest-nth, rest-chain}
 
 -- THE TABLE: chains, each right, no block in two of them; entries 0 to t are 1; every other entry that is not 0 is of a chain.
 pub record Table (n : ℕ) (P : ℕ → Type 0) (v f l : ℕ → ℕ) : Type 0 where
   pub right : (k : ℕ) → P k → Chain v n (f k) (l k)
   pub apart : (j k : ℕ) → P j → P k → j ≢ k → (x y : ℕ) → x < l j → y < l k → nth v x (f j) ≢ nth v y (f k)
-  pub low : (b : ℕ) → b ≤ tableBlocks n → v b ≡ 1
-  pub high : (b : ℕ) → tableBlocks n < b → b < 128 * tableBlocks n → v b ≢ 0 → (k : ℕ) × (x : ℕ) × (P k) × (x < l k) × (b ≡ nth v x (f k))
+  pub low : (b : ℕ) → b ≤ table_blocks n → v b ≡ 1
+  pub high : (b : ℕ) → table_blocks n < b → b < 128 * table_blocks n → v b ≢ 0 → (k : ℕ) × (x : ℕ) × (P k) × (x < l k) × (b ≡ nth v x (f k))
 
 -- the same chains, of equal numbers
 pub table_of : (n : ℕ) (P Q : ℕ → Type 0) (v f l : ℕ → ℕ) → ((k : ℕ) → Q k → P k) → ((k : ℕ) → P k → Q k) → Table n P v f l → Table n Q v f l
@@ -56,9 +56,9 @@ module _ (n : ℕ) (P Q : ℕ → Type 0) (v f l : ℕ → ℕ) (T : Table n P v
         high = λ b h a ne. let r = T.high b h a ne in (r.0, r.1, ⊎_elim (λ q. q) (λ z. absurd (omega (arith, r.3))) (rest r.0 r.2), r.3, r.4);
       }
 
-module _ (n : ℕ) (P : ℕ → Type 0) (v f l : ℕ → ℕ) (T : Table n P v f l) (h₃ : minBlocks ≤ n) where
+module _ (n : ℕ) (P : ℕ → Type 0) (v f l : ℕ → ℕ) (T : Table n P v f l) (h₃ : min_blocks ≤ n) where
   -- the same chains, by other functions
-  module _ (w g q : ℕ → ℕ) (vs : (b : ℕ) → b < 128 * tableBlocks n → w b ≡ v b) (ls : (k : ℕ) → P k → q k ≡ l k) (fs : (k : ℕ) → P k → 0 < l k → g k ≡ f k) where
+  module _ (w g q : ℕ → ℕ) (vs : (b : ℕ) → b < 128 * table_blocks n → w b ≡ v b) (ls : (k : ℕ) → P k → q k ≡ l k) (fs : (k : ℕ) → P k → 0 < l k → g k ≡ f k) where
     where-same : (k : ℕ) → P k → (x : ℕ) → x ≤ l k → 0 < l k → nth w x (g k) ≡ nth v x (f k)
     where-same k h x le pos =
         rw (fs k h pos) (nth-agree v w x (f k) (λ y b. vs (nth v y (f k)) (omega (arith, (T.right k h).below y (omega arith)))))
@@ -86,7 +86,7 @@ module _ (n : ℕ) (P : ℕ → Type 0) (v f l : ℕ → ℕ) (T : Table n P v f
         }
 
   -- where an old block of the table is: in the changed chain or in another
-  pub table-owner : (k b : ℕ) → tableBlocks n < b → b < 128 * tableBlocks n → v b ≢ 0
+  pub table-owner : (k b : ℕ) → table_blocks n < b → b < 128 * table_blocks n → v b ≢ 0
       → ((y : ℕ) × (y < l k) × (b ≡ nth v y (f k))) ⊎ ((j : ℕ) × (x : ℕ) × (P j) × (j ≢ k) × (x < l j) × (b ≡ nth v x (f j)))
   table-owner k b h a ne = let r = T.high b h a ne in go r.0 r.1 r.2 r.3 r.4 (ℕ_discrete r.0 k)
     where
@@ -102,8 +102,8 @@ module _ (n : ℕ) (P : ℕ → Type 0) (v f l : ℕ → ℕ) (T : Table n P v f
       (kept : (j : ℕ) → P j → j ≢ k → (x : ℕ) → x < l j → w (nth v x (f j)) ≡ v (nth v x (f j)))
       (mine : Chain w n (g k) (q k))
       (new : (j : ℕ) → P j → j ≢ k → (x y : ℕ) → x < l j → y < q k → nth v x (f j) ≢ nth w y (g k))
-      (low : (b : ℕ) → b ≤ tableBlocks n → w b ≡ 1)
-      (rest : (b : ℕ) → tableBlocks n < b → b < 128 * tableBlocks n → w b ≢ 0
+      (low : (b : ℕ) → b ≤ table_blocks n → w b ≡ 1)
+      (rest : (b : ℕ) → table_blocks n < b → b < 128 * table_blocks n → w b ≢ 0
       → ((y : ℕ) × (y < q k) × (b ≡ nth w y (g k))) ⊎ ((j : ℕ) × (x : ℕ) × (P j) × (j ≢ k) × (x < l j) × (b ≡ nth v x (f j))))
     where
       there : (j : ℕ) → P j → j ≢ k → (x : ℕ) → x ≤ l j → nth w x (g j) ≡ nth v x (f j)
@@ -149,14 +149,14 @@ module _ (n : ℕ) (P : ℕ → Type 0) (v f l : ℕ → ℕ) (T : Table n P v f
           right-at j h (yes p) = subst (λ (z : ℕ). Chain w n (g z) (q z)) (sym p) mine
           right-at j h (no p) = right-but j h p
 
-module _ (n : ℕ) (P : ℕ → Type 0) (v f l : ℕ → ℕ) (T : Table n P v f l) (h₃ : minBlocks ≤ n) (k : ℕ) (hk : P k) (w g q : ℕ → ℕ)
+module _ (n : ℕ) (P : ℕ → Type 0) (v f l : ℕ → ℕ) (T : Table n P v f l) (h₃ : min_blocks ≤ n) (k : ℕ) (hk : P k) (w g q : ℕ → ℕ)
     (fs : (j : ℕ) → P j → j ≢ k → g j ≡ f j) (ls : (j : ℕ) → P j → j ≢ k → q j ≡ l j)
   where
-    pos-small : (j : ℕ) → P j → (x : ℕ) → x < l j → nth v x (f j) < 128 * tableBlocks n
+    pos-small : (j : ℕ) → P j → (x : ℕ) → x < l j → nth v x (f j) < 128 * table_blocks n
     pos-small j h x b = omega (arith, (T.right j h).below x b)
 
     -- the front block leaves
-    module _ (pos : 0 < l k) (gone : w (f k) ≡ 0) (same : (b : ℕ) → b < 128 * tableBlocks n → b ≢ f k → w b ≡ v b) (gk : g k ≡ v (f k)) (qk : q k ≡ l k - 1) where
+    module _ (pos : 0 < l k) (gone : w (f k) ≡ 0) (same : (b : ℕ) → b < 128 * table_blocks n → b ≢ f k → w b ≡ v b) (gk : g k ≡ v (f k)) (qk : q k ≡ l k - 1) where
       rest : (x : ℕ) → x < n → x ≢ f k → w x ≡ v x
       rest x h ne = same x (omega arith) ne
 
@@ -179,9 +179,9 @@ module _ (n : ℕ) (P : ℕ → Type 0) (v f l : ℕ → ℕ) (T : Table n P v f
           front b other (suc y) h e = (y, omega arith, e ∙ sym (shifted y (omega arith)))
 
     -- a block b comes to the end
-    module _ (b : ℕ) (hb : tableBlocks n < b) (bn : b < n) (free : v b ≡ 0) (one : w b ≡ 1) (qk : q k ≡ suc (l k))
+    module _ (b : ℕ) (hb : table_blocks n < b) (bn : b < n) (free : v b ≡ 0) (one : w b ≡ 1) (qk : q k ≡ suc (l k))
         (front : (x : ℕ) → x < l k → nth w x (g k) ≡ nth v x (f k)) (end : nth w (l k) (g k) ≡ b)
-        (same : (c : ℕ) → c < 128 * tableBlocks n → c ≢ b → ((x : ℕ) → x < l k → c ≢ nth v x (f k)) → w c ≡ v c)
+        (same : (c : ℕ) → c < 128 * table_blocks n → c ≢ b → ((x : ℕ) → x < l k → c ≢ nth v x (f k)) → w c ≡ v c)
       where
         new-not : (j : ℕ) → P j → (x : ℕ) → x < l j → nth v x (f j) ≢ b
         new-not j h x a e = chain-used v n (f j) (l j) (T.right j h) h₃ x a (ap v e ∙ free)
@@ -212,7 +212,7 @@ module _ (n : ℕ) (P : ℕ → Type 0) (v f l : ℕ → ℕ) (T : Table n P v f
             Where : ℕ → Type 0
             Where c = ((y : ℕ) × (y < q k) × (c ≡ nth w y (g k))) ⊎ ((j : ℕ) × (x : ℕ) × (P j) × (j ≢ k) × (x < l j) × (c ≡ nth v x (f j)))
 
-            rest : (c : ℕ) → tableBlocks n < c → c < 128 * tableBlocks n → w c ≢ 0 → Dec (c ≡ b) → Dec (v c ≡ 0) → Where c
+            rest : (c : ℕ) → table_blocks n < c → c < 128 * table_blocks n → w c ≢ 0 → Dec (c ≡ b) → Dec (v c ≡ 0) → Where c
             rest c h a ne (yes p) d = inl (l k, omega arith, p ∙ sym end)
             rest c h a ne (no p) (yes z) =
                 absurd (ne (same c a p (λ x g e. chain-used v n (f k) (l k) (T.right k hk) h₃ x g (ap v (sym e) ∙ z)) ∙ z))

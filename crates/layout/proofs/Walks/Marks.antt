@@ -10,12 +10,12 @@ use lib.Seq.{append_snoc, get_or-set_other, get_or-set_same}
 use borrow.Author.Tests.{eqb-false, eqb-true}
 use Rattle.layout.specs.Lists.{interval, every, has, distinct, joined}
 use Rattle.layout.specs.Bytes.{zeros}
-use Rattle.layout.specs.Geometry.{inVolume}
-use Rattle.layout.specs.Table.{chain, endsAfter, chainOk}
+use Rattle.layout.specs.Geometry.{in_volume}
+use Rattle.layout.specs.Table.{chain, ends_after, chain_ok}
 use Rattle.layout.specs.Check.{owned}
-use Rattle.layout.specs.Walks.Chains.{Walk, walked, walk, follow, followAll}
-use Rattle.layout.proofs.Laws.Bytes.{getD-zeros}
-use Rattle.layout.proofs.Laws.Chains.{inVolume-below}
+use Rattle.layout.specs.Walks.Chains.{Walk, walked, walk, follow, follow_all}
+use Rattle.layout.proofs.Laws.Bytes.{get_d-zeros}
+use Rattle.layout.proofs.Laws.Chains.{in_volume-below}
 use Rattle.layout.proofs.Laws.Lists.{In, in-here, in-elim, distinct-left, distinct_apart, distinct_append, has-eqb-in, in-has-eqb}
 use Rattle.layout.proofs.Laws.Tests.{and_split, true-not-false, is_false, eqb-self}
 
@@ -24,7 +24,7 @@ pub record Marked (m os : List ℕ) : Type 0 where
   pub at : (x : ℕ) → eqb (get_or m x 0) 0 ≡ not (has eqb x os)
 
 pub marked-zeros : (k : ℕ) → Marked (zeros k) []
-marked-zeros k = record { at = λ x. rw (getD-zeros k x) }
+marked-zeros k = record { at = λ x. rw (get_d-zeros k x) }
 
 has-snoc : (x b : ℕ) (os : List ℕ) → has eqb x (os ++ (b ∷ [])) ≡ has eqb x os || eqb x b
 has-snoc x b [] = or-false (eqb x b)
@@ -66,46 +66,46 @@ tied-false m good os e = record { ok = sym e; marks = λ z. absurd (false≢true
 
 module _ (v : ℕ → ℕ) (n : ℕ) where
   pub walk-tied : (k b : ℕ) (m os : List ℕ) → n ≤ length m → Marked m os → distinct eqb os ≡ true
-      → Tied (walk v n k b m) (endsAfter v n b k && distinct eqb (os ++ chain v b k)) (os ++ chain v b k) (length m)
-  unfolding walk endsAfter chain
+      → Tied (walk v n k b m) (ends_after v n b k && distinct eqb (os ++ chain v b k)) (os ++ chain v b k) (length m)
+  unfolding walk ends_after chain
   walk-tied zero b m os h g d = record { ok = rw (append-nil os, d) (sym (and-true (eqb b 1))); marks = λ z. rw (append-nil os) g; sized = refl }
-  walk-tied (suc k) b m os h g d = interval (inVolume n b) refl (walk-tied k (v b) (set m b 1) (os ++ (b ∷ [])))
+  walk-tied (suc k) b m os h g d = interval (in_volume n b) refl (walk-tied k (v b) (set m b 1) (os ++ (b ∷ [])))
     where
       Goal : Type 0
-      Goal = Tied (walk v n (suc k) b m) (endsAfter v n b (suc k) && distinct eqb (os ++ chain v b (suc k))) (os ++ chain v b (suc k)) (length m)
+      Goal = Tied (walk v n (suc k) b m) (ends_after v n b (suc k) && distinct eqb (os ++ chain v b (suc k))) (os ++ chain v b (suc k)) (length m)
 
       Ih : Type 0
       Ih = n ≤ length (set m b 1) → Marked (set m b 1) (os ++ (b ∷ [])) → distinct eqb (os ++ (b ∷ [])) ≡ true
-          → Tied (walk v n k (v b) (set m b 1)) (endsAfter v n (v b) k && distinct eqb (os ++ (b ∷ []) ++ chain v (v b) k))
+          → Tied (walk v n k (v b) (set m b 1)) (ends_after v n (v b) k && distinct eqb (os ++ (b ∷ []) ++ chain v (v b) k))
           (os ++ (b ∷ []) ++ chain v (v b) k) (length (set m b 1))
 
-      fresh : (t : Bool) → has eqb b os ≡ t → inVolume n b ≡ true → Ih → Goal
+      fresh : (t : Bool) → has eqb b os ≡ t → in_volume n b ≡ true → Ih → Goal
       fresh true e i r =
           let z : eqb (get_or m b 0) 0 ≡ false = g.at b ∙ rw e in
           rw (i, z, distinct-twice b os (chain v (v b) k) e)
-          (tied-false m (endsAfter v n (v b) k && false) (os ++ (b ∷ chain v (v b) k)) (and-false (endsAfter v n (v b) k)))
+          (tied-false m (ends_after v n (v b) k && false) (os ++ (b ∷ chain v (v b) k)) (and-false (ends_after v n (v b) k)))
       fresh false e i r =
           let z : eqb (get_or m b 0) 0 ≡ true = g.at b ∙ rw e in
-          let u : b < n = inVolume-below n b i in
+          let u : b < n = in_volume-below n b i in
           let l : length (set m b 1) ≡ length m = length-set m b 1 in
           rw (i, z) (rw (append_snoc os b (chain v (v b) k), l) at (r (omega arith) (marked_more m os b (omega arith) g) (distinct_more b os d e)))
 
-      interval : (t : Bool) → inVolume n b ≡ t → Ih → Goal
+      interval : (t : Bool) → in_volume n b ≡ t → Ih → Goal
       interval true e r = fresh (has eqb b os) refl e r
       interval false e r = rw e (tied-false m false (os ++ (b ∷ chain v (v b) k)) refl)
 
   pub follow-tied : (k b : ℕ) (m os : List ℕ) → n ≤ length m → Marked m os → distinct eqb os ≡ true
-      → Tied (follow v n k b m) (chainOk v n b k && distinct eqb (os ++ chain v b k)) (os ++ chain v b k) (length m)
-  unfolding follow chainOk chain
+      → Tied (follow v n k b m) (chain_ok v n b k && distinct eqb (os ++ chain v b k)) (os ++ chain v b k) (length m)
+  unfolding follow chain_ok chain
   follow-tied zero b m os h g d = record { ok = rw (append-nil os, d); marks = λ z. rw (append-nil os) g; sized = refl }
   follow-tied (suc k) b m os h g d = walk-tied (suc k) b m os h g d
 
-  pub followAll-tied : (cs : List (ℕ × ℕ)) (m os : List ℕ) → n ≤ length m → Marked m os → distinct eqb os ≡ true
-      → Tied (followAll v n cs m) (every (λ c. chainOk v n c.0 c.1) cs && distinct eqb (os ++ owned v cs)) (os ++ owned v cs) (length m)
-  unfolding followAll owned
-  followAll-tied [] m os h g d = record { ok = rw (append-nil os, d); marks = λ z. rw (append-nil os) g; sized = refl }
-  followAll-tied (c ∷ cs) m os h g d =
-      go (follow v n c.1 c.0 m).ok refl (followAll-tied cs (follow v n c.1 c.0 m).marks (os ++ chain v c.0 c.1))
+  pub follow_all-tied : (cs : List (ℕ × ℕ)) (m os : List ℕ) → n ≤ length m → Marked m os → distinct eqb os ≡ true
+      → Tied (follow_all v n cs m) (every (λ c. chain_ok v n c.0 c.1) cs && distinct eqb (os ++ owned v cs)) (os ++ owned v cs) (length m)
+  unfolding follow_all owned
+  follow_all-tied [] m os h g d = record { ok = rw (append-nil os, d); marks = λ z. rw (append-nil os) g; sized = refl }
+  follow_all-tied (c ∷ cs) m os h g d =
+      go (follow v n c.1 c.0 m).ok refl (follow_all-tied cs (follow v n c.1 c.0 m).marks (os ++ chain v c.0 c.1))
     where
       w : Walk
       w = follow v n c.1 c.0 m
@@ -113,11 +113,11 @@ module _ (v : ℕ → ℕ) (n : ℕ) where
       ch : List ℕ
       ch = chain v c.0 c.1
 
-      tied : Tied w (chainOk v n c.0 c.1 && distinct eqb (os ++ ch)) (os ++ ch) (length m)
+      tied : Tied w (chain_ok v n c.0 c.1 && distinct eqb (os ++ ch)) (os ++ ch) (length m)
       tied = follow-tied c.1 c.0 m os h g d
 
       all : Bool
-      all = every (λ c. chainOk v n c.0 c.1) cs
+      all = every (λ c. chain_ok v n c.0 c.1) cs
 
       rest : List ℕ
       rest = joined (λ c. chain v c.0 c.1) cs
@@ -129,18 +129,18 @@ module _ (v : ℕ → ℕ) (n : ℕ) where
 
       go : (t : Bool) → (follow v n c.1 c.0 m).ok ≡ t
           → (n ≤ length (follow v n c.1 c.0 m).marks → Marked (follow v n c.1 c.0 m).marks (os ++ ch) → distinct eqb (os ++ ch) ≡ true
-          → Tied (followAll v n cs (follow v n c.1 c.0 m).marks) (all && distinct eqb (os ++ ch ++ rest)) (os ++ ch ++ rest)
+          → Tied (follow_all v n cs (follow v n c.1 c.0 m).marks) (all && distinct eqb (os ++ ch ++ rest)) (os ++ ch ++ rest)
           (length (follow v n c.1 c.0 m).marks))
-          → Tied (cond (follow v n c.1 c.0 m).ok (followAll v n cs (follow v n c.1 c.0 m).marks) (follow v n c.1 c.0 m))
-          ((chainOk v n c.0 c.1 && all) && distinct eqb (os ++ (ch ++ rest))) (os ++ (ch ++ rest)) (length m)
+          → Tied (cond (follow v n c.1 c.0 m).ok (follow_all v n cs (follow v n c.1 c.0 m).marks) (follow v n c.1 c.0 m))
+          ((chain_ok v n c.0 c.1 && all) && distinct eqb (os ++ (ch ++ rest))) (os ++ (ch ++ rest)) (length m)
       go true e r =
-          let p = and_split (chainOk v n c.0 c.1) (distinct eqb (os ++ ch)) (sym tied.ok ∙ e) in
+          let p = and_split (chain_ok v n c.0 c.1) (distinct eqb (os ++ ch)) (sym tied.ok ∙ e) in
           let l : length w.marks ≡ length m = tied.sized in
           rw (e, p.0) (rw (append_assoc os ch rest, l) at (r (omega arith) (tied.marks e) p.1))
       go false e r =
           rw e
           record {
-            ok = sym (none (chainOk v n c.0 c.1) (distinct eqb (os ++ ch)) (distinct eqb (os ++ (ch ++ rest))) (sym tied.ok ∙ e)
+            ok = sym (none (chain_ok v n c.0 c.1) (distinct eqb (os ++ ch)) (distinct eqb (os ++ (ch ++ rest))) (sym tied.ok ∙ e)
                 (λ z. rw (← append_assoc os ch rest) (distinct-twice-left (os ++ ch) rest z)));
             marks = λ z. absurd (false≢true z);
             sized = tied.sized;

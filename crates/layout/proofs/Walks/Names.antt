@@ -11,16 +11,16 @@ use lib.Dec.{eqb, ltb, leb}
 use lib.ListN.{length, get_or, drop, replicate, length-drop, get_or-eq_default}
 use lib.Seq.{drop-cons, drop-length}
 use borrow.Author.Tests.{le-leb, lt-leb, lt-ltb, le-ltb, ne_eqb, eq-eqb, eqb-true, eqb-false}
-use Rattle.layout.specs.Limits.{maxName}
+use Rattle.layout.specs.Limits.{max_name}
 use Rattle.layout.specs.Lists.{every, same}
 use Rattle.layout.specs.Bytes.{zeros, part}
-use Rattle.layout.specs.Directory.{slash, nameByte, goodName, unpadded, name_of, padded}
+use Rattle.layout.specs.Directory.{slash, name_byte, good_name, unpadded, name_of, padded}
 use Rattle.layout.specs.Walks.Chains.{le32}
-use Rattle.layout.specs.Walks.Entries.{fieldOk, allZero, Scanned, Clean}
-use Rattle.layout.specs.Walks.Names.{ending, someHas, mayHold}
+use Rattle.layout.specs.Walks.Entries.{field_ok, all_zero, Scanned, Clean}
+use Rattle.layout.specs.Walks.Names.{ending, some_has, may_hold}
 use Rattle.layout.proofs.Laws.Bytes.{get_d_part}
-use Rattle.layout.proofs.Laws.Lists.{every_in, getD-in}
-use Rattle.layout.proofs.Laws.Names.{same-eq, same_refl, same-append, take-unpadded, unpadded-most, goodName-split, goodName-length}
+use Rattle.layout.proofs.Laws.Lists.{every_in, get_d-in}
+use Rattle.layout.proofs.Laws.Names.{same-eq, same_refl, same-append, take-unpadded, unpadded-most, good_name-split, good_name-length}
 use Rattle.layout.proofs.Laws.Tests.{and_split, and-join, is_false, true-not-false, lt-or-ge, below_more}
 
 pub same-lengths : (a b : List ℕ) → (length a ≡ length b → ⊥) → same a b ≡ false
@@ -44,34 +44,34 @@ same_more a b i w d w' ha hb ed ew = rw (drop-cons a i 0 ha, drop-cons b i 0 hb,
     go false e = rw (ne_eqb w' 0 (λ z. omega arith)) (and-false (eqb w 0))
 
 -- all of some bytes, of two runs, of none
-pub allZero-every : (xs : List ℕ) → allZero xs ≡ every (λ x. eqb x 0) xs
-unfolding allZero
-allZero-every [] = refl
-allZero-every (x ∷ xs) = ap (λ (t : Bool). eqb x 0 && t) (allZero-every xs)
+pub all_zero-every : (xs : List ℕ) → all_zero xs ≡ every (λ x. eqb x 0) xs
+unfolding all_zero
+all_zero-every [] = refl
+all_zero-every (x ∷ xs) = ap (λ (t : Bool). eqb x 0 && t) (all_zero-every xs)
 
-pub allZero-append : (xs ys : List ℕ) → allZero (xs ++ ys) ≡ allZero xs && allZero ys
-unfolding allZero
-allZero-append [] ys = refl
-allZero-append (x ∷ xs) ys = ap (λ (t : Bool). eqb x 0 && t) (allZero-append xs ys) ∙ assoc (eqb x 0) (allZero xs) (allZero ys)
+pub all_zero-append : (xs ys : List ℕ) → all_zero (xs ++ ys) ≡ all_zero xs && all_zero ys
+unfolding all_zero
+all_zero-append [] ys = refl
+all_zero-append (x ∷ xs) ys = ap (λ (t : Bool). eqb x 0 && t) (all_zero-append xs ys) ∙ assoc (eqb x 0) (all_zero xs) (all_zero ys)
   where
     assoc : (a b c : Bool) → (a && (b && c)) ≡ ((a && b) && c)
     assoc true b c = refl
     assoc false b c = refl
 
-pub allZero-none : allZero [] ≡ true
-unfolding allZero
-allZero-none = refl
+pub all_zero-none : all_zero [] ≡ true
+unfolding all_zero
+all_zero-none = refl
 
-pub allZero-end : (s : List ℕ) (w : ℕ) → eqb w 0 ≡ eqb w 0 && allZero (drop (length s) s)
-unfolding allZero
-allZero-end s w = rw drop-length (sym (and-true (eqb w 0)))
+pub all_zero-end : (s : List ℕ) (w : ℕ) → eqb w 0 ≡ eqb w 0 && all_zero (drop (length s) s)
+unfolding all_zero
+all_zero-end s w = rw drop-length (sym (and-true (eqb w 0)))
 
-pub allZero-more : (s : List ℕ) (i w w' : ℕ) → i < length s → w' ≡ max w (get_or s i 0)
-    → eqb w 0 && allZero (drop i s) ≡ eqb w' 0 && allZero (drop (i + 1) s)
-unfolding allZero
-allZero-more s i w w' h e = rw (drop-cons s i 0 h, add-one) (go (eqb (get_or s i 0) 0) refl)
+pub all_zero-more : (s : List ℕ) (i w w' : ℕ) → i < length s → w' ≡ max w (get_or s i 0)
+    → eqb w 0 && all_zero (drop i s) ≡ eqb w' 0 && all_zero (drop (i + 1) s)
+unfolding all_zero
+all_zero-more s i w w' h e = rw (drop-cons s i 0 h, add-one) (go (eqb (get_or s i 0) 0) refl)
   where
-    go : (t : Bool) → eqb (get_or s i 0) 0 ≡ t → eqb w 0 && (t && allZero (drop (suc i) s)) ≡ eqb w' 0 && allZero (drop (suc i) s)
+    go : (t : Bool) → eqb (get_or s i 0) 0 ≡ t → eqb w 0 && (t && all_zero (drop (suc i) s)) ≡ eqb w' 0 && all_zero (drop (suc i) s)
     go true z =
         let x : get_or s i 0 ≡ 0 = eqb-true (get_or s i 0) 0 z in
         let q : w ≡ w' = omega arith in
@@ -80,10 +80,10 @@ allZero-more s i w w' h e = rw (drop-cons s i 0 h, add-one) (go (eqb (get_or s i
         let x : get_or s i 0 ≡ 0 → ⊥ = eqb-false (get_or s i 0) 0 z in
         rw (ne_eqb w' 0 (λ y. x (omega arith))) (and-false (eqb w 0))
 
-allZero-same : (s : List ℕ) → allZero s ≡ same s (replicate (length s) 0)
-unfolding allZero
-allZero-same [] = refl
-allZero-same (x ∷ xs) = rw (allZero-same xs)
+all_zero-same : (s : List ℕ) → all_zero s ≡ same s (replicate (length s) 0)
+unfolding all_zero
+all_zero-same [] = refl
+all_zero-same (x ∷ xs) = rw (all_zero-same xs)
 
 -- the bytes before the first zero
 nonzero : (x : ℕ) (xs : List ℕ) → (x ≡ 0 → ⊥) → unpadded (x ∷ xs) ≡ x ∷ unpadded xs
@@ -99,30 +99,30 @@ module _ (f : List ℕ) (i : ℕ) (h : i < length f) where
 
 -- a good name
 module _ (name : List ℕ) where
-  pub goodName-empty : length name < 1 → goodName name ≡ false
-  unfolding goodName
-  goodName-empty h = rw (lt-leb 1 (length name) h)
+  pub good_name-empty : length name < 1 → good_name name ≡ false
+  unfolding good_name
+  good_name-empty h = rw (lt-leb 1 (length name) h)
 
-  pub goodName-long : maxName < length name → goodName name ≡ false
-  unfolding goodName
-  goodName-long h = rw (le-leb 1 (length name) (omega arith), lt-leb (length name) maxName h)
+  pub good_name-long : max_name < length name → good_name name ≡ false
+  unfolding good_name
+  good_name-long h = rw (le-leb 1 (length name) (omega arith), lt-leb (length name) max_name h)
 
-  pub goodName-bytes : 1 ≤ length name → length name ≤ maxName → goodName name ≡ every nameByte name
-  unfolding goodName
-  goodName-bytes h g = rw (le-leb 1 (length name) h, le-leb (length name) maxName g)
+  pub good_name-bytes : 1 ≤ length name → length name ≤ max_name → good_name name ≡ every name_byte name
+  unfolding good_name
+  good_name-bytes h g = rw (le-leb 1 (length name) h, le-leb (length name) max_name g)
 
-  pub nameBytes-zero : (i : ℕ) → i < length name → get_or name i 0 ≡ 0 → every nameByte (drop i name) ≡ false
-  nameBytes-zero i h z = rw (drop-cons name i 0 h, z)
+  pub name_bytes-zero : (i : ℕ) → i < length name → get_or name i 0 ≡ 0 → every name_byte (drop i name) ≡ false
+  name_bytes-zero i h z = rw (drop-cons name i 0 h, z)
 
-  pub nameBytes-slash : (i : ℕ) → i < length name → get_or name i 0 ≡ slash → every nameByte (drop i name) ≡ false
-  nameBytes-slash i h z = rw (drop-cons name i 0 h, z)
+  pub name_bytes-slash : (i : ℕ) → i < length name → get_or name i 0 ≡ slash → every name_byte (drop i name) ≡ false
+  name_bytes-slash i h z = rw (drop-cons name i 0 h, z)
 
-  pub nameBytes-next : (i : ℕ) → i < length name → (get_or name i 0 ≡ 0 → ⊥) → (get_or name i 0 ≡ slash → ⊥)
-      → every nameByte (drop i name) ≡ every nameByte (drop (i + 1) name)
-  nameBytes-next i h z w = rw (drop-cons name i 0 h, ne_eqb (get_or name i 0) 0 z, ne_eqb (get_or name i 0) slash w, add-one)
+  pub name_bytes-next : (i : ℕ) → i < length name → (get_or name i 0 ≡ 0 → ⊥) → (get_or name i 0 ≡ slash → ⊥)
+      → every name_byte (drop i name) ≡ every name_byte (drop (i + 1) name)
+  name_bytes-next i h z w = rw (drop-cons name i 0 h, ne_eqb (get_or name i 0) 0 z, ne_eqb (get_or name i 0) slash w, add-one)
 
-  pub nameBytes-end : (i : ℕ) → i ≡ length name → every nameByte (drop i name) ≡ true
-  nameBytes-end i e = rw (e, drop-length name)
+  pub name_bytes-end : (i : ℕ) → i ≡ length name → every name_byte (drop i name) ≡ true
+  name_bytes-end i e = rw (e, drop-length name)
 
 -- a field and a good name, compared from the end
 unpadded-byte : (f : List ℕ) (j : ℕ) → j < length (unpadded f) → get_or f j 0 ≡ get_or (unpadded f) j 0
@@ -147,7 +147,7 @@ module _ (f name : List ℕ) where
       let e : unpadded f ≡ name = same-eq (unpadded f) name t in
       h (unpadded-byte f j (rw e l) ∙ ap (λ (x : List ℕ). get_or x j 0) e))
 
-holds-bytes : (f name : List ℕ) → every nameByte name ≡ true → ((j : ℕ) → j < length name → get_or f j 0 ≡ get_or name j 0) → get_or f (length name) 0 ≡ 0
+holds-bytes : (f name : List ℕ) → every name_byte name ≡ true → ((j : ℕ) → j < length name → get_or f j 0 ≡ get_or name j 0) → get_or f (length name) 0 ≡ 0
     → unpadded f ≡ name
 holds-bytes [] [] good bytes stop = refl
 holds-bytes (zero ∷ xs) [] good bytes stop = refl
@@ -156,12 +156,12 @@ holds-bytes f (zero ∷ ys) good bytes stop = absurd (false≢true good)
 holds-bytes [] (suc y ∷ ys) good bytes stop = absurd (suc-ne-zero y (sym (bytes 0 (omega arith))))
 holds-bytes (x ∷ xs) (suc y ∷ ys) good bytes stop =
     let e : x ≡ suc y = bytes 0 (omega arith) in
-    let r = holds-bytes xs ys (and_split (nameByte (suc y)) (every nameByte ys) good).1 (λ j h. bytes (suc j) (omega arith)) stop in
+    let r = holds-bytes xs ys (and_split (name_byte (suc y)) (every name_byte ys) good).1 (λ j h. bytes (suc j) (omega arith)) stop in
     rw (e, r)
 
-pub holds-all : (f name : List ℕ) → goodName name ≡ true → ((j : ℕ) → j < length name → get_or f j 0 ≡ get_or name j 0) → get_or f (length name) 0 ≡ 0
+pub holds-all : (f name : List ℕ) → good_name name ≡ true → ((j : ℕ) → j < length name → get_or f j 0 ≡ get_or name j 0) → get_or f (length name) 0 ≡ 0
     → same (unpadded f) name ≡ true
-holds-all f name good bytes stop = rw (holds-bytes f name (goodName-split name good).2 bytes stop) (same_refl name)
+holds-all f name good bytes stop = rw (holds-bytes f name (good_name-split name good).2 bytes stop) (same_refl name)
 
 -- a field, byte by byte
 pub scanned-none : (f : List ℕ) → Scanned f 0 0 0
@@ -242,9 +242,9 @@ clean-more f i clean g x c ex ec = go (eqb x slash) refl
           some = λ h. let w = g.some (omega arith) in (w.0, omega (arith, w.1), w.2);
         }
 
-goodName-clean : (name : List ℕ) (i : ℕ) → goodName name ≡ true → i < length name → get_or name i 0 ≡ slash → ⊥
-goodName-clean name i e h z =
-    false≢true (sym (ap nameByte z) ∙ every_in nameByte name (get_or name i 0) (goodName-split name e).2 (getD-in name i 0 h))
+good_name-clean : (name : List ℕ) (i : ℕ) → good_name name ≡ true → i < length name → get_or name i 0 ≡ slash → ⊥
+good_name-clean name i e h z =
+    false≢true (sym (ap name_byte z) ∙ every_in name_byte name (get_or name i 0) (good_name-split name e).2 (get_d-in name i 0 h))
 
 -- what the whole field is
 unpadded-length : (f : List ℕ) (k : ℕ) → k ≤ length f → ((j : ℕ) → j < k → get_or f j 0 ≡ 0 → ⊥) → get_or f k 0 ≡ 0 → length (unpadded f) ≡ k
@@ -260,60 +260,60 @@ unpadded-before (zero ∷ xs) j z = omega arith
 unpadded-before (suc x ∷ xs) zero z = absurd (suc-ne-zero x z)
 unpadded-before (suc x ∷ xs) (suc j) z = let h = unpadded-before xs j z in omega arith
 
-unpadded-good : (f : List ℕ) → ((j : ℕ) → j < length (unpadded f) → get_or f j 0 ≡ slash → ⊥) → every nameByte (unpadded f) ≡ true
+unpadded-good : (f : List ℕ) → ((j : ℕ) → j < length (unpadded f) → get_or f j 0 ≡ slash → ⊥) → every name_byte (unpadded f) ≡ true
 unpadded-good [] h = refl
 unpadded-good (zero ∷ xs) h = refl
 unpadded-good (suc x ∷ xs) h =
     rw (ne_eqb (suc x) 0 (suc-ne-zero x), ne_eqb (suc x) slash (h 0 (omega arith))) (unpadded-good xs (λ j l. h (suc j) (omega arith)))
 
-allZero-all : (f : List ℕ) (k : ℕ) → ((j : ℕ) → k ≤ j → j < length f → get_or f j 0 ≡ 0) → allZero (drop k f) ≡ true
-unfolding allZero
-allZero-all [] zero h = refl
-allZero-all [] (suc k) h = refl
-allZero-all (x ∷ xs) zero h =
-    and-join (eq-eqb x 0 (h 0 (omega arith) (omega arith))) (allZero-all xs zero (λ j a b. h (suc j) (omega arith) (omega arith)))
-allZero-all (x ∷ xs) (suc k) h = allZero-all xs k (λ j a b. h (suc j) (omega arith) (omega arith))
+all_zero-all : (f : List ℕ) (k : ℕ) → ((j : ℕ) → k ≤ j → j < length f → get_or f j 0 ≡ 0) → all_zero (drop k f) ≡ true
+unfolding all_zero
+all_zero-all [] zero h = refl
+all_zero-all [] (suc k) h = refl
+all_zero-all (x ∷ xs) zero h =
+    and-join (eq-eqb x 0 (h 0 (omega arith) (omega arith))) (all_zero-all xs zero (λ j a b. h (suc j) (omega arith) (omega arith)))
+all_zero-all (x ∷ xs) (suc k) h = all_zero-all xs k (λ j a b. h (suc j) (omega arith) (omega arith))
 
-pub allZero-byte : (f : List ℕ) (k j : ℕ) → allZero (drop k f) ≡ true → k ≤ j → get_or f j 0 ≡ 0
-unfolding allZero
-allZero-byte [] k j t h = refl
-allZero-byte (x ∷ xs) zero zero t h = eqb-true x 0 (and_split (eqb x 0) (allZero xs) t).0
-allZero-byte (x ∷ xs) zero (suc j) t h = allZero-byte xs zero j (and_split (eqb x 0) (allZero xs) t).1 (omega arith)
-allZero-byte (x ∷ xs) (suc k) zero t h = absurd (not-suc-le-zero h)
-allZero-byte (x ∷ xs) (suc k) (suc j) t h = allZero-byte xs k j t (le_of_suc-le-suc h)
+pub all_zero-byte : (f : List ℕ) (k j : ℕ) → all_zero (drop k f) ≡ true → k ≤ j → get_or f j 0 ≡ 0
+unfolding all_zero
+all_zero-byte [] k j t h = refl
+all_zero-byte (x ∷ xs) zero zero t h = eqb-true x 0 (and_split (eqb x 0) (all_zero xs) t).0
+all_zero-byte (x ∷ xs) zero (suc j) t h = all_zero-byte xs zero j (and_split (eqb x 0) (all_zero xs) t).1 (omega arith)
+all_zero-byte (x ∷ xs) (suc k) zero t h = absurd (not-suc-le-zero h)
+all_zero-byte (x ∷ xs) (suc k) (suc j) t h = all_zero-byte xs k j t (le_of_suc-le-suc h)
 
 module _ (f : List ℕ) (size : length f ≡ 80) where
   -- the name's end, and zeros from there on
-  rest-zero : same f (padded (unpadded f)) ≡ allZero (drop (length (unpadded f)) f)
+  rest-zero : same f (padded (unpadded f)) ≡ all_zero (drop (length (unpadded f)) f)
   unfolding zeros
   rest-zero =
       let l = unpadded-most f in
       let r : 80 - length (unpadded f) ≡ length (drop (length (unpadded f)) f) = simp length-drop (omega arith) in
-      same-append f (unpadded f) (replicate (80 - length (unpadded f)) 0) (omega arith) ∙ rw (take-unpadded f, same_refl (unpadded f), r, allZero-same)
+      same-append f (unpadded f) (replicate (80 - length (unpadded f)) 0) (omega arith) ∙ rw (take-unpadded f, same_refl (unpadded f), r, all_zero-same)
 
-  field-good : fieldOk f ≡ true → goodName (unpadded f) ≡ true
-  unfolding fieldOk
-  field-good t = (and_split (goodName (unpadded f)) _ t).0
+  field-good : field_ok f ≡ true → good_name (unpadded f) ≡ true
+  unfolding field_ok
+  field-good t = (and_split (good_name (unpadded f)) _ t).0
 
-  field-zero : fieldOk f ≡ true → (j : ℕ) → length (unpadded f) ≤ j → get_or f j 0 ≡ 0
-  unfolding fieldOk
-  field-zero t j h = allZero-byte f (length (unpadded f)) j (sym rest-zero ∙ (and_split (goodName (unpadded f)) _ t).1) h
+  field-zero : field_ok f ≡ true → (j : ℕ) → length (unpadded f) ≤ j → get_or f j 0 ≡ 0
+  unfolding field_ok
+  field-zero t j h = all_zero-byte f (length (unpadded f)) j (sym rest-zero ∙ (and_split (good_name (unpadded f)) _ t).1) h
 
   module _ (count last clean : ℕ) (g : Scanned f 80 count last) (s : Clean f 80 clean) where
-    pub fieldOk-gap : (count ≡ last → ⊥) → fieldOk f ≡ false
-    fieldOk-gap ne = is_false _ (λ t. go t (g.gap (omega (arith, g.low))))
+    pub field_ok-gap : (count ≡ last → ⊥) → field_ok f ≡ false
+    field_ok-gap ne = is_false _ (λ t. go t (g.gap (omega (arith, g.low))))
       where
-        go : fieldOk f ≡ true → (j : ℕ) × (j + 1 < last) × (get_or f j 0 ≡ 0) → ⊥
+        go : field_ok f ≡ true → (j : ℕ) × (j + 1 < last) × (get_or f j 0 ≡ 0) → ⊥
         go t w =
             let b = unpadded-before f w.0 w.2 in
             g.top (omega (arith, w.1)) (field-zero t (last - 1) (omega (arith, b, w.1)))
 
-    pub fieldOk-slash : (clean ≡ 80 → ⊥) → fieldOk f ≡ false
-    fieldOk-slash ne = is_false _ (λ t. go t (s.some (omega (arith, s.most))))
+    pub field_ok-slash : (clean ≡ 80 → ⊥) → field_ok f ≡ false
+    field_ok-slash ne = is_false _ (λ t. go t (s.some (omega (arith, s.most))))
       where
-        go : fieldOk f ≡ true → (j : ℕ) × (j < 80) × (get_or f j 0 ≡ slash) → ⊥
+        go : field_ok f ≡ true → (j : ℕ) × (j < 80) × (get_or f j 0 ≡ slash) → ⊥
         go t w =
-            ⊎_elim (λ l. goodName-clean (unpadded f) w.0 (field-good t) l (sym (unpadded-byte f w.0 l) ∙ w.2))
+            ⊎_elim (λ l. good_name-clean (unpadded f) w.0 (field-good t) l (sym (unpadded-byte f w.0 l) ∙ w.2))
             (λ l. let z = field-zero t w.0 l in let y = w.2 in omega (arith, z, y)) (lt-or-ge w.0 (length (unpadded f)))
 
     module _ (e : count ≡ last) (c : clean ≡ 80) where
@@ -323,12 +323,12 @@ module _ (f : List ℕ) (size : length f ≡ 80) where
       name-long : length (unpadded f) ≡ count
       name-long = unpadded-length f count (omega (arith, size, e, g.high)) (λ j a. g.full e j (omega (arith, e))) ends
 
-      pub fieldOk-count : ltb 0 count ≡ fieldOk f
-      unfolding fieldOk goodName
-      fieldOk-count =
-          let z : allZero (drop (length (unpadded f)) f) ≡ true = allZero-all f (length (unpadded f)) (λ j a b. g.rest j (omega (arith, name-long, e)) (omega (arith, size))) in
+      pub field_ok-count : ltb 0 count ≡ field_ok f
+      unfolding field_ok good_name
+      field_ok-count =
+          let z : all_zero (drop (length (unpadded f)) f) ≡ true = all_zero-all f (length (unpadded f)) (λ j a b. g.rest j (omega (arith, name-long, e)) (omega (arith, size))) in
           let q = unpadded-good f (λ j a. s.none c j (omega (arith, name-long, e, g.high))) in
-          rw (rest-zero, z, q, name-long, le-leb count maxName (omega (arith, e, g.high))) (go (leb 1 count))
+          rw (rest-zero, z, q, name-long, le-leb count max_name (omega (arith, e, g.high))) (go (leb 1 count))
         where
           go : (t : Bool) → t ≡ ((t && true) && true) && true
           go true = refl
@@ -344,16 +344,16 @@ unfolding ending
 ending-word name h = rw (le-ltb _ _ h)
 
 -- whether a block may hold a name
-pub mayHold-short : (s name : List ℕ) → length name < 4 → true ≡ mayHold s name
-unfolding mayHold
-mayHold-short s name h = rw (lt-ltb _ _ h)
+pub may_hold-short : (s name : List ℕ) → length name < 4 → true ≡ may_hold s name
+unfolding may_hold
+may_hold-short s name h = rw (lt-ltb _ _ h)
 
-pub mayHold-some : (s name : List ℕ) → 4 ≤ length name → someHas s (44 + length name) (ending name) ≡ mayHold s name
-unfolding mayHold
-mayHold-some s name h = rw (le-ltb _ _ h)
+pub may_hold-some : (s name : List ℕ) → 4 ≤ length name → some_has s (44 + length name) (ending name) ≡ may_hold s name
+unfolding may_hold
+may_hold-some s name h = rw (le-ltb _ _ h)
 
-some-has : (s : List ℕ) (at w i : ℕ) → i < 4 → le32 s (at + 128 * i) ≡ w → someHas s at w ≡ true
-unfolding someHas
+some-has : (s : List ℕ) (at w i : ℕ) → i < 4 → le32 s (at + 128 * i) ≡ w → some_has s at w ≡ true
+unfolding some_has
 some-has s at w i l e = go i l (eq-eqb (le32 s (at + 128 * i)) w e)
   where
     go : (i : ℕ) → i < 4 → eqb (le32 s (at + 128 * i)) w ≡ true → (eqb (le32 s at) w || (eqb (le32 s (at + 128)) w || (eqb (le32 s (at + 256)) w || eqb (le32 s (at + 384)) w))) ≡ true
@@ -364,12 +364,12 @@ some-has s at w i l e = go i l (eq-eqb (le32 s (at + 128 * i)) w e)
     go (suc (suc (suc (suc i)))) h t = absurd (omega arith)
 
 -- an entry that has a good name has its ending, so that its block may hold it
-held-ending : (s name : List ℕ) (i : ℕ) → goodName name ≡ true → 4 ≤ length name → same (name_of s (128 * i)) name ≡ true → le32 s (44 + length name + 128 * i) ≡ ending name
+held-ending : (s name : List ℕ) (i : ℕ) → good_name name ≡ true → 4 ≤ length name → same (name_of s (128 * i)) name ≡ true → le32 s (44 + length name + 128 * i) ≡ ending name
 unfolding name_of
 held-ending s name i good h t =
     let f : List ℕ = part s (128 * i + 48) 80 in
     let e : unpadded f ≡ name = same-eq (unpadded f) name t in
-    let few : length name ≤ 80 = goodName-length name good in
+    let few : length name ≤ 80 = good_name-length name good in
     let at : (x j : ℕ) → j < length name → x ≡ 128 * i + 48 + j → get_or s x 0 ≡ get_or name j 0 =
     λ x j l q. ap (λ (y : ℕ). get_or s y 0) q ∙ sym (get_d_part s (128 * i + 48) 80 j (omega arith)) ∙ unpadded-byte f j (rw e l) ∙ ap (λ (y : List ℕ). get_or y j 0) e in
     let k : ℕ = length name - 4 in
@@ -379,8 +379,8 @@ held-ending s name i good h t =
     let d = at (44 + length name + 128 * i + 3) (k + 3) (omega arith) (omega arith) in
     rw (a, b, c, d) (ending-word name h)
 
-pub mayHold-none : (s name : List ℕ) (i : ℕ) → goodName name ≡ true → false ≡ mayHold s name → i < 4 → same (name_of s (128 * i)) name ≡ false
-mayHold-none s name i good m l = is_false _ λ t.
-    ⊎_elim (λ h. true-not-false (sym (mayHold-short s name h)) (sym m))
-    (λ h. true-not-false (some-has s (44 + length name) (ending name) i l (held-ending s name i good h t)) (mayHold-some s name h ∙ sym m))
+pub may_hold-none : (s name : List ℕ) (i : ℕ) → good_name name ≡ true → false ≡ may_hold s name → i < 4 → same (name_of s (128 * i)) name ≡ false
+may_hold-none s name i good m l = is_false _ λ t.
+    ⊎_elim (λ h. true-not-false (sym (may_hold-short s name h)) (sym m))
+    (λ h. true-not-false (some-has s (44 + length name) (ending name) i l (held-ending s name i good h t)) (may_hold-some s name h ∙ sym m))
     (lt-or-ge (length name) 4)

@@ -11,18 +11,18 @@ use borrow.Author.Tests.{eqb-false, eqb-true, eq-eqb, ne_eqb}
 use Rattle.layout.specs.Lists.{interval, same, lowest}
 use Rattle.layout.specs.Bytes.{be32, part, block}
 use Rattle.layout.specs.Table.{next, chain}
-use Rattle.layout.specs.Directory.{slot_at, type_of, blocksOf, goodName, slot_of, freeSlot}
+use Rattle.layout.specs.Directory.{slot_at, type_of, blocks_of, good_name, slot_of, free_slot}
 use Rattle.layout.specs.Walks.Chains.{walked, follow}
-use Rattle.layout.specs.Walks.Entries.{selfOk}
-use Rattle.layout.specs.Walks.Names.{mayHold}
+use Rattle.layout.specs.Walks.Entries.{self_ok}
+use Rattle.layout.specs.Walks.Names.{may_hold}
 use Rattle.layout.specs.Walks.Shapes.{Blocks}
-use Rattle.layout.specs.Walks.Slots.{Place, entry_at, slotBlock, entryNamed, slotFree, slotFrom, slotIn, allFree, Stands}
-use Rattle.layout.specs.Walks.Stages.{followDirectory}
+use Rattle.layout.specs.Walks.Slots.{Place, entry_at, slot_block, entry_named, slot_free, slot_from, slot_in, all_free, Stands}
+use Rattle.layout.specs.Walks.Stages.{follow_directory}
 use Rattle.layout.proofs.Laws.Chains.{chain_next}
 use Rattle.layout.proofs.Laws.Entries.{named-in-part}
 use Rattle.layout.proofs.Laws.Lists.{interval-next, lowest-met, lowest-none, lowest-skip, lowest-first, select-same}
 use Rattle.layout.proofs.Laws.Tests.{is_false}
-use Rattle.layout.proofs.Walks.Names.{mayHold-none}
+use Rattle.layout.proofs.Walks.Names.{may_hold-none}
 
 pub place-below : (n : ℕ) (ds : List ℕ) (d b k j : ℕ) → Blocks n d ds → Place ds d b k j → b < n
 place-below n ds d b k j bs p = rw p.here (bs.below (k / 4) (omega arith))
@@ -35,9 +35,9 @@ pub place-entry : (ds : List ℕ) (d b k j : ℕ) → Place ds d b k j → entry
 place-entry ds d b k j p = entry-slot ds b k p.here
 
 -- m slots on, within the block or to the first of the next one
-pub place-on : (v : ℕ → ℕ) (f d b k j m r : ℕ) → Place (chain v f d) d b k j → 0 < m → m ≤ j → k % 4 + m ≤ 4 → r ≡ slotBlock v b (k + m)
+pub place-on : (v : ℕ → ℕ) (f d b k j m r : ℕ) → Place (chain v f d) d b k j → 0 < m → m ≤ j → k % 4 + m ≤ 4 → r ≡ slot_block v b (k + m)
     → Place (chain v f d) d r (k + m) (j - m)
-unfolding slotBlock
+unfolding slot_block
 place-on v f d b k j m r p h g one w = rw w (go (eqb ((k + m) % 4) 0) refl)
   where
     go : (t : Bool) → eqb ((k + m) % 4) 0 ≡ t → Place (chain v f d) d (cond (eqb ((k + m) % 4) 0) (v b) b) (k + m) (j - m)
@@ -50,7 +50,7 @@ place-on v f d b k j m r p h g one w = rw w (go (eqb ((k + m) % 4) 0) refl)
         let q : (k + m) / 4 ≡ k / 4 = omega arith in
         rw e (record { here = rw q p.here; left = omega (arith, p.left) })
 
-pub place-then : (v : ℕ → ℕ) (f d b k j r : ℕ) → Place (chain v f d) d b k j → 0 < j → r ≡ slotBlock v b (k + 1) → Place (chain v f d) d r (k + 1) (j - 1)
+pub place-then : (v : ℕ → ℕ) (f d b k j r : ℕ) → Place (chain v f d) d b k j → 0 < j → r ≡ slot_block v b (k + 1) → Place (chain v f d) d r (k + 1) (j - 1)
 place-then v f d b k j r p h e = place-on v f d b k j 1 r p (omega arith) h (omega arith) e
 
 pub place-first : (v : ℕ → ℕ) (f d : ℕ) → 1 ≤ d → Place (chain v f d) d f 1 (4 * d - 2)
@@ -61,44 +61,44 @@ place-first v f d h =
 
 -- a directory's self entry and chain
 module _ (s : List ℕ) (n b parent : ℕ) (m : List ℕ) where
-  pub followDirectory-refused : false ≡ selfOk s (512 * b) b parent → followDirectory s n b parent m ≡ walked false m
-  unfolding followDirectory
-  followDirectory-refused h = rw (← h)
+  pub follow_directory-refused : false ≡ self_ok s (512 * b) b parent → follow_directory s n b parent m ≡ walked false m
+  unfolding follow_directory
+  follow_directory-refused h = rw (← h)
 
-  pub followDirectory-chain : true ≡ selfOk s (512 * b) b parent → (d : ℕ) → d ≡ be32 s (entry_at b 0 + 12)
-      → followDirectory s n b parent m ≡ follow (next s) n d b m
-  unfolding followDirectory
-  followDirectory-chain h d e =
-      let z : d ≡ blocksOf s (512 * b) = e ∙ ap (λ (j : ℕ). be32 s j) (omega arith) in
+  pub follow_directory-chain : true ≡ self_ok s (512 * b) b parent → (d : ℕ) → d ≡ be32 s (entry_at b 0 + 12)
+      → follow_directory s n b parent m ≡ follow (next s) n d b m
+  unfolding follow_directory
+  follow_directory-chain h d e =
+      let z : d ≡ blocks_of s (512 * b) = e ∙ ap (λ (j : ℕ). be32 s j) (omega arith) in
       rw (← h, ← z)
 
 -- the slots from k on are free
 module _ (s ds : List ℕ) (k j e type : ℕ) (at : e ≡ slot_at ds k) (et : type ≡ type_of s e) where
-  pub allFree-next : 0 < j → type ≡ 0 → allFree s ds k j ≡ allFree s ds (k + 1) (j - 1)
-  unfolding allFree
-  allFree-next h z = rw (interval-next k j h, ← at, ← et, eq-eqb type 0 z)
+  pub all_free-next : 0 < j → type ≡ 0 → all_free s ds k j ≡ all_free s ds (k + 1) (j - 1)
+  unfolding all_free
+  all_free-next h z = rw (interval-next k j h, ← at, ← et, eq-eqb type 0 z)
 
-  pub allFree-stop : 0 < j → (type ≡ 0 → ⊥) → allFree s ds k j ≡ false
-  unfolding allFree
-  allFree-stop h z = rw (interval-next k j h, ← at, ← et, ne_eqb type 0 z)
+  pub all_free-stop : 0 < j → (type ≡ 0 → ⊥) → all_free s ds k j ≡ false
+  unfolding all_free
+  all_free-stop h z = rw (interval-next k j h, ← at, ← et, ne_eqb type 0 z)
 
-pub allFree-end : (s ds : List ℕ) (k j : ℕ) → j ≡ 0 → allFree s ds k j ≡ true
-unfolding allFree
-allFree-end s ds k j e = rw e
+pub all_free-end : (s ds : List ℕ) (k j : ℕ) → j ≡ 0 → all_free s ds k j ≡ true
+unfolding all_free
+all_free-end s ds k j e = rw e
 
 -- the search for a slot whose entry passes a test
 module _ (test : ℕ → Bool) (ds : List ℕ) (k j : ℕ) where
-  pub slotFrom-end : j ≡ 0 → slotFrom test ds k j ≡ 0
-  unfolding slotFrom
-  slotFrom-end e = rw e
+  pub slot_from-end : j ≡ 0 → slot_from test ds k j ≡ 0
+  unfolding slot_from
+  slot_from-end e = rw e
 
-  pub slotFrom-here : (e : ℕ) → e ≡ slot_at ds k → 0 < j → true ≡ test e → slotFrom test ds k j ≡ k
-  unfolding slotFrom
-  slotFrom-here e q h t = rw (interval-next k j h, ← q, ← t)
+  pub slot_from-here : (e : ℕ) → e ≡ slot_at ds k → 0 < j → true ≡ test e → slot_from test ds k j ≡ k
+  unfolding slot_from
+  slot_from-here e q h t = rw (interval-next k j h, ← q, ← t)
 
-  pub slotFrom-next : (e : ℕ) → e ≡ slot_at ds k → 0 < j → false ≡ test e → slotFrom test ds k j ≡ slotFrom test ds (k + 1) (j - 1)
-  unfolding slotFrom
-  slotFrom-next e q h t = rw (interval-next k j h, ← q, ← t)
+  pub slot_from-next : (e : ℕ) → e ≡ slot_at ds k → 0 < j → false ≡ test e → slot_from test ds k j ≡ slot_from test ds (k + 1) (j - 1)
+  unfolding slot_from
+  slot_from-next e q h t = rw (interval-next k j h, ← q, ← t)
 
 -- the search in one block: of the j slots from k on, which are in block b, none passes, or the lowest that does is given
 module _ (test : ℕ → Bool) (ds : List ℕ) (d b k left j : ℕ) (p : Place ds d b k left) (one : k % 4 + j ≤ 4) (h : j ≤ left) (low : 1 ≤ k) where
@@ -108,37 +108,37 @@ module _ (test : ℕ → Bool) (ds : List ℕ) (d b k left j : ℕ) (p : Place d
   entry-within : (x : ℕ) → k ≤ x → x < k + j → test (slot_at ds x) ≡ test (entry_at b x)
   entry-within x g l = ap test (sym (place-entry ds d b x (left - (x - k)) (place-within x g l)))
 
-  slotIn-same : lowest (λ x. test (slot_at ds x)) (interval k j) ≡ slotIn test b k j
-  slotIn-same = ap (λ (l : List ℕ). get_or l 0 0) (select-same (λ x. test (entry_at b x)) (λ x. test (slot_at ds x)) j k entry-within)
+  slot_in-same : lowest (λ x. test (slot_at ds x)) (interval k j) ≡ slot_in test b k j
+  slot_in-same = ap (λ (l : List ℕ). get_or l 0 0) (select-same (λ x. test (entry_at b x)) (λ x. test (slot_at ds x)) j k entry-within)
 
-  pub slotFrom-skip : slotIn test b k j ≡ 0 → slotFrom test ds k left ≡ slotFrom test ds (k + j) (left - j)
-  unfolding slotFrom
-  slotFrom-skip z =
+  pub slot_from-skip : slot_in test b k j ≡ 0 → slot_from test ds k left ≡ slot_from test ds (k + j) (left - j)
+  unfolding slot_from
+  slot_from-skip z =
       lowest-skip (λ x. test (slot_at ds x)) j k left h
-      (λ i g l. is_false _ (λ t. lowest-none (λ x. test (slot_at ds x)) k j low (slotIn-same ∙ z) i g l t))
+      (λ i g l. is_false _ (λ t. lowest-none (λ x. test (slot_at ds x)) k j low (slot_in-same ∙ z) i g l t))
 
-  pub slotFrom-in : slotIn test b k j ≢ 0 → (slotFrom test ds k left ≡ slotIn test b k j) × Place ds d b (slotIn test b k j) (left - (slotIn test b k j - k)) × (1 ≤ slotIn test b k j)
-  unfolding slotFrom
-  slotFrom-in ne =
+  pub slot_from-in : slot_in test b k j ≢ 0 → (slot_from test ds k left ≡ slot_in test b k j) × Place ds d b (slot_in test b k j) (left - (slot_in test b k j - k)) × (1 ≤ slot_in test b k j)
+  unfolding slot_from
+  slot_from-in ne =
       let m = lowest-met (λ x. test (entry_at b x)) k j ne in (
-        lowest-first (λ x. test (slot_at ds x)) j k left h (λ z. ne (sym slotIn-same ∙ z)) ∙ slotIn-same,
-        place-within (slotIn test b k j) m.0 m.1,
+        lowest-first (λ x. test (slot_at ds x)) j k left h (λ z. ne (sym slot_in-same ∙ z)) ∙ slot_in-same,
+        place-within (slot_in test b k j) m.0 m.1,
         omega (arith, m.0),
       )
 
-pub slotOf-from : (type : ℕ → Bool) (s ds name : List ℕ) (d : ℕ) → length ds ≡ d → slot_of type s ds name ≡ slotFrom (entryNamed type s name) ds 1 (4 * d - 2)
-unfolding slot_of slotFrom
-slotOf-from type s ds name d size = rw size
+pub slot_of-from : (type : ℕ → Bool) (s ds name : List ℕ) (d : ℕ) → length ds ≡ d → slot_of type s ds name ≡ slot_from (entry_named type s name) ds 1 (4 * d - 2)
+unfolding slot_of slot_from
+slot_of-from type s ds name d size = rw size
 
-pub freeSlot-from : (s ds : List ℕ) (d : ℕ) → length ds ≡ d → freeSlot s ds ≡ slotFrom (slotFree s) ds 1 (4 * d - 2)
-unfolding freeSlot slotFrom
-freeSlot-from s ds d size = rw size
+pub free_slot-from : (s ds : List ℕ) (d : ℕ) → length ds ≡ d → free_slot s ds ≡ slot_from (slot_free s) ds 1 (4 * d - 2)
+unfolding free_slot slot_from
+free_slot-from s ds d size = rw size
 
 module _ (s : List ℕ) (e type : ℕ) (et : type ≡ type_of s e) where
-  pub type-free : type ≡ 0 → true ≡ slotFree s e
+  pub type-free : type ≡ 0 → true ≡ slot_free s e
   type-free z = rw (← et, eq-eqb type 0 z)
 
-  pub type-used : (type ≡ 0 → ⊥) → false ≡ slotFree s e
+  pub type-used : (type ≡ 0 → ⊥) → false ≡ slot_free s e
   type-used z = rw (← et, ne_eqb type 0 z)
 
 pub stands_here : (ds : List ℕ) (n d x b k j : ℕ) → Blocks n d ds → Place ds d b k j → 1 ≤ k → x ≡ k → Stands ds n x k b
@@ -147,17 +147,17 @@ stands_here ds n d x b k j bs p h e =
 
 -- the slot r that a search in one block gives
 pub stands-in : (test : ℕ → Bool) (ds : List ℕ) (n d x b k left j r : ℕ) → Blocks n d ds → Place ds d b k left → k % 4 + j ≤ 4 → j ≤ left → 1 ≤ k
-    → r ≡ slotIn test b k j → r ≢ 0 → x ≡ slotFrom test ds k left → Stands ds n x r b
+    → r ≡ slot_in test b k j → r ≢ 0 → x ≡ slot_from test ds k left → Stands ds n x r b
 stands-in test ds n d x b k left j r bs p one h low e ne q =
-    let m = slotFrom-in test ds d b k left j p one h low (λ z. ne (e ∙ z)) in
-    rw e (stands_here ds n d x b (slotIn test b k j) _ bs m.1 m.2 (q ∙ m.0))
+    let m = slot_from-in test ds d b k left j p one h low (λ z. ne (e ∙ z)) in
+    rw e (stands_here ds n d x b (slot_in test b k j) _ bs m.1 m.2 (q ∙ m.0))
 
 -- where a block cannot hold a name, none of its entries has it
-pub none-in-block : (type : ℕ → Bool) (s name : List ℕ) (b x : ℕ) → 512 * b + 512 ≤ length s → goodName name ≡ true → false ≡ mayHold (block s b) name
-    → entryNamed type s name (entry_at b x) ≡ false
+pub none-in-block : (type : ℕ → Bool) (s name : List ℕ) (b x : ℕ) → 512 * b + 512 ≤ length s → good_name name ≡ true → false ≡ may_hold (block s b) name
+    → entry_named type s name (entry_at b x) ≡ false
 none-in-block type s name b x h good m =
     let o : ℕ = 128 * (x % 4) in
-    sym (named-in-part s (512 * b) 512 o h (omega arith) type (λ y. same y name)) ∙ rw (mayHold-none (part s (512 * b) 512) name (x % 4) good m (omega arith), and-false)
+    sym (named-in-part s (512 * b) 512 o h (omega arith) type (λ y. same y name)) ∙ rw (may_hold-none (part s (512 * b) 512) name (x % 4) good m (omega arith), and-false)
 
 pub stands-none : (ds : List ℕ) (n x : ℕ) → x ≡ 0 → Stands ds n x 0 0
 stands-none ds n x e = record { slot = sym e; low = omega arith; block = λ z. absurd (z refl); none = λ z. refl }

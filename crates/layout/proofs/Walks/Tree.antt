@@ -7,24 +7,24 @@ use native.Mathlib.Omega.{arith}
 use lib.Dec.{eqb, ltb}
 use lib.ListN.{length}
 use borrow.Author.Tests.{eq-eqb, ne_eqb, eqb-true, lt-ltb}
-use Rattle.layout.specs.Limits.{maxLevels, maxDirectory}
+use Rattle.layout.specs.Limits.{max_levels, max_directory}
 use Rattle.layout.specs.Lists.{within, interval, every, has, distinct, same}
 use Rattle.layout.specs.Bytes.{part, zeros}
-use Rattle.layout.specs.Geometry.{blockCount, rootBlock}
-use Rattle.layout.specs.Table.{next, chain, chainOk}
-use Rattle.layout.specs.Directory.{slot_at, type_of, selfOf, parent_of, firstBlock, blocksOf, isDirectory, directory}
-use Rattle.layout.specs.Check.{directoryOk, childOk, slotOk, newName, Visit, fault4, fault5, met, needs, and_then, visitSlots, visitEntries, visitChild, visitRoot, faultOf}
+use Rattle.layout.specs.Geometry.{block_count, root_block}
+use Rattle.layout.specs.Table.{next, chain, chain_ok}
+use Rattle.layout.specs.Directory.{slot_at, type_of, self_of, parent_of, first_block, blocks_of, is_directory, directory}
+use Rattle.layout.specs.Check.{directory_ok, child_ok, slot_ok, new_name, Visit, fault4, fault5, met, needs, and_then, visit_slots, visit_entries, visit_child, visit_root, fault_of}
 use Rattle.layout.specs.Walks.Chains.{Walk, walked, follow}
-use Rattle.layout.specs.Walks.Entries.{selfOk}
+use Rattle.layout.specs.Walks.Entries.{self_ok}
 use Rattle.layout.specs.Walks.Shapes.{Shape}
-use Rattle.layout.specs.Walks.Stages.{followDirectory, childEntry, followChild, Seen, visited, walkEntry, walkSlots, walkEntries, walkChild, walkRoot}
+use Rattle.layout.specs.Walks.Stages.{follow_directory, child_entry, follow_child, Seen, visited, walk_entry, walk_slots, walk_entries, walk_child, walk_root}
 use Rattle.layout.proofs.Laws.Bytes.{length-zeros}
 use Rattle.layout.proofs.Laws.Lists.{distinct-right}
 use Rattle.layout.proofs.Laws.Tests.{and_split, and-join, eqb-self}
-use Rattle.layout.proofs.Laws.Visits.{apart-join, apart-split, met-same, directoryOk-distinct}
-use Rattle.layout.proofs.Laws.Trees.{directoryOk-split, length-directory}
+use Rattle.layout.proofs.Laws.Visits.{apart-join, apart-split, met-same, directory_ok-distinct}
+use Rattle.layout.proofs.Laws.Trees.{directory_ok-split, length-directory}
 use Rattle.layout.proofs.Walks.Marks.{Marked, marked-zeros, Tied, follow-tied}
-use Rattle.layout.proofs.Walks.Shapes.{shape-blockCount}
+use Rattle.layout.proofs.Walks.Shapes.{shape-block_count}
 
 -- two tests that hold alike
 pub both_ways : (a b : Bool) → (a ≡ true → b ≡ true) → (b ≡ true → a ≡ true) → a ≡ b
@@ -65,42 +65,42 @@ module _ (s : List ℕ) (n : ℕ) (m bs : List ℕ) (room : n ≤ length m) (g :
   abbrev apart : ℕ → Bool
   apart b = every (λ x. not (has eqb x bs)) (directory s b)
 
-  pub directory-tied : (b parent : ℕ) → Tied (followDirectory s n b parent m) (directoryOk s n b parent && apart b) (bs ++ directory s b) (length m)
-  unfolding followDirectory directoryOk selfOk directory
+  pub directory-tied : (b parent : ℕ) → Tied (follow_directory s n b parent m) (directory_ok s n b parent && apart b) (bs ++ directory s b) (length m)
+  unfolding follow_directory directory_ok self_ok directory
   directory-tied b parent =
-      let d : ℕ = blocksOf s (512 * b) in
+      let d : ℕ = blocks_of s (512 * b) in
       let ds : List ℕ = chain (next s) b d in
       let w = follow-tied (next s) n d b m bs room g once in
-      let self : Bool = selfOk s (512 * b) b parent in
+      let self : Bool = self_ok s (512 * b) b parent in
       record {
-        ok = cond-ok self (follow (next s) n d b m) m ∙ ap (λ (t : Bool). self && t) (w.ok ∙ ap (λ (t : Bool). chainOk (next s) n b d && t) (apart-same bs ds once))
-            ∙ self-first (eqb (type_of s (512 * b)) 1) (eqb (selfOf s (512 * b)) b) (eqb (parent_of s (512 * b)) parent) (within 1 maxDirectory d)
-            (chainOk (next s) n b d) (distinct eqb ds) (every (λ x. not (has eqb x bs)) ds);
+        ok = cond-ok self (follow (next s) n d b m) m ∙ ap (λ (t : Bool). self && t) (w.ok ∙ ap (λ (t : Bool). chain_ok (next s) n b d && t) (apart-same bs ds once))
+            ∙ self-first (eqb (type_of s (512 * b)) 1) (eqb (self_of s (512 * b)) b) (eqb (parent_of s (512 * b)) parent) (within 1 max_directory d)
+            (chain_ok (next s) n b d) (distinct eqb ds) (every (λ x. not (has eqb x bs)) ds);
         marks = cond-marks self (follow (next s) n d b m) m (bs ++ ds) w.marks;
         sized = cond-sized self (follow (next s) n d b m) m (length m) w.sized refl;
       }
 
-  right-below : (b parent : ℕ) → directoryOk s n b parent ≡ true → b < n
-  right-below b parent e = let D = directoryOk-split s n b parent e in D.chained.below 0 D.d-least
+  right-below : (b parent : ℕ) → directory_ok s n b parent ≡ true → b < n
+  right-below b parent e = let D = directory_ok-split s n b parent e in D.chained.below 0 D.d-least
 
-  child-same : (parent e : ℕ) → childEntry s n e && (directoryOk s n (firstBlock s e) parent && apart (firstBlock s e)) ≡ childOk s n parent e && apart (firstBlock s e)
-  unfolding childEntry childOk
+  child-same : (parent e : ℕ) → child_entry s n e && (directory_ok s n (first_block s e) parent && apart (first_block s e)) ≡ child_ok s n parent e && apart (first_block s e)
+  unfolding child_entry child_ok
   child-same parent e =
-      let b : ℕ = firstBlock s e in
-      let ok : Bool = directoryOk s n b parent in
-      let alike : Bool = eqb (blocksOf s (512 * b)) (blocksOf s e) && same (part s (512 * b + 48) 80) (part s (e + 48) 80) in
+      let b : ℕ = first_block s e in
+      let ok : Bool = directory_ok s n b parent in
+      let alike : Bool = eqb (blocks_of s (512 * b)) (blocks_of s e) && same (part s (512 * b + 48) 80) (part s (e + 48) 80) in
       both_ways ((ltb b n && alike) && (ok && apart b)) ((ok && alike) && apart b)
       (λ h. let u = and_split (ltb b n && alike) _ h in let v = and_split ok _ u.1 in and-join (and-join v.0 (and_split (ltb b n) _ u.0).1) v.1)
       (λ h. let u = and_split (ok && alike) _ h in let v = and_split ok _ u.0 in
       and-join (and-join (lt-ltb b n (right-below b parent v.0)) v.1) (and-join v.0 u.1))
 
-  pub child-tied : (parent e : ℕ) → Tied (followChild s n parent e m) (childOk s n parent e && apart (firstBlock s e)) (bs ++ directory s (firstBlock s e)) (length m)
-  unfolding followChild
+  pub child-tied : (parent e : ℕ) → Tied (follow_child s n parent e m) (child_ok s n parent e && apart (first_block s e)) (bs ++ directory s (first_block s e)) (length m)
+  unfolding follow_child
   child-tied parent e =
-      let b : ℕ = firstBlock s e in
+      let b : ℕ = first_block s e in
       let w = directory-tied b parent in
-      let t : Bool = childEntry s n e in
-      let f : Walk = followDirectory s n b parent m in
+      let t : Bool = child_entry s n e in
+      let f : Walk = follow_directory s n b parent m in
       record {
         ok = cond-ok t f m ∙ ap (λ (x : Bool). t && x) w.ok ∙ child-same parent e;
         marks = cond-marks t f m (bs ++ directory s b) w.marks;
@@ -109,7 +109,7 @@ module _ (s : List ℕ) (n : ℕ) (m bs : List ℕ) (room : n ≤ length m) (g :
 
 -- A VISIT: the fault that it gives, and the marks
 pub record Ties (w : Seen) (v : Visit) (size : ℕ) : Type 0 where
-  pub why : w.why ≡ faultOf v
+  pub why : w.why ≡ fault_of v
   pub marks : (r : List ℕ) → v ≡ met r → Marked w.marks r
   pub once : (r : List ℕ) → v ≡ met r → distinct eqb r ≡ true
   pub sized : length w.marks ≡ size
@@ -146,34 +146,34 @@ module _ (size : ℕ) where
 
   -- the slots of a directory
   module _ (down : ℕ → List ℕ → Seen) (child : ℕ → List ℕ → Visit) (law : (e : ℕ) → After (down e) (child e)) (s ds : List ℕ) where
-    entry-tied : (e : ℕ) → After (walkEntry down s e) (λ bs. cond (isDirectory (type_of s e)) (child e bs) (met bs))
-    unfolding walkEntry
-    entry-tied e m bs g d l = go (isDirectory (type_of s e))
+    entry-tied : (e : ℕ) → After (walk_entry down s e) (λ bs. cond (is_directory (type_of s e)) (child e bs) (met bs))
+    unfolding walk_entry
+    entry-tied e m bs g d l = go (is_directory (type_of s e))
       where
         go : (t : Bool) → Ties (cond t (down e m) (visited 0 m)) (cond t (child e bs) (met bs)) size
         go true = law e m bs g d l
         go false = none m bs g d l
 
-    slots-tied : (j k : ℕ) → After (walkSlots down s ds k j) (visitSlots child s ds (interval k j))
-    unfolding walkSlots visitSlots
+    slots-tied : (j k : ℕ) → After (walk_slots down s ds k j) (visit_slots child s ds (interval k j))
+    unfolding walk_slots visit_slots
     slots-tied zero k m bs g d l = none m bs g d l
-    slots-tied (suc j) k m bs g d l = go (slotOk s (slot_at ds k) && newName s ds k) (slots-tied j (k + 1))
+    slots-tied (suc j) k m bs g d l = go (slot_ok s (slot_at ds k) && new_name s ds k) (slots-tied j (k + 1))
       where
-        go : (t : Bool) → After (walkSlots down s ds (k + 1) j) (visitSlots child s ds (interval (k + 1) j))
-            → Ties (cond t (cond (eqb (walkEntry down s (slot_at ds k) m).why 0) (walkSlots down s ds (k + 1) j (walkEntry down s (slot_at ds k) m).marks) (walkEntry down s (slot_at ds k) m)) (visited 5 m))
-            (needs t fault5 (and_then (cond (isDirectory (type_of s (slot_at ds k))) (child (slot_at ds k) bs) (met bs)) (visitSlots child s ds (interval (suc k) j)))) size
+        go : (t : Bool) → After (walk_slots down s ds (k + 1) j) (visit_slots child s ds (interval (k + 1) j))
+            → Ties (cond t (cond (eqb (walk_entry down s (slot_at ds k) m).why 0) (walk_slots down s ds (k + 1) j (walk_entry down s (slot_at ds k) m).marks) (walk_entry down s (slot_at ds k) m)) (visited 5 m))
+            (needs t fault5 (and_then (cond (is_directory (type_of s (slot_at ds k))) (child (slot_at ds k) bs) (met bs)) (visit_slots child s ds (interval (suc k) j)))) size
         go true h =
             let e : k + 1 ≡ suc k = omega arith in
-            then_tied (walkEntry down s (slot_at ds k) m) (cond (isDirectory (type_of s (slot_at ds k))) (child (slot_at ds k) bs) (met bs)) (entry-tied (slot_at ds k) m bs g d l)
-            (walkSlots down s ds (k + 1) j) (visitSlots child s ds (interval (suc k) j))
-            (subst (λ (x : ℕ). After (walkSlots down s ds (k + 1) j) (visitSlots child s ds (interval x j))) e h)
+            then_tied (walk_entry down s (slot_at ds k) m) (cond (is_directory (type_of s (slot_at ds k))) (child (slot_at ds k) bs) (met bs)) (entry-tied (slot_at ds k) m bs g d l)
+            (walk_slots down s ds (k + 1) j) (visit_slots child s ds (interval (suc k) j))
+            (subst (λ (x : ℕ). After (walk_slots down s ds (k + 1) j) (visit_slots child s ds (interval x j))) e h)
         go false h = five m l
 
-    entries-tied : (d : ℕ) → length ds ≡ d → After (walkEntries down s ds d) (visitEntries child s ds)
-    unfolding walkEntries visitEntries
+    entries-tied : (d : ℕ) → length ds ≡ d → After (walk_entries down s ds d) (visit_entries child s ds)
+    unfolding walk_entries visit_entries
     entries-tied d size_is m bs g u l = rw size_is (go (eqb (type_of s (slot_at ds (4 * d - 1))) 0xFF))
       where
-        go : (t : Bool) → Ties (cond t (walkSlots down s ds 1 (4 * d - 2) m) (visited 5 m)) (needs t fault5 (visitSlots child s ds (interval 1 (4 * d - 2)) bs)) size
+        go : (t : Bool) → Ties (cond t (walk_slots down s ds 1 (4 * d - 2) m) (visited 5 m)) (needs t fault5 (visit_slots child s ds (interval 1 (4 * d - 2)) bs)) size
         go true = slots-tied (4 * d - 2) 1 m bs g u l
         go false = five m l
 
@@ -187,23 +187,23 @@ module _ (size : ℕ) where
       go false b e q = let z : good ≡ false = sym q ∙ e in rw z (four w.marks t.sized)
 
   module _ (s : List ℕ) (n : ℕ) (room : n ≤ size) where
-    child-apart : (bs : List ℕ) → distinct eqb bs ≡ true → (parent e : ℕ) → (childOk s n parent e && every (λ x. not (has eqb x bs)) (directory s (firstBlock s e))) ≡ true → distinct eqb (bs ++ directory s (firstBlock s e)) ≡ true
-    unfolding childOk directoryOk
+    child-apart : (bs : List ℕ) → distinct eqb bs ≡ true → (parent e : ℕ) → (child_ok s n parent e && every (λ x. not (has eqb x bs)) (directory s (first_block s e))) ≡ true → distinct eqb (bs ++ directory s (first_block s e)) ≡ true
+    unfolding child_ok directory_ok
     child-apart bs d parent e h =
-        let u = and_split (childOk s n parent e) _ h in
-        let b : ℕ = firstBlock s e in
-        let a = and_split (directoryOk s n b parent) _ u.0 in
-        apart-join bs (directory s b) d (directoryOk-distinct s n b parent a.0) u.1
+        let u = and_split (child_ok s n parent e) _ h in
+        let b : ℕ = first_block s e in
+        let a = and_split (directory_ok s n b parent) _ u.0 in
+        apart-join bs (directory s b) d (directory_ok-distinct s n b parent a.0) u.1
 
-    children-tied : (left parent e : ℕ) → After (walkChild left s n parent e) (visitChild left s n parent e)
-    unfolding walkChild visitChild
+    children-tied : (left parent e : ℕ) → After (walk_child left s n parent e) (visit_child left s n parent e)
+    unfolding walk_child visit_child
     children-tied zero parent e m bs g d l = four m l
     children-tied (suc left) parent e m bs g d l =
-        let b : ℕ = firstBlock s e in
-        staged (followChild s n parent e m) (childOk s n parent e && every (λ x. not (has eqb x bs)) (directory s b)) (bs ++ directory s b)
+        let b : ℕ = first_block s e in
+        staged (follow_child s n parent e m) (child_ok s n parent e && every (λ x. not (has eqb x bs)) (directory s b)) (bs ++ directory s b)
         (rw l at (child-tied s n m bs (omega arith) g d parent e)) (child-apart bs d parent e)
-        (walkEntries (walkChild left s n b) s (directory s b) (blocksOf s (512 * b))) (visitEntries (visitChild left s n b) s (directory s b))
-        (entries-tied (walkChild left s n b) (visitChild left s n b) (children-tied left b) s (directory s b) (blocksOf s (512 * b)) (length-directory s b))
+        (walk_entries (walk_child left s n b) s (directory s b) (blocks_of s (512 * b))) (visit_entries (visit_child left s n b) s (directory s b))
+        (entries-tied (walk_child left s n b) (visit_child left s n b) (children-tied left b) s (directory s b) (blocks_of s (512 * b)) (length-directory s b))
 
 -- none was met before
 every-none : (ds : List ℕ) → every (λ x. not (has eqb x [])) ds ≡ true
@@ -212,19 +212,19 @@ every-none (x ∷ xs) = every-none xs
 
 -- THE LAW
 module _ (s : List ℕ) (n : ℕ) (shape : Shape s n) (size : ℕ) (room : n ≤ size) where
-  pub visit-tied : Ties (walkRoot s n (zeros size)) (visitRoot s) size
-  unfolding walkRoot visitRoot
+  pub visit-tied : Ties (walk_root s n (zeros size)) (visit_root s) size
+  unfolding walk_root visit_root
   visit-tied =
       let m : List ℕ = zeros size in
       let l : length m ≡ size = length-zeros size in
-      let z : blockCount s ≡ n = shape-blockCount s n shape in
-      let b : ℕ = rootBlock n in
+      let z : block_count s ≡ n = shape-block_count s n shape in
+      let b : ℕ = root_block n in
       let ds : List ℕ = directory s b in
       let w = directory-tied s n m [] (omega arith) fresh refl b b in
-      let good : directoryOk s n b b && every (λ x. not (has eqb x [])) ds ≡ directoryOk s n b b = rw (every-none ds) (and-true (directoryOk s n b b)) in
-      rw z (staged size (followDirectory s n b b m) (directoryOk s n b b) ds (rw (good, l) at w) (directoryOk-distinct s n b b)
-      (walkEntries (walkChild maxLevels s n b) s ds (blocksOf s (512 * b))) (visitEntries (visitChild maxLevels s n b) s ds)
-      (entries-tied size (walkChild maxLevels s n b) (visitChild maxLevels s n b) (children-tied size s n room maxLevels b) s ds (blocksOf s (512 * b)) (length-directory s b)))
+      let good : directory_ok s n b b && every (λ x. not (has eqb x [])) ds ≡ directory_ok s n b b = rw (every-none ds) (and-true (directory_ok s n b b)) in
+      rw z (staged size (follow_directory s n b b m) (directory_ok s n b b) ds (rw (good, l) at w) (directory_ok-distinct s n b b)
+      (walk_entries (walk_child max_levels s n b) s ds (blocks_of s (512 * b))) (visit_entries (visit_child max_levels s n b) s ds)
+      (entries-tied size (walk_child max_levels s n b) (visit_child max_levels s n b) (children-tied size s n room max_levels b) s ds (blocks_of s (512 * b)) (length-directory s b)))
     where
       fresh : Marked (zeros size) []
       fresh = marked-zeros size

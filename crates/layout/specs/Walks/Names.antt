@@ -1,10 +1,10 @@
 -- The names of a directory's slots: by stage 5, compared by a fingerprint of each; in a search, by the last bytes of the name.
 use Rattle.std.specs.Prelude.{ℕ, zero, suc, ◌+◌, ◌-◌, ◌*◌, ◌%◌, ◌≤◌, ◌<◌, Bool, true, not, cond, ◌&&◌, ◌||◌, List, ◌≡◌, length, get_or, eqb, ltb}
-use Rattle.layout.specs.Limits.{maxSlots}
+use Rattle.layout.specs.Limits.{max_slots}
 use Rattle.layout.specs.Lists.{interval, every, same}
 use Rattle.layout.specs.Bytes.{part}
-use Rattle.layout.specs.Directory.{slot_at, type_of, isFree, name_of}
-use Rattle.layout.specs.Check.{slotOk, newName}
+use Rattle.layout.specs.Directory.{slot_at, type_of, is_free, name_of}
+use Rattle.layout.specs.Check.{slot_ok, new_name}
 use Rattle.layout.specs.Walks.Chains.{le32}
 use Rattle.layout.specs.Walks.Slots.{entry_at}
 
@@ -18,55 +18,55 @@ unfoldable pub fingerprint : List ℕ → ℕ
 fingerprint f = sums f 0 20 0
 
 -- the entry at x is free or has another name than the one at e; so do the j slots from i on
-unfoldable pub otherName : List ℕ → ℕ → ℕ → Bool
-otherName s e x = isFree (type_of s x) || not (same (name_of s x) (name_of s e))
+unfoldable pub other_name : List ℕ → ℕ → ℕ → Bool
+other_name s e x = is_free (type_of s x) || not (same (name_of s x) (name_of s e))
 
-unfoldable pub otherNames : List ℕ → List ℕ → ℕ → ℕ → ℕ → Bool
-otherNames s ds e i j = every (λ k. otherName s e (slot_at ds k)) (interval i j)
+unfoldable pub other_names : List ℕ → List ℕ → ℕ → ℕ → ℕ → Bool
+other_names s ds e i j = every (λ k. other_name s e (slot_at ds k)) (interval i j)
 
 -- the first of the j slots from k on that is not right or not new, or the one after them
-unfoldable pub badFrom : List ℕ → List ℕ → ℕ → ℕ → ℕ
-badFrom s ds k zero = k
-badFrom s ds k (suc j) = cond (slotOk s (slot_at ds k) && newName s ds k) (badFrom s ds (k + 1) j) k
+unfoldable pub bad_from : List ℕ → List ℕ → ℕ → ℕ → ℕ
+bad_from s ds k zero = k
+bad_from s ds k (suc j) = cond (slot_ok s (slot_at ds k) && new_name s ds k) (bad_from s ds (k + 1) j) k
 
 -- slot k of the directory ds is in block b
 pub record SlotIn (s ds : List ℕ) (b k : ℕ) : Type 0 where
   pub low : 1 ≤ k
-  pub high : k < maxSlots
+  pub high : k < max_slots
   pub inside : 512 * b + 512 ≤ length s
   pub place : entry_at b k ≡ slot_at ds k
 
 -- a right entry that is not free
 pub record Used (s : List ℕ) (e : ℕ) : Type 0 where
-  pub right : slotOk s e ≡ true
+  pub right : slot_ok s e ≡ true
   pub used : type_of s e ≡ 0 → ⊥
 
 -- the slots 1 to k − 1 of a directory are right; `places` has the block of each, `prints` the fingerprint of each that is not free. At k = 1 both may
 -- hold anything
 pub record Noted (s ds prints places : List ℕ) (k : ℕ) : Type 0 where
-  pub prints-room : length prints ≡ maxSlots
-  pub places-room : length places ≡ maxSlots
-  pub right : (i : ℕ) → 1 ≤ i → i < k → slotOk s (slot_at ds i) ≡ true
+  pub prints-room : length prints ≡ max_slots
+  pub places-room : length places ≡ max_slots
+  pub right : (i : ℕ) → 1 ≤ i → i < k → slot_ok s (slot_at ds i) ≡ true
   pub place : (i : ℕ) → 1 ≤ i → i < k → SlotIn s ds (get_or places i 0) i
   pub print : (i : ℕ) → 1 ≤ i → i < k → (type_of s (slot_at ds i) ≡ 0 → ⊥) → get_or prints i 0 ≡ fingerprint (part s (slot_at ds i + 48) 80)
 
 -- the places of the filter, and where a fingerprint is marked in it
-abbrev pub filterSize : ℕ
-filterSize = 4093
+abbrev pub filter_size : ℕ
+filter_size = 4093
 
-abbrev pub filterPlace : List ℕ → ℕ → ℕ
-filterPlace s e = fingerprint (part s (e + 48) 80) % filterSize
+abbrev pub filter_place : List ℕ → ℕ → ℕ
+filter_place s e = fingerprint (part s (e + 48) 80) % filter_size
 
 -- `seen` has the directory's mark for each of the slots 1 to k − 1 that is not free. More such marks do no harm, so that at k = 1 it may hold anything
 pub record Filtered (s ds seen : List ℕ) (mark k : ℕ) : Type 0 where
-  pub room : length seen ≡ filterSize
-  pub each : (i : ℕ) → 1 ≤ i → i < k → (type_of s (slot_at ds i) ≡ 0 → ⊥) → get_or seen (filterPlace s (slot_at ds i)) 0 ≡ mark
+  pub room : length seen ≡ filter_size
+  pub each : (i : ℕ) → 1 ≤ i → i < k → (type_of s (slot_at ds i) ≡ 0 → ⊥) → get_or seen (filter_place s (slot_at ds i)) 0 ≡ mark
 
 -- the room that a directory's slots are noted in
 pub record NoteRoom (prints places seen : List ℕ) : Type 0 where
-  pub prints-room : length prints ≡ maxSlots
-  pub places-room : length places ≡ maxSlots
-  pub seen-room : length seen ≡ filterSize
+  pub prints-room : length prints ≡ max_slots
+  pub places-room : length places ≡ max_slots
+  pub seen-room : length seen ≡ filter_size
 
 -- r is the first index from `from` on at which p stands, or `end`
 pub record Nearest (ps : List ℕ) (p from end r : ℕ) : Type 0 where
@@ -80,9 +80,9 @@ unfoldable pub ending : List ℕ → ℕ
 ending name = cond (ltb (length name) 4) 0 (le32 name (length name - 4))
 
 -- one of the four entries of a block has w at `at`
-unfoldable pub someHas : List ℕ → ℕ → ℕ → Bool
-someHas s at w = eqb (le32 s at) w || (eqb (le32 s (at + 128)) w || (eqb (le32 s (at + 256)) w || eqb (le32 s (at + 384)) w))
+unfoldable pub some_has : List ℕ → ℕ → ℕ → Bool
+some_has s at w = eqb (le32 s at) w || (eqb (le32 s (at + 128)) w || (eqb (le32 s (at + 256)) w || eqb (le32 s (at + 384)) w))
 
 -- one of the four entries of a block may have the name: its ending stands in the name's field, or it is too short to have one
-unfoldable pub mayHold : List ℕ → List ℕ → Bool
-mayHold s name = ltb (length name) 4 || someHas s (44 + length name) (ending name)
+unfoldable pub may_hold : List ℕ → List ℕ → Bool
+may_hold s name = ltb (length name) 4 || some_has s (44 + length name) (ending name)

@@ -11,12 +11,12 @@ use Rattle.layout.specs.Lists.{same}
 use Rattle.layout.proofs.Laws.Tests.{and_split, is_false, true-not-false}
 use Rattle.layout.proofs.Laws.Lists.{In, every_in}
 use Rattle.layout.proofs.Laws.Names.{same_refl, same-eq, same_or_not}
-use Rattle.volume.specs.Change.{create, write, delete, createDirectory, deleteDirectory, setAttributes, clearAttributes, clearFlags, shorten, replace, move}
+use Rattle.volume.specs.Change.{create, write, delete, create_directory, delete_directory, set_attributes, clear_attributes, clear_flags, shorten, replace, move}
 use Rattle.volume.specs.Views as views
 use Rattle.volume.proofs.Laws.Orders.{in-or-not}
 use Rattle.store.specs.Change.{Change, plain, put_in, subject, further, subjects}
-use Rattle.store.specs.Views.{takes, gives, givesFolder}
-use Rattle.model.specs.Model.{Node, nothing, file, folder, Model, blocks, set_at, becomes, brought, step, showsNothing, showsFile}
+use Rattle.store.specs.Views.{takes, gives, gives_folder}
+use Rattle.model.specs.Model.{Node, nothing, file, folder, Model, blocks, set_at, becomes, brought, step, shows_nothing, shows_file}
 use Rattle.model.specs.Refines.{Alike}
 use Rattle.model.proofs.Laws.Allows.{suits, allows}
 
@@ -26,54 +26,54 @@ pub record Moves (c : Change) : Type 0 where
   pub is : further c ≡ to ∷ []
   pub gone : (x : Node) → becomes c x ≡ nothing
   pub none-taken : (f : views.Maybe views.File) → takes c f ≡ 0
-  pub none-given : (f : views.Maybe views.File) (d : views.Maybe views.Folder) → gives c f + givesFolder c d ≡ 0
-  pub wants : (x : Node) → suits c x ≡ showsFile x
+  pub none-given : (f : views.Maybe views.File) (d : views.Maybe views.Folder) → gives c f + gives_folder c d ≡ 0
+  pub wants : (x : Node) → suits c x ≡ shows_file x
 
 pub one-or-two : (c : Change) → (further c ≡ []) ⊎ Moves c
-unfolding further views.further becomes suits takes views.takes gives views.gives givesFolder views.givesFolder
+unfolding further views.further becomes suits takes views.takes gives views.gives gives_folder views.gives_folder
 one-or-two (plain (create path type user group permissions flags time)) = inl refl
 one-or-two (plain (write path offset bytes time)) = inl refl
 one-or-two (plain (delete path)) = inl refl
-one-or-two (plain (createDirectory path type user group permissions flags time size)) = inl refl
-one-or-two (plain (deleteDirectory path)) = inl refl
-one-or-two (plain (setAttributes path bytes)) = inl refl
-one-or-two (plain (clearAttributes path)) = inl refl
-one-or-two (plain (clearFlags path)) = inl refl
+one-or-two (plain (create_directory path type user group permissions flags time size)) = inl refl
+one-or-two (plain (delete_directory path)) = inl refl
+one-or-two (plain (set_attributes path bytes)) = inl refl
+one-or-two (plain (clear_attributes path)) = inl refl
+one-or-two (plain (clear_flags path)) = inl refl
 one-or-two (plain (shorten path size time)) = inl refl
 one-or-two (plain (replace path bytes time)) = inl refl
 one-or-two (plain (move path to)) = inr (record { to = to; is = refl; gone = λ x. refl; none-taken = λ f. refl; none-given = λ f d. refl; wants = λ x. refl })
 one-or-two (put_in directory serial time bytes) = inl refl
 
 -- what suits a path that shows nothing makes something there
-fills-nothing : (c : Change) → suits c nothing ≡ true → showsNothing (becomes c nothing) ≡ false
+fills-nothing : (c : Change) → suits c nothing ≡ true → shows_nothing (becomes c nothing) ≡ false
 unfolding suits becomes
 fills-nothing (plain (create path type user group permissions flags time)) h = refl
 fills-nothing (plain (write path offset bytes time)) h = absurd (false≢true h)
 fills-nothing (plain (delete path)) h = absurd (false≢true h)
-fills-nothing (plain (createDirectory path type user group permissions flags time size)) h = refl
-fills-nothing (plain (deleteDirectory path)) h = absurd (false≢true h)
-fills-nothing (plain (setAttributes path bytes)) h = absurd (false≢true h)
-fills-nothing (plain (clearAttributes path)) h = absurd (false≢true h)
-fills-nothing (plain (clearFlags path)) h = absurd (false≢true h)
+fills-nothing (plain (create_directory path type user group permissions flags time size)) h = refl
+fills-nothing (plain (delete_directory path)) h = absurd (false≢true h)
+fills-nothing (plain (set_attributes path bytes)) h = absurd (false≢true h)
+fills-nothing (plain (clear_attributes path)) h = absurd (false≢true h)
+fills-nothing (plain (clear_flags path)) h = absurd (false≢true h)
 fills-nothing (plain (shorten path size time)) h = absurd (false≢true h)
 fills-nothing (plain (replace path bytes time)) h = absurd (false≢true h)
 fills-nothing (plain (move path to)) h = absurd (false≢true h)
 fills-nothing (put_in directory serial time bytes) h = refl
 
-pub is-nothing : (x : Node) → showsNothing x ≡ true → x ≡ nothing
+pub is-nothing : (x : Node) → shows_nothing x ≡ true → x ≡ nothing
 is-nothing nothing h = refl
 is-nothing (file f) h = absurd (false≢true h)
 is-nothing (folder d) h = absurd (false≢true h)
 
-fills : (c : Change) (x : Node) → showsNothing x ≡ true → suits c x ≡ true → showsNothing (becomes c x) ≡ false
+fills : (c : Change) (x : Node) → shows_nothing x ≡ true → suits c x ≡ true → shows_nothing (becomes c x) ≡ false
 fills c x e h = let q = is-nothing x e in rw q (fills-nothing c (subst (λ (y : Node). suits c y ≡ true) q h))
 
-no-file : (x : Node) → showsNothing x ≡ true → showsFile x ≡ true → ⊥
+no-file : (x : Node) → shows_nothing x ≡ true → shows_file x ≡ true → ⊥
 no-file nothing e h = false≢true h
 no-file (file f) e h = false≢true e
 no-file (folder d) e h = false≢true e
 
-pub nothing-blocks : (x : Node) → showsNothing x ≡ true → blocks x ≡ 0
+pub nothing-blocks : (x : Node) → shows_nothing x ≡ true → blocks x ≡ 0
 nothing-blocks x h = ap blocks (is-nothing x h)
 
 -- what paths show, set and brought
@@ -90,12 +90,12 @@ set-blocks : (m : Model) (path : List ℕ) (x : Node) → blocks x ≤ m.free + 
 unfolding set_at
 set-blocks m path x h = omega arith
 
-brought-root : (x : Node) (tos : List (List ℕ)) (m : Model) → (brought x tos m).rootSize ≡ m.rootSize
+brought-root : (x : Node) (tos : List (List ℕ)) (m : Model) → (brought x tos m).root_size ≡ m.root_size
 unfolding set_at
 brought-root x [] m = refl
 brought-root x (to ∷ tos) m = brought-root x tos m
 
-pub step-root : (m : Model) (c : Change) → (step m c).rootSize ≡ m.rootSize
+pub step-root : (m : Model) (c : Change) → (step m c).root_size ≡ m.root_size
 unfolding step set_at
 step-root m c = brought-root (m.at (subject c)) (further c) (set_at m (subject c) (becomes c (m.at (subject c))))
 
@@ -136,9 +136,9 @@ module _ (m : Model) (c : Change) (fits : allows m c ≡ true) where
   unfolding allows
   room = leb-true _ _ (and_split (leb (blocks (becomes c here)) (m.free + blocks here)) _ (and_split (suits c here) _ fits).1).0
 
-  pub vacant : (to : List ℕ) → In to (further c) → showsNothing (m.at to) ≡ true
+  pub vacant : (to : List ℕ) → In to (further c) → shows_nothing (m.at to) ≡ true
   unfolding allows
-  vacant to i = every_in (λ q. showsNothing (m.at q)) (further c) to (and_split (leb (blocks (becomes c here)) (m.free + blocks here)) _ (and_split (suits c here) _ fits).1).1 i
+  vacant to i = every_in (λ q. shows_nothing (m.at q)) (further c) to (and_split (leb (blocks (becomes c here)) (m.free + blocks here)) _ (and_split (suits c here) _ fits).1).1 i
 
   not_back : In (subject c) (further c) → ⊥
   not_back i = go (one-or-two c)
@@ -159,12 +159,12 @@ module _ (m : Model) (c : Change) (fits : allows m c ≡ true) where
   unfolding step
   other_at path out = brought-other here (further c) middle path (λ i. out (inr i)) ∙ set_other m (subject c) (becomes c here) path (λ z. out (inl z))
 
-  last_one : further c ≡ [] → (step m c).free ≡ middle.free
+  last-one : further c ≡ [] → (step m c).free ≡ middle.free
   unfolding step
-  last_one o = rw o
+  last-one o = rw o
 
   pub free_one : further c ≡ [] → (step m c).free ≡ m.free + blocks here - blocks (becomes c here)
-  free_one o = omega (arith, last_one o, set-blocks m (subject c) (becomes c here) room, room)
+  free_one o = omega (arith, last-one o, set-blocks m (subject c) (becomes c here) room, room)
 
   one-path : further c ≡ [] → (step m c).free + weight (step m c) (subjects c) ≡ m.free + weight m (subjects c)
   one-path o =
@@ -211,9 +211,9 @@ local m n c f g e p (inr i) = come-at m c f p i ∙ e ∙ sym (come-at n c g p i
 module _ (m : Model) (c d : Change) (ne : subject c ≢ subject d) (c-first : allows m c ≡ true) (d-second : allows (step m c) d ≡ true) (d-first : allows m d ≡ true) (c-second : allows (step m d) c ≡ true) where
   not-subject : (p : List ℕ) → In p (further c) → p ≡ subject d → ⊥
   not-subject p i e =
-      let a : showsNothing (m.at (subject d)) ≡ true = subst (λ (q : List ℕ). showsNothing (m.at q) ≡ true) e (vacant m c c-first p i) in
-      let b : showsNothing ((step m d).at (subject d)) ≡ true = subst (λ (q : List ℕ). showsNothing ((step m d).at q) ≡ true) e (vacant (step m d) c c-second p i) in
-      true-not-false b (ap showsNothing (own_at m d d-first) ∙ fills d (m.at (subject d)) a (suit m d d-first))
+      let a : shows_nothing (m.at (subject d)) ≡ true = subst (λ (q : List ℕ). shows_nothing (m.at q) ≡ true) e (vacant m c c-first p i) in
+      let b : shows_nothing ((step m d).at (subject d)) ≡ true = subst (λ (q : List ℕ). shows_nothing ((step m d).at q) ≡ true) e (vacant (step m d) c c-second p i) in
+      true-not-false b (ap shows_nothing (own_at m d d-first) ∙ fills d (m.at (subject d)) a (suit m d d-first))
 
   not-further : (p : List ℕ) → In p (further c) → In p (further d) → ⊥
   not-further p i j = go (one-or-two c)
@@ -221,7 +221,7 @@ module _ (m : Model) (c d : Change) (ne : subject c ≢ subject d) (c-first : al
       go : (further c ≡ []) ⊎ Moves c → ⊥
       go (inl o) = subst (In p) o i
       go (inr M) =
-          no-file (m.at (subject c)) (sym (ap showsNothing (come-at m c c-first p i)) ∙ vacant (step m c) d d-second p j) (sym (M.wants (m.at (subject c))) ∙ suit m c c-first)
+          no-file (m.at (subject c)) (sym (ap shows_nothing (come-at m c c-first p i)) ∙ vacant (step m c) d d-second p j) (sym (M.wants (m.at (subject c))) ∙ suit m c c-first)
 
 pub none-common : (m : Model) (c d : Change) → subject c ≢ subject d → allows m c ≡ true → allows (step m c) d ≡ true → allows m d ≡ true → allows (step m d) c ≡ true
     → (p : List ℕ) → In p (subjects c) → In p (subjects d) → ⊥
@@ -251,7 +251,7 @@ module _ (m : Model) (c d : Change) (ne : subject c ≢ subject d) (c-first : al
 
 pub either-order-model : (m : Model) (c d : Change) → subject c ≢ subject d → allows m c ≡ true → allows (step m c) d ≡ true → allows m d ≡ true → allows (step m d) c ≡ true
     → Alike (step (step m c) d) (step (step m d) c)
-either-order-model m c d ne f g h k = record { at = λ path. each path (in-or-not path (subjects c)) (in-or-not path (subjects d)); free = same-free; rootSize = step-root (step m c) d ∙ step-root m c ∙ sym (step-root (step m d) c ∙ step-root m d) }
+either-order-model m c d ne f g h k = record { at = λ path. each path (in-or-not path (subjects c)) (in-or-not path (subjects d)); free = same-free; root_size = step-root (step m c) d ∙ step-root m c ∙ sym (step-root (step m d) c ∙ step-root m d) }
   where
     en : subject d ≢ subject c
     en z = ne (sym z)

@@ -10,14 +10,14 @@ use lib.Dec.{eqb, leb}
 use lib.ListN.{length, length-append}
 use borrow.Author.Tests.{eq-eqb, eqb-true, ne_eqb, le-leb, leb-true}
 use Rattle.layout.specs.Lists.{interval, every, has, distinct}
-use Rattle.layout.specs.Limits.{minBlocks}
-use Rattle.layout.specs.Geometry.{tableBlocks}
-use Rattle.layout.specs.Table.{chain, chainOk, occupied, allOnes}
-use Rattle.layout.specs.Check.{owned, tableOk}
+use Rattle.layout.specs.Limits.{min_blocks}
+use Rattle.layout.specs.Geometry.{table_blocks}
+use Rattle.layout.specs.Table.{chain, chain_ok, occupied, all_ones}
+use Rattle.layout.specs.Check.{owned, table_ok}
 use Rattle.layout.proofs.Laws.Tests.{and_split, and-join, or_split, true-not-false, true-or-false, eqb-self, lt-or-ge}
 use Rattle.layout.proofs.Laws.Lists.{In, in_left, in_right, in-append, every_in, every-interval, interval-every, has-eqb-in, in-has-eqb, false-has, head_apart, tail-distinct, distinct-right, distinct_append, distinct_apart}
 use Rattle.layout.proofs.Laws.Joins.{of-join}
-use Rattle.layout.proofs.Laws.Chains.{Chain, length-chain, in-chain, chainOk-split, chain-distinct, chain-used}
+use Rattle.layout.proofs.Laws.Chains.{Chain, length-chain, in-chain, chain_ok-split, chain-distinct, chain-used}
 use Rattle.layout.proofs.Laws.Counts.{occupied-up, occupied-most}
 use Rattle.plain_check.specs.Plain.{one, total, holds}
 use Rattle.plain_check.proofs.Laws.Chains.{holds_has, both_ways}
@@ -34,59 +34,59 @@ abbrev claimed : List Pair → ℕ
 claimed cs = total (λ c. c.1) cs
 
 abbrev pub claim : (ℕ → ℕ) → ℕ → Pair → ℕ
-claim v n c = c.1 + (n + 1) * one (not (chainOk v n c.0 c.1))
+claim v n c = c.1 + (n + 1) * one (not (chain_ok v n c.0 c.1))
 
-abbrev rightAll : (ℕ → ℕ) → ℕ → List Pair → Bool
-rightAll v n cs = every (λ c. chainOk v n c.0 c.1) cs
+abbrev right_all : (ℕ → ℕ) → ℕ → List Pair → Bool
+right_all v n cs = every (λ c. chain_ok v n c.0 c.1) cs
 
 -- stage 6 of the plain check, over a list of chains
-abbrev pub plainTable : (ℕ → ℕ) → ℕ → List Pair → Bool
-plainTable v n cs =
-    let t = tableBlocks n in
+abbrev pub plain_table : (ℕ → ℕ) → ℕ → List Pair → Bool
+plain_table v n cs =
+    let t = table_blocks n in
     leb (total (claim v n) cs) n && (every (λ b. eqb (v b) 1) (interval 0 (t + 1))
     && (every (λ b. eqb (tally v b cs) (one (not (eqb (v b) 0)))) (interval (t + 1) (n - (t + 1))) && every (λ b. eqb (v b) 0) (interval n (128 * t - n))))
 
 -- a chain that claims at most n is right
-claim-right : (v : ℕ → ℕ) (n : ℕ) (c : Pair) → claim v n c ≤ n → (claim v n c ≡ c.1) × (chainOk v n c.0 c.1 ≡ true)
-claim-right v n c h = go (chainOk v n c.0 c.1) h
+claim-right : (v : ℕ → ℕ) (n : ℕ) (c : Pair) → claim v n c ≤ n → (claim v n c ≡ c.1) × (chain_ok v n c.0 c.1 ≡ true)
+claim-right v n c h = go (chain_ok v n c.0 c.1) h
   where
     go : (t : Bool) → c.1 + (n + 1) * one (not t) ≤ n → (c.1 + (n + 1) * one (not t) ≡ c.1) × (t ≡ true)
     go true h = (omega arith, refl)
     go false h = absurd (omega arith)
 
-claims-right : (v : ℕ → ℕ) (n : ℕ) (cs : List Pair) → total (claim v n) cs ≤ n → rightAll v n cs ≡ true
+claims-right : (v : ℕ → ℕ) (n : ℕ) (cs : List Pair) → total (claim v n) cs ≤ n → right_all v n cs ≡ true
 claims-right v n [] h = refl
 claims-right v n (c ∷ cs) h = and-join (claim-right v n c (omega arith)).1 (claims-right v n cs (omega arith))
 
-right-claims : (v : ℕ → ℕ) (n : ℕ) (cs : List Pair) → rightAll v n cs ≡ true → claimed cs ≤ n → total (claim v n) cs ≡ claimed cs
+right-claims : (v : ℕ → ℕ) (n : ℕ) (cs : List Pair) → right_all v n cs ≡ true → claimed cs ≤ n → total (claim v n) cs ≡ claimed cs
 right-claims v n [] e h = refl
 right-claims v n (c ∷ cs) e h =
-    let a = and_split (chainOk v n c.0 c.1) (rightAll v n cs) e in
+    let a = and_split (chain_ok v n c.0 c.1) (right_all v n cs) e in
     let z : claim v n c ≡ c.1 = rw a.0 (omega arith) in
     omega (arith, right-claims v n cs a.1 (omega arith))
 
 -- a chain's blocks
-abbrev blocksOn : (ℕ → ℕ) → Pair → List ℕ
-blocksOn v c = chain v c.0 c.1
+abbrev blocks_on : (ℕ → ℕ) → Pair → List ℕ
+blocks_on v c = chain v c.0 c.1
 
 module _ (v : ℕ → ℕ) (b : ℕ) where
-  tally-more : (c : Pair) (cs : List Pair) → tally v b (c ∷ cs) ≡ one (has eqb b (blocksOn v c)) + tally v b cs
+  tally-more : (c : Pair) (cs : List Pair) → tally v b (c ∷ cs) ≡ one (has eqb b (blocks_on v c)) + tally v b cs
   tally-more c cs = ap (λ (t : Bool). one t + tally v b cs) (holds_has v b c.0 c.1)
 
   tally-zero : (cs : List Pair) → (In b (owned v cs) → ⊥) → tally v b cs ≡ 0
   unfolding owned
   tally-zero [] f = refl
   tally-zero (c ∷ cs) f =
-      let z : one (has eqb b (blocksOn v c)) ≡ 0 = ap one (false-has b (blocksOn v c) (λ i. f (in_left b (blocksOn v c) (owned v cs) i))) in
-      omega (arith, tally-more c cs, tally-zero cs (λ i. f (in_right b (blocksOn v c) (owned v cs) i)))
+      let z : one (has eqb b (blocks_on v c)) ≡ 0 = ap one (false-has b (blocks_on v c) (λ i. f (in_left b (blocks_on v c) (owned v cs) i))) in
+      omega (arith, tally-more c cs, tally-zero cs (λ i. f (in_right b (blocks_on v c) (owned v cs) i)))
 
   tally-some : (cs : List Pair) → In b (owned v cs) → 1 ≤ tally v b cs
   unfolding owned
   tally-some (c ∷ cs) i =
       ⊎_elim
-      (λ j. let z : one (has eqb b (blocksOn v c)) ≡ 1 = ap one (in-has-eqb b (blocksOn v c) j) in omega (arith, tally-more c cs))
+      (λ j. let z : one (has eqb b (blocks_on v c)) ≡ 1 = ap one (in-has-eqb b (blocks_on v c) j) in omega (arith, tally-more c cs))
       (λ j. omega (arith, tally-more c cs, tally-some cs j))
-      (in-append b (blocksOn v c) (owned v cs) i)
+      (in-append b (blocks_on v c) (owned v cs) i)
 
   tally-most : (cs : List Pair) → distinct eqb (owned v cs) ≡ true → tally v b cs ≤ 1
   unfolding owned
@@ -94,23 +94,23 @@ module _ (v : ℕ → ℕ) (b : ℕ) where
   tally-most (c ∷ cs) d =
       ⊎_elim
       (λ h.
-      let z : one (has eqb b (blocksOn v c)) ≡ 1 = ap one h in
-      let r = tally-zero cs (λ j. distinct_apart eqb eqb-true eqb-self (blocksOn v c) (owned v cs) d b (has-eqb-in b (blocksOn v c) h) j) in
+      let z : one (has eqb b (blocks_on v c)) ≡ 1 = ap one h in
+      let r = tally-zero cs (λ j. distinct_apart eqb eqb-true eqb-self (blocks_on v c) (owned v cs) d b (has-eqb-in b (blocks_on v c) h) j) in
       omega (arith, tally-more c cs))
       (λ h.
-      let z : one (has eqb b (blocksOn v c)) ≡ 0 = ap one h in
-      omega (arith, tally-more c cs, tally-most cs (distinct-right eqb eqb-true eqb-self (blocksOn v c) (owned v cs) d)))
-      (true-or-false (has eqb b (blocksOn v c)))
+      let z : one (has eqb b (blocks_on v c)) ≡ 0 = ap one h in
+      omega (arith, tally-more c cs, tally-most cs (distinct-right eqb eqb-true eqb-self (blocks_on v c) (owned v cs) d)))
+      (true-or-false (has eqb b (blocks_on v c)))
 
 -- chains of different blocks, each block in one of them at most
-tally-distinct : (v : ℕ → ℕ) (cs : List Pair) → ((c : Pair) → In c cs → distinct eqb (blocksOn v c) ≡ true) → ((b : ℕ) → tally v b cs ≤ 1) → distinct eqb (owned v cs) ≡ true
+tally-distinct : (v : ℕ → ℕ) (cs : List Pair) → ((c : Pair) → In c cs → distinct eqb (blocks_on v c) ≡ true) → ((b : ℕ) → tally v b cs ≤ 1) → distinct eqb (owned v cs) ≡ true
 unfolding owned
 tally-distinct v [] f g = refl
 tally-distinct v (c ∷ cs) f g =
-    distinct_append eqb eqb-true eqb-self (blocksOn v c) (owned v cs) (f c (inl refl))
+    distinct_append eqb eqb-true eqb-self (blocks_on v c) (owned v cs) (f c (inl refl))
     (tally-distinct v cs (λ x i. f x (inr i)) (λ b. omega (arith, g b, tally-more v b c cs)))
     (λ b i j.
-    let z : one (has eqb b (blocksOn v c)) ≡ 1 = ap one (in-has-eqb b (blocksOn v c) i) in
+    let z : one (has eqb b (blocks_on v c)) ≡ 1 = ap one (in-has-eqb b (blocks_on v c) i) in
     omega (arith, g b, tally-more v b c cs, tally-some v b cs j))
 
 -- different numbers below n are at most n; a list of chains claims as many as it owns
@@ -129,17 +129,17 @@ distinct-most n (x ∷ xs) d f =
 length-owned : (v : ℕ → ℕ) (cs : List Pair) → length (owned v cs) ≡ claimed cs
 unfolding owned
 length-owned v [] = refl
-length-owned v (c ∷ cs) = length-append (blocksOn v c) (owned v cs) ∙ omega (arith, length-chain v c.0 c.1, length-owned v cs)
+length-owned v (c ∷ cs) = length-append (blocks_on v c) (owned v cs) ∙ omega (arith, length-chain v c.0 c.1, length-owned v cs)
 
 -- right chains
-module _ (v : ℕ → ℕ) (n : ℕ) (h₃ : minBlocks ≤ n) (cs : List Pair) (ok : every (λ c. chainOk v n c.0 c.1) cs ≡ true) where
+module _ (v : ℕ → ℕ) (n : ℕ) (h₃ : min_blocks ≤ n) (cs : List Pair) (ok : every (λ c. chain_ok v n c.0 c.1) cs ≡ true) where
   record Held (b : ℕ) : Type 0 where
-    above : tableBlocks n < b
+    above : table_blocks n < b
     below : b < n
     used : v b ≢ 0
 
   right : (c : Pair) → In c cs → Chain v n c.0 c.1
-  right c i = chainOk-split v n c.0 c.1 (every_in (λ (c : Pair). chainOk v n c.0 c.1) cs c ok i)
+  right c i = chain_ok-split v n c.0 c.1 (every_in (λ (c : Pair). chain_ok v n c.0 c.1) cs c ok i)
 
   held : (b : ℕ) → In b (owned v cs) → Held b
   unfolding owned
@@ -154,22 +154,22 @@ module _ (v : ℕ → ℕ) (n : ℕ) (h₃ : minBlocks ≤ n) (cs : List Pair) (
       }
 
   -- what each asks of a block
-  abbrev apartAll : Bool
-  apartAll = distinct eqb (owned v cs)
+  abbrev apart_all : Bool
+  apart_all = distinct eqb (owned v cs)
 
   abbrev t : ℕ
-  t = tableBlocks n
+  t = table_blocks n
 
-  abbrev ownedAll : Bool
-  ownedAll = every (λ b. eqb (v b) 0 || has eqb b (owned v cs)) (interval (t + 1) (128 * t - (t + 1)))
+  abbrev owned_all : Bool
+  owned_all = every (λ b. eqb (v b) 0 || has eqb b (owned v cs)) (interval (t + 1) (128 * t - (t + 1)))
 
-  abbrev countedAll : Bool
-  countedAll = every (λ b. eqb (tally v b cs) (one (not (eqb (v b) 0)))) (interval (t + 1) (n - (t + 1)))
+  abbrev counted_all : Bool
+  counted_all = every (λ b. eqb (tally v b cs) (one (not (eqb (v b) 0)))) (interval (t + 1) (n - (t + 1)))
 
-  abbrev paddedAll : Bool
-  paddedAll = every (λ b. eqb (v b) 0) (interval n (128 * t - n))
+  abbrev padded_all : Bool
+  padded_all = every (λ b. eqb (v b) 0) (interval n (128 * t - n))
 
-  counted : apartAll ≡ true → ownedAll ≡ true → countedAll ≡ true
+  counted : apart_all ≡ true → owned_all ≡ true → counted_all ≡ true
   counted d o =
       interval-every (λ b. eqb (tally v b cs) (one (not (eqb (v b) 0)))) (t + 1) (n - (t + 1))
       (λ b g l. ⊎_elim
@@ -180,14 +180,14 @@ module _ (v : ℕ → ℕ) (n : ℕ) (h₃ : minBlocks ≤ n) (cs : List Pair) (
       eq-eqb (tally v b cs) 1 (omega (arith, tally-most v b cs d, tally-some v b cs i))))
       (true-or-false (eqb (v b) 0)))
 
-  padded : ownedAll ≡ true → paddedAll ≡ true
+  padded : owned_all ≡ true → padded_all ≡ true
   padded o =
       interval-every (λ b. eqb (v b) 0) n (128 * t - n)
       (λ b g l.
       let w = every-interval (λ b. eqb (v b) 0 || has eqb b (owned v cs)) (t + 1) (128 * t - (t + 1)) o b (omega arith) (omega arith) in
       ⊎_elim (λ a. a) (λ a. absurd (omega (arith, (held b (has-eqb-in b (owned v cs) a)).below))) (or_split (eqb (v b) 0) (has eqb b (owned v cs)) w))
 
-  apart : countedAll ≡ true → apartAll ≡ true
+  apart : counted_all ≡ true → apart_all ≡ true
   apart c =
       tally-distinct v cs (λ x i. chain-distinct v n x.0 x.1 (right x i) h₃)
       (λ b. ⊎_elim
@@ -200,12 +200,12 @@ module _ (v : ℕ → ℕ) (n : ℕ) (h₃ : minBlocks ≤ n) (cs : List Pair) (
       (λ i. omega (arith, tally-zero v b cs (λ j. true-not-false (in-has-eqb b (owned v cs) j) i)))
       (true-or-false (has eqb b (owned v cs))))
 
-  few : apartAll ≡ true → leb (total (claim v n) cs) n ≡ true
+  few : apart_all ≡ true → leb (total (claim v n) cs) n ≡ true
   few d =
       let most : claimed cs ≤ n = omega (arith, length-owned v cs, distinct-most n (owned v cs) d (λ b i. (held b i).below), occupied-most (λ b. one (has eqb b (owned v cs))) n) in
       le-leb (total (claim v n) cs) n (omega (arith, right-claims v n cs ok most))
 
-  all-owned : countedAll ≡ true → paddedAll ≡ true → ownedAll ≡ true
+  all-owned : counted_all ≡ true → padded_all ≡ true → owned_all ≡ true
   all-owned c p =
       interval-every (λ b. eqb (v b) 0 || has eqb b (owned v cs)) (t + 1) (128 * t - (t + 1))
       (λ b g l. ⊎_elim
@@ -232,18 +232,18 @@ module _ (v : ℕ → ℕ) (n : ℕ) (h₃ : minBlocks ≤ n) (cs : List Pair) (
       one_none false e = absurd (omega arith)
 
 -- THE TABLE, counted
-pub table_counted : (v : ℕ → ℕ) (n : ℕ) → minBlocks ≤ n → (cs : List Pair) → plainTable v n cs ≡ tableOk v n cs
-unfolding tableOk allOnes
+pub table_counted : (v : ℕ → ℕ) (n : ℕ) → min_blocks ≤ n → (cs : List Pair) → plain_table v n cs ≡ table_ok v n cs
+unfolding table_ok all_ones
 table_counted v n h cs =
     both_ways _ _
     (λ e.
     let l = and_split (leb (total (claim v n) cs) n) _ e in
     let ok = claims-right v n cs (leb-true (total (claim v n) cs) n l.0) in
-    let b = and_split (every (λ b. eqb (v b) 1) (interval 0 (tableBlocks n + 1))) _ l.1 in
-    let c = and_split (countedAll v n h cs ok) (paddedAll v n h cs ok) b.1 in
+    let b = and_split (every (λ b. eqb (v b) 1) (interval 0 (table_blocks n + 1))) _ l.1 in
+    let c = and_split (counted_all v n h cs ok) (padded_all v n h cs ok) b.1 in
     and-join ok (and-join (apart v n h cs ok c.0) (and-join b.0 (all-owned v n h cs ok c.0 c.1))))
     (λ e.
-    let a = and_split (every (λ (c : Pair). chainOk v n c.0 c.1) cs) _ e in
+    let a = and_split (every (λ (c : Pair). chain_ok v n c.0 c.1) cs) _ e in
     let b = and_split (distinct eqb (owned v cs)) _ a.1 in
-    let c = and_split (every (λ b. eqb (v b) 1) (interval 0 (tableBlocks n + 1))) _ b.1 in
+    let c = and_split (every (λ b. eqb (v b) 1) (interval 0 (table_blocks n + 1))) _ b.1 in
     and-join (few v n h cs a.0 b.0) (and-join c.0 (and-join (counted v n h cs a.0 b.0 c.1) (padded v n h cs a.0 c.1))))

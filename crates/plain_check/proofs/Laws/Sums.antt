@@ -1,4 +1,4 @@
--- Sums over lists, and the second question: it is asked of exactly the chains of `allChains s`.
+-- Sums over lists, and the second question: it is asked of exactly the chains of `all_chains s`.
 use Prim.Native.Nat.{ℕ, zero, suc, ◌+◌, ◌*◌}
 use mathlib.Core.Bool.{Bool, true, false, cond}
 use mathlib.Core.List.{List, [], ◌∷◌, ◌++◌, map}
@@ -6,12 +6,12 @@ use mathlib.Core.Path.{◌≡◌, refl, sym, ap, ◌∙◌}
 use native.Mathlib.Omega.{arith}
 use lib.ListN.{length}
 use Rattle.layout.specs.Lists.{select, keep, joined}
-use Rattle.layout.specs.Limits.{maxLevels}
+use Rattle.layout.specs.Limits.{max_levels}
 use Rattle.layout.specs.Table.{next}
-use Rattle.layout.specs.Directory.{slot_at, slots, type_of, firstBlock, blocksOf, attributeBlock, attributeSize, isFile, isDirectory, files, directory, rootOf, children, below, dirs}
-use Rattle.layout.specs.Check.{fileChains, chains, allChains}
+use Rattle.layout.specs.Directory.{slot_at, slots, type_of, first_block, blocks_of, attribute_block_of, attribute_size_of, is_file, is_directory, files, directory, root_of, children, below, dirs}
+use Rattle.layout.specs.Check.{file_chains, chains, all_chains}
 use Rattle.layout.proofs.Laws.Chains.{length-chain}
-use Rattle.plain_check.specs.Plain.{total, askSlot, askDirectory, askTree}
+use Rattle.plain_check.specs.Plain.{total, ask_slot, ask_directory, ask_tree}
 use Rattle.plain_check.proofs.Laws.Before.{Dir}
 
 module _ {A : Type 0} (f : A → ℕ) where
@@ -57,38 +57,38 @@ module _ (f : ℕ → ℕ → ℕ) (s : List ℕ) where
   abbrev here : Dir → ℕ
   here d = total F (chains s d.0)
 
-  abbrev dirAt : ℕ → ℕ → Bool
-  dirAt d k = isDirectory (type_of s (slot_at (directory s d) k))
+  abbrev dir_at : ℕ → ℕ → Bool
+  dir_at d k = is_directory (type_of s (slot_at (directory s d) k))
 
   directory-asked : (child : ℕ → ℕ) (d left : ℕ)
-      → askDirectory f child s d ≡ here (d, left) + total (λ k. child (slot_at (directory s d) k)) (select (dirAt d) (slots (directory s d)))
-  unfolding askDirectory askSlot chains files fileChains directory
+      → ask_directory f child s d ≡ here (d, left) + total (λ k. child (slot_at (directory s d) k)) (select (dir_at d) (slots (directory s d)))
+  unfolding ask_directory ask_slot chains files file_chains directory
   directory-asked child d left =
       let ds = directory s d in
-      let own : ℕ → ℕ = λ k. f (firstBlock s (slot_at ds k)) (blocksOf s (slot_at ds k)) + f (attributeBlock s (slot_at ds k)) (attributeSize s (slot_at ds k)) in
-      let sel = select (λ k. isFile (type_of s (slot_at ds k))) (slots ds) in
-      let a = two-sums (λ k. isFile (type_of s (slot_at ds k))) (dirAt d) own (λ k. child (slot_at ds k)) (slots ds) in
-      let b : total F (joined (λ k. fileChains s (slot_at ds k)) sel) ≡ total own sel =
-      total-join F (λ k. fileChains s (slot_at ds k)) sel ∙ total-same (λ k. total F (fileChains s (slot_at ds k))) own (λ k. omega arith) sel in
-      let l : f d (length ds) ≡ f d (blocksOf s (512 * d)) = ap (f d) (length-chain (next s) d (blocksOf s (512 * d))) in
+      let own : ℕ → ℕ = λ k. f (first_block s (slot_at ds k)) (blocks_of s (slot_at ds k)) + f (attribute_block_of s (slot_at ds k)) (attribute_size_of s (slot_at ds k)) in
+      let sel = select (λ k. is_file (type_of s (slot_at ds k))) (slots ds) in
+      let a = two-sums (λ k. is_file (type_of s (slot_at ds k))) (dir_at d) own (λ k. child (slot_at ds k)) (slots ds) in
+      let b : total F (joined (λ k. file_chains s (slot_at ds k)) sel) ≡ total own sel =
+      total-join F (λ k. file_chains s (slot_at ds k)) sel ∙ total-same (λ k. total F (file_chains s (slot_at ds k))) own (λ k. omega arith) sel in
+      let l : f d (length ds) ≡ f d (blocks_of s (512 * d)) = ap (f d) (length-chain (next s) d (blocks_of s (512 * d))) in
       omega arith
 
-  tree-asked : (left d : ℕ) → askTree f left s d ≡ total here (below s left d)
-  unfolding askTree below children
+  tree-asked : (left d : ℕ) → ask_tree f left s d ≡ total here (below s left d)
+  unfolding ask_tree below children
   tree-asked zero d =
-      let z = total-none (select (dirAt d) (slots (directory s d))) in
+      let z = total-none (select (dir_at d) (slots (directory s d))) in
       directory-asked (λ e. 0) d zero ∙ omega arith
   tree-asked (suc left) d =
       let ds = directory s d in
-      let sel = select (dirAt d) (slots ds) in
-      let child : ℕ → ℕ = λ e. askTree f left s (firstBlock s e) in
-      let B : ℕ → List Dir = λ e. below s left (firstBlock s e) in
+      let sel = select (dir_at d) (slots ds) in
+      let child : ℕ → ℕ = λ e. ask_tree f left s (first_block s e) in
+      let B : ℕ → List Dir = λ e. below s left (first_block s e) in
       let a : total (λ k. child (slot_at ds k)) sel ≡ total here (joined B (children s d)) =
-      total-same (λ k. child (slot_at ds k)) (λ k. total here (B (slot_at ds k))) (λ k. tree-asked left (firstBlock s (slot_at ds k))) sel
+      total-same (λ k. child (slot_at ds k)) (λ k. total here (B (slot_at ds k))) (λ k. tree-asked left (first_block s (slot_at ds k))) sel
       ∙ sym (total-map (λ e. total here (B e)) (slot_at ds) sel) ∙ sym (total-join here B (children s d)) in
       directory-asked child d (suc left) ∙ ap (λ (r : ℕ). here (d, suc left) + r) a
 
   -- THE SECOND QUESTION
-  pub asked : askTree f maxLevels s (rootOf s) ≡ total F (allChains s)
-  unfolding allChains dirs
-  asked = tree-asked maxLevels (rootOf s) ∙ sym (total-join F (λ (d : Dir). chains s d.0) (dirs s))
+  pub asked : ask_tree f max_levels s (root_of s) ≡ total F (all_chains s)
+  unfolding all_chains dirs
+  asked = tree-asked max_levels (root_of s) ∙ sym (total-join F (λ (d : Dir). chains s d.0) (dirs s))

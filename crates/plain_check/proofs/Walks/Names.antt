@@ -10,26 +10,26 @@ use lib.ListN.{length, get_or, take, drop_of_length-le, get_or-eq_default}
 use lib.Seq.{drop-cons}
 use borrow.Author.Tests.{eq-eqb, ne_eqb, le-leb}
 use Rattle.layout.specs.Lists.{interval, every, same}
-use Rattle.layout.specs.Limits.{maxName}
+use Rattle.layout.specs.Limits.{max_name}
 use Rattle.layout.specs.Bytes.{part, zeros}
-use Rattle.layout.specs.Directory.{slash, nameByte, goodName, unpadded, padded, name_of, nameOk}
+use Rattle.layout.specs.Directory.{slash, name_byte, good_name, unpadded, padded, name_of, name_ok}
 use Rattle.layout.proofs.Laws.Bytes.{length_part}
 use Rattle.layout.proofs.Laws.Names.{unpadded-most, same-eq, same_refl}
 use Rattle.layout.proofs.Laws.Tests.{lt-or-ge, eqb-self, and_split}
-use Rattle.plain_check.specs.Walks.{sameField}
+use Rattle.plain_check.specs.Walks.{same_field}
 use Rattle.plain_check.proofs.Laws.Chains.{both_ways}
 use Rattle.plain_check.proofs.Walks.Tests.{regroup}
 
 -- the k bytes from an offset on are 0
-abbrev zerosFrom : List ℕ → ℕ → ℕ → Bool
-zerosFrom s at k = every (λ i. eqb (get_or s i 0) 0) (interval at k)
+abbrev zeros_from : List ℕ → ℕ → ℕ → Bool
+zeros_from s at k = every (λ i. eqb (get_or s i 0) 0) (interval at k)
 
 -- the rest of a name's field from an offset on: name bytes, and after the first 0 only zeros
-unfoldable nameFrom : List ℕ → ℕ → ℕ → Bool
-nameFrom s at zero = true
-nameFrom s at (suc k) =
-    let more = nameFrom s (suc at) k in
-    cond (eqb (get_or s at 0) 0) (zerosFrom s at (suc k)) (not (eqb (get_or s at 0) slash) && more)
+unfoldable name_from : List ℕ → ℕ → ℕ → Bool
+name_from s at zero = true
+name_from s at (suc k) =
+    let more = name_from s (suc at) k in
+    cond (eqb (get_or s at 0) 0) (zeros_from s at (suc k)) (not (eqb (get_or s at 0) slash) && more)
 
 -- after the byte at i comes another of the name, or a 0 that ends it; after a 0 only a 0
 abbrev pub follows : List ℕ → ℕ → Bool
@@ -71,44 +71,44 @@ module _ (s : List ℕ) (at : ℕ) where
       (lt-or-ge at (length s))
 
 -- the rest of a name's field
-nameFrom-more : (s : List ℕ) (at k : ℕ) → 0 < k
-    → nameFrom s at k ≡ cond (eqb (get_or s at 0) 0) (zerosFrom s at k) (not (eqb (get_or s at 0) slash) && nameFrom s (at + 1) (k - 1))
-unfolding nameFrom
-nameFrom-more s at zero h = absurd (omega arith)
-nameFrom-more s at (suc k) h =
+name_from-more : (s : List ℕ) (at k : ℕ) → 0 < k
+    → name_from s at k ≡ cond (eqb (get_or s at 0) 0) (zeros_from s at k) (not (eqb (get_or s at 0) slash) && name_from s (at + 1) (k - 1))
+unfolding name_from
+name_from-more s at zero h = absurd (omega arith)
+name_from-more s at (suc k) h =
     let q : suc k - 1 ≡ k = omega arith in
     let p : at + 1 ≡ suc at = omega arith in
     rw (q, p)
 
 -- the bytes after the one at `at`
 module _ (s : List ℕ) where
-  after-zero : (k at : ℕ) → get_or s at 0 ≡ 0 → every (follows s) (interval at k) ≡ zerosFrom s (suc at) k
+  after-zero : (k at : ℕ) → get_or s at 0 ≡ 0 → every (follows s) (interval at k) ≡ zeros_from s (suc at) k
   after-zero zero at z = refl
   after-zero (suc k) at z = let p : at + 1 ≡ suc at = omega arith in rw (p, z) (go (get_or s (suc at) 0) refl (after-zero k (suc at)))
     where
-      go : (x : ℕ) → get_or s (suc at) 0 ≡ x → (get_or s (suc at) 0 ≡ 0 → every (follows s) (interval (suc at) k) ≡ zerosFrom s (suc (suc at)) k)
-          → ((eqb (get_or s (suc at) 0) 0 && not (eqb (get_or s (suc at) 0) slash)) && every (follows s) (interval (suc at) k)) ≡ (eqb (get_or s (suc at) 0) 0 && zerosFrom s (suc (suc at)) k)
+      go : (x : ℕ) → get_or s (suc at) 0 ≡ x → (get_or s (suc at) 0 ≡ 0 → every (follows s) (interval (suc at) k) ≡ zeros_from s (suc (suc at)) k)
+          → ((eqb (get_or s (suc at) 0) 0 && not (eqb (get_or s (suc at) 0) slash)) && every (follows s) (interval (suc at) k)) ≡ (eqb (get_or s (suc at) 0) 0 && zeros_from s (suc (suc at)) k)
       go zero e ih = rw (e, ih e)
       go (suc x) e ih = rw (e, ne_eqb (suc x) 0 (λ w. omega arith))
 
-  after-used : (k at : ℕ) → (get_or s at 0 ≡ 0 → ⊥) → every (follows s) (interval at k) ≡ nameFrom s (suc at) k
-  unfolding nameFrom
+  after-used : (k at : ℕ) → (get_or s at 0 ≡ 0 → ⊥) → every (follows s) (interval at k) ≡ name_from s (suc at) k
+  unfolding name_from
   after-used zero at z = refl
   after-used (suc k) at z = let p : at + 1 ≡ suc at = omega arith in rw (p, ne_eqb (get_or s at 0) 0 z) (go (get_or s (suc at) 0) refl (after-used k (suc at)))
     where
-      go : (x : ℕ) → get_or s (suc at) 0 ≡ x → ((get_or s (suc at) 0 ≡ 0 → ⊥) → every (follows s) (interval (suc at) k) ≡ nameFrom s (suc (suc at)) k)
+      go : (x : ℕ) → get_or s (suc at) 0 ≡ x → ((get_or s (suc at) 0 ≡ 0 → ⊥) → every (follows s) (interval (suc at) k) ≡ name_from s (suc (suc at)) k)
           → (not (eqb (get_or s (suc at) 0) slash) && every (follows s) (interval (suc at) k))
-          ≡ cond (eqb (get_or s (suc at) 0) 0) (eqb (get_or s (suc at) 0) 0 && zerosFrom s (suc (suc at)) k) (not (eqb (get_or s (suc at) 0) slash) && nameFrom s (suc (suc at)) k)
+          ≡ cond (eqb (get_or s (suc at) 0) 0) (eqb (get_or s (suc at) 0) 0 && zeros_from s (suc (suc at)) k) (not (eqb (get_or s (suc at) 0) slash) && name_from s (suc (suc at)) k)
       go zero e ih = rw (e, after-zero k (suc at) e)
       go (suc x) e ih =
           let z : get_or s (suc at) 0 ≡ 0 → ⊥ = λ w. let c : suc x ≡ 0 = sym e ∙ w in omega arith in
           rw (ne_eqb (get_or s (suc at) 0) 0 z, ih z)
 
-  name-used : (k at : ℕ) → (get_or s at 0 ≡ 0 → ⊥) → nameFrom s at (suc k) ≡ (not (eqb (get_or s at 0) slash) && every (follows s) (interval at k))
-  unfolding nameFrom
+  name-used : (k at : ℕ) → (get_or s at 0 ≡ 0 → ⊥) → name_from s at (suc k) ≡ (not (eqb (get_or s at 0) slash) && every (follows s) (interval at k))
+  unfolding name_from
   name-used k at z = rw (ne_eqb (get_or s at 0) 0 z) (ap (λ (t : Bool). not (eqb (get_or s at 0) slash) && t) (sym (after-used k at z)))
 
-  name-first : (k at x y : ℕ) (ok : Bool) → x ≡ get_or s at 0 → y ≡ get_or s at 0 → (get_or s at 0 ≡ 0 → ok ≡ false) → ((get_or s at 0 ≡ 0 → ⊥) → ok ≡ nameFrom s at (suc k))
+  name-first : (k at x y : ℕ) (ok : Bool) → x ≡ get_or s at 0 → y ≡ get_or s at 0 → (get_or s at 0 ≡ 0 → ok ≡ false) → ((get_or s at 0 ≡ 0 → ⊥) → ok ≡ name_from s at (suc k))
       → ok ≡ ((not (eqb x 0) && not (eqb y slash)) && every (follows s) (interval at k))
   name-first k at x y ok ex ey f g = go (get_or s at 0) refl
     where
@@ -120,21 +120,21 @@ module _ (s : List ℕ) where
 
 -- the whole field
 module _ (s : List ℕ) where
-  zeros-same : (k at : ℕ) → at + k ≤ length s → same (part s at k) (zeros k) ≡ zerosFrom s at k
+  zeros-same : (k at : ℕ) → at + k ≤ length s → same (part s at k) (zeros k) ≡ zeros_from s at k
   unfolding zeros
   zeros-same zero at h = refl
   zeros-same (suc k) at h = rw (part-cons s at k (omega arith)) (ap (λ (t : Bool). eqb (get_or s at 0) 0 && t) (zeros-same k (suc at) (omega arith)))
 
   abbrev good : List ℕ → ℕ → Bool
-  good xs k = every nameByte (unpadded xs) && same xs (unpadded xs ++ zeros (k - length (unpadded xs)))
+  good xs k = every name_byte (unpadded xs) && same xs (unpadded xs ++ zeros (k - length (unpadded xs)))
 
-  field-from : (k at : ℕ) → at + k ≤ length s → good (part s at k) k ≡ nameFrom s at k
-  unfolding nameFrom zeros
+  field-from : (k at : ℕ) → at + k ≤ length s → good (part s at k) k ≡ name_from s at k
+  unfolding name_from zeros
   field-from zero at h = refl
   field-from (suc k) at h = rw (part-cons s at k (omega arith)) (go (get_or s at 0) refl (field-from k (suc at) (omega arith)))
     where
-      go : (x : ℕ) → get_or s at 0 ≡ x → good (part s (suc at) k) k ≡ nameFrom s (suc at) k
-          → good (x ∷ part s (suc at) k) (suc k) ≡ cond (eqb x 0) (zerosFrom s at (suc k)) (not (eqb x slash) && nameFrom s (suc at) k)
+      go : (x : ℕ) → get_or s at 0 ≡ x → good (part s (suc at) k) k ≡ name_from s (suc at) k
+          → good (x ∷ part s (suc at) k) (suc k) ≡ cond (eqb x 0) (zeros_from s at (suc k)) (not (eqb x slash) && name_from s (suc at) k)
       go zero e ih =
           let q : part s at (suc k) ≡ 0 ∷ part s (suc at) k = part-cons s at k (omega arith) ∙ ap (λ (x : ℕ). x ∷ part s (suc at) k) e in
           let z : suc k - 0 ≡ suc k = omega arith in
@@ -143,28 +143,28 @@ module _ (s : List ℕ) where
           let u = unpadded (part s (suc at) k) in
           let z : suc k - suc (length u) ≡ k - length u = omega arith in
           rw (eqb-self (suc x), ne_eqb (suc x) 0 (λ w. omega arith), z, ← ih)
-          (regroup (not (eqb (suc x) slash)) (every nameByte (unpadded (part s (suc at) k))) (same (part s (suc at) k) (unpadded (part s (suc at) k) ++ zeros (k - length (unpadded (part s (suc at) k))))))
+          (regroup (not (eqb (suc x) slash)) (every name_byte (unpadded (part s (suc at) k))) (same (part s (suc at) k) (unpadded (part s (suc at) k) ++ zeros (k - length (unpadded (part s (suc at) k))))))
 
   module _ (e : ℕ) where
-    nameOk-empty : get_or s (e + 48) 0 ≡ 0 → nameOk s e ≡ false
-    unfolding nameOk name_of goodName
-    nameOk-empty z = rw (name-end s (e + 48) 80 z)
+    name_ok-empty : get_or s (e + 48) 0 ≡ 0 → name_ok s e ≡ false
+    unfolding name_ok name_of good_name
+    name_ok-empty z = rw (name-end s (e + 48) 80 z)
 
-    nameOk-from : e + 128 ≤ length s → (get_or s (e + 48) 0 ≡ 0 → ⊥) → nameOk s e ≡ nameFrom s (e + 48) 80
-    unfolding nameOk name_of goodName
-    nameOk-from h z =
+    name_ok-from : e + 128 ≤ length s → (get_or s (e + 48) 0 ≡ 0 → ⊥) → name_ok s e ≡ name_from s (e + 48) 80
+    unfolding name_ok name_of good_name
+    name_ok-from h z =
         let f = part s (e + 48) 80 in
         let l : length f ≡ 80 = length_part s (e + 48) 80 (omega arith) in
         let m : length (unpadded f) ≤ 80 = omega (arith, unpadded-most f) in
         let p : 1 ≤ length (unpadded f) = rw (name-next s (e + 48) 80 (omega arith) z) (omega arith) in
-        rw (le-leb 1 (length (unpadded f)) p, le-leb (length (unpadded f)) maxName m) (field-from 80 (e + 48) (omega arith))
+        rw (le-leb 1 (length (unpadded f)) p, le-leb (length (unpadded f)) max_name m) (field-from 80 (e + 48) (omega arith))
 
     -- the first byte, read as x and y, and all that follow
     pub name-all : e + 128 ≤ length s → (x y : ℕ) → x ≡ get_or s (e + 48) 0 → y ≡ get_or s (e + 48) 0 → (end : ℕ) → end ≡ e + 127
-        → nameOk s e ≡ ((not (eqb x 0) && not (eqb y slash)) && every (follows s) (interval (e + 48) (end - (e + 48))))
+        → name_ok s e ≡ ((not (eqb x 0) && not (eqb y slash)) && every (follows s) (interval (e + 48) (end - (e + 48))))
     name-all h x y ex ey end ee =
         let w : 80 ≡ suc (end - (e + 48)) = omega arith in
-        name-first s (end - (e + 48)) (e + 48) x y (nameOk s e) ex ey nameOk-empty (λ z. nameOk-from h z ∙ ap (nameFrom s (e + 48)) w)
+        name-first s (end - (e + 48)) (e + 48) x y (name_ok s e) ex ey name_ok-empty (λ z. name_ok-from h z ∙ ap (name_from s (e + 48)) w)
 
 -- one more byte
 pub follows_is : (s : List ℕ) (i x y z : ℕ) → x ≡ get_or s i 0 → y ≡ get_or s (i + 1) 0 → z ≡ get_or s (i + 1) 0 → ((not (eqb x 0) || eqb y 0) && not (eqb z slash)) ≡ follows s i
@@ -181,16 +181,16 @@ field-same s a b (suc k) i h g =
     (ap (λ (t : Bool). eqb (get_or s (a + i) 0) (get_or s (b + i) 0) && t) (field-same s a b k (suc i) (omega arith) (omega arith)))
 
 module _ (s : List ℕ) (a b : ℕ) (ha : a + 128 ≤ length s) (hb : b + 128 ≤ length s) where
-  pub field-part : sameField s a b ≡ same (part s (a + 48) 80) (part s (b + 48) 80)
-  unfolding sameField
+  pub field-part : same_field s a b ≡ same (part s (a + 48) 80) (part s (b + 48) 80)
+  unfolding same_field
   field-part = field-same s a b 80 48 (omega (arith, ha)) (omega (arith, hb))
 
   -- of good names the fields are the same exactly if the names are
-  pub field-name : nameOk s a ≡ true → nameOk s b ≡ true → sameField s a b ≡ same (name_of s a) (name_of s b)
-  unfolding nameOk name_of
+  pub field-name : name_ok s a ≡ true → name_ok s b ≡ true → same_field s a b ≡ same (name_of s a) (name_of s b)
+  unfolding name_ok name_of
   field-name oa ob =
-      let fa : part s (a + 48) 80 ≡ padded (name_of s a) = same-eq (part s (a + 48) 80) (padded (name_of s a)) (and_split (goodName (name_of s a)) _ oa).1 in
-      let fb : part s (b + 48) 80 ≡ padded (name_of s b) = same-eq (part s (b + 48) 80) (padded (name_of s b)) (and_split (goodName (name_of s b)) _ ob).1 in
+      let fa : part s (a + 48) 80 ≡ padded (name_of s a) = same-eq (part s (a + 48) 80) (padded (name_of s a)) (and_split (good_name (name_of s a)) _ oa).1 in
+      let fb : part s (b + 48) 80 ≡ padded (name_of s b) = same-eq (part s (b + 48) 80) (padded (name_of s b)) (and_split (good_name (name_of s b)) _ ob).1 in
       field-part ∙
       both_ways _ _
       (λ t.

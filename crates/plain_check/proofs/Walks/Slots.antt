@@ -9,14 +9,14 @@ use lib.ListN.{get_or}
 use borrow.Author.Tests.{eqb-false, eqb-true}
 use Rattle.layout.specs.Lists.{interval}
 use Rattle.layout.specs.Table.{next, chain}
-use Rattle.layout.specs.Directory.{slot_at, blocksOf, directory}
+use Rattle.layout.specs.Directory.{slot_at, blocks_of, directory}
 use Rattle.layout.proofs.Laws.Chains.{chain_first, chain_next}
 use Rattle.layout.proofs.Laws.Lists.{interval-next}
 use Rattle.plain_check.specs.Walks.{word, after}
 
 -- e is where slot k of the directory at d stands, if it has so many
 pub record Place (s : List ℕ) (d e k : ℕ) : Type 0 where
-  pub here : k < 4 * blocksOf s (512 * d) → e ≡ slot_at (directory s d) k
+  pub here : k < 4 * blocks_of s (512 * d) → e ≡ slot_at (directory s d) k
   pub low : e < 512 * word
   pub even : e % 128 ≡ 0
 
@@ -25,7 +25,7 @@ module _ (s : List ℕ) (d : ℕ) where
   unfolding directory slot_at
   place-first f =
       record {
-        here = λ h. let x = chain_first (next s) d (blocksOf s (512 * d)) (omega arith) in omega (arith, x);
+        here = λ h. let x = chain_first (next s) d (blocks_of s (512 * d)) (omega arith) in omega (arith, x);
         low = omega arith;
         even = omega arith;
       }
@@ -34,21 +34,21 @@ module _ (s : List ℕ) (d : ℕ) where
   unfolding after directory slot_at
   place-next e k j r p q er low even = record { here = λ h. er ∙ go (eqb (e % 512) 384) refl h; low = low; even = even }
     where
-      go : (t : Bool) → eqb (e % 512) 384 ≡ t → j < 4 * blocksOf s (512 * d)
-          → cond t (512 * next s (e / 512)) (e + 128) ≡ 512 * get_or (chain (next s) d (blocksOf s (512 * d))) (j / 4) 0 + 128 * (j % 4)
+      go : (t : Bool) → eqb (e % 512) 384 ≡ t → j < 4 * blocks_of s (512 * d)
+          → cond t (512 * next s (e / 512)) (e + 128) ≡ 512 * get_or (chain (next s) d (blocks_of s (512 * d))) (j / 4) 0 + 128 * (j % 4)
       go true t h =
-          let at : e ≡ 512 * get_or (chain (next s) d (blocksOf s (512 * d))) (k / 4) 0 + 128 * (k % 4) = p.here (omega arith) in
+          let at : e ≡ 512 * get_or (chain (next s) d (blocks_of s (512 * d))) (k / 4) 0 + 128 * (k % 4) = p.here (omega arith) in
           let z : e % 512 ≡ 384 = eqb-true _ _ t in
-          let f : e / 512 ≡ get_or (chain (next s) d (blocksOf s (512 * d))) (k / 4) 0 = omega (arith, at) in
+          let f : e / 512 ≡ get_or (chain (next s) d (blocks_of s (512 * d))) (k / 4) 0 = omega (arith, at) in
           let w : k % 4 ≡ 3 = omega (arith, at, f, z) in
           let a : j / 4 ≡ suc (k / 4) = omega arith in
           let b : j % 4 ≡ 0 = omega arith in
-          let n = chain_next (next s) d (blocksOf s (512 * d)) (k / 4) (omega arith) in
+          let n = chain_next (next s) d (blocks_of s (512 * d)) (k / 4) (omega arith) in
           rw (a, b, n, f) (omega arith)
       go false t h =
-          let at : e ≡ 512 * get_or (chain (next s) d (blocksOf s (512 * d))) (k / 4) 0 + 128 * (k % 4) = p.here (omega arith) in
+          let at : e ≡ 512 * get_or (chain (next s) d (blocks_of s (512 * d))) (k / 4) 0 + 128 * (k % 4) = p.here (omega arith) in
           let z : e % 512 ≡ 384 → ⊥ = eqb-false _ _ t in
-          let f : e / 512 ≡ get_or (chain (next s) d (blocksOf s (512 * d))) (k / 4) 0 = omega (arith, at) in
+          let f : e / 512 ≡ get_or (chain (next s) d (blocks_of s (512 * d))) (k / 4) 0 = omega (arith, at) in
           let w : k % 4 ≤ 2 = omega (arith, at, f, z) in
           let a : j / 4 ≡ k / 4 = omega arith in
           let b : j % 4 ≡ k % 4 + 1 = omega arith in

@@ -8,12 +8,12 @@ use native.Mathlib.Omega.{arith}
 use lib.Dec.{eqb}
 use borrow.Author.Tests.{ne_eqb, eqb-false, not-false}
 use Rattle.layout.specs.Lists.{interval}
-use Rattle.layout.specs.Directory.{slot_at, type_of, firstBlock, blocksOf, isDirectory, directory}
+use Rattle.layout.specs.Directory.{slot_at, type_of, first_block, blocks_of, is_directory, directory}
 use Rattle.layout.proofs.Laws.Tests.{true-not-false}
 use Rattle.layout.proofs.Laws.Trees.{length-directory}
 use Rattle.plain_check.specs.declared.check.Question.{Question}
-use Rattle.plain_check.specs.Plain.{total, askSlot, askDirectory, askTree, answer}
-use Rattle.plain_check.specs.Walks.{fileAnswer, Upto}
+use Rattle.plain_check.specs.Plain.{total, ask_slot, ask_directory, ask_tree, answer}
+use Rattle.plain_check.specs.Walks.{file_answer, Upto}
 use Rattle.plain_check.proofs.Walks.Slots.{slots-none, slots_next, slots-first}
 use Rattle.plain_check.proofs.Walks.Tests.{or-split-false}
 
@@ -42,33 +42,33 @@ module _ (most T sum rest : ℕ) where
 -- what the child of an entry answers, with `levels` levels left
 abbrev pub deeper : (ℕ → ℕ → ℕ) → ℕ → List ℕ → ℕ → ℕ
 deeper ask zero s e = 0
-deeper ask (suc levels) s e = askTree ask levels s (firstBlock s e)
+deeper ask (suc levels) s e = ask_tree ask levels s (first_block s e)
 
 module _ (question : Question) (s : List ℕ) (n d levels : ℕ) where
   abbrev pub rest : ℕ → ℕ → ℕ
-  rest k end = total (λ k. askSlot (answer question s n) (deeper (answer question s n) levels s) s (slot_at (directory s d) k)) (interval (k - 1) (end - k))
+  rest k end = total (λ k. ask_slot (answer question s n) (deeper (answer question s n) levels s) s (slot_at (directory s d) k)) (interval (k - 1) (end - k))
 
-  tree_is : (levels : ℕ) → askTree (answer question s n) levels s d
-      ≡ answer question s n d (blocksOf s (512 * d)) + total (λ k. askSlot (answer question s n) (deeper (answer question s n) levels s) s (slot_at (directory s d) k)) (interval 1 (4 * blocksOf s (512 * d) - 2))
-  unfolding askTree askDirectory
+  tree_is : (levels : ℕ) → ask_tree (answer question s n) levels s d
+      ≡ answer question s n d (blocks_of s (512 * d)) + total (λ k. ask_slot (answer question s n) (deeper (answer question s n) levels s) s (slot_at (directory s d) k)) (interval 1 (4 * blocks_of s (512 * d) - 2))
+  unfolding ask_tree ask_directory
   tree_is zero = rw (length-directory s d)
   tree_is (suc levels) = rw (length-directory s d)
 
-  pub tally-start : (size x end before : ℕ) → size ≡ blocksOf s (512 * d) → x ≡ answer question s n d size → end ≡ 4 * size
-      → before + askTree (answer question s n) levels s d ≡ before + x + rest 2 end
+  pub tally-start : (size x end before : ℕ) → size ≡ blocks_of s (512 * d) → x ≡ answer question s n d size → end ≡ 4 * size
+      → before + ask_tree (answer question s n) levels s d ≡ before + x + rest 2 end
   tally-start size x end before es ex ee = rw (← slots-first size end ee, ex, es) (omega (arith, tree_is levels))
 
   pub rest_end : (k end : ℕ) → end ≤ k → rest k end ≡ 0
-  rest_end k end h = ap (λ (ks : List ℕ). total (λ k. askSlot (answer question s n) (deeper (answer question s n) levels s) s (slot_at (directory s d) k)) ks) (slots-none k end h)
+  rest_end k end h = ap (λ (ks : List ℕ). total (λ k. ask_slot (answer question s n) (deeper (answer question s n) levels s) s (slot_at (directory s d) k)) ks) (slots-none k end h)
 
-  module _ (k end : ℕ) (l : 2 ≤ k) (h : k < end) (e a kind : ℕ) (at : e ≡ slot_at (directory s d) (k - 1)) (ea : a ≡ fileAnswer question s n e) (ek : kind ≡ type_of s e) where
-    turn : rest k end ≡ a + cond (isDirectory kind) (deeper (answer question s n) levels s e) 0 + rest (k + 1) end
-    unfolding askSlot fileAnswer
-    turn = ap (λ (ks : List ℕ). total (λ k. askSlot (answer question s n) (deeper (answer question s n) levels s) s (slot_at (directory s d) k)) ks) (slots_next k end l h) ∙ rw (ea, ← at, ← ek)
+  module _ (k end : ℕ) (l : 2 ≤ k) (h : k < end) (e a kind : ℕ) (at : e ≡ slot_at (directory s d) (k - 1)) (ea : a ≡ file_answer question s n e) (ek : kind ≡ type_of s e) where
+    turn : rest k end ≡ a + cond (is_directory kind) (deeper (answer question s n) levels s e) 0 + rest (k + 1) end
+    unfolding ask_slot file_answer
+    turn = ap (λ (ks : List ℕ). total (λ k. ask_slot (answer question s n) (deeper (answer question s n) levels s) s (slot_at (directory s d) k)) ks) (slots_next k end l h) ∙ rw (ea, ← at, ← ek)
 
-    pub rest-skip : (t : Bool) → t ≡ isDirectory kind → (eqb levels 0 || not t) ≡ true → rest k end ≡ a + rest (k + 1) end
+    pub rest-skip : (t : Bool) → t ≡ is_directory kind → (eqb levels 0 || not t) ≡ true → rest k end ≡ a + rest (k + 1) end
     rest-skip t et q =
-        let z : cond (isDirectory kind) (deeper (answer question s n) levels s e) 0 ≡ 0 = rw (← et) (go t levels q) in
+        let z : cond (is_directory kind) (deeper (answer question s n) levels s e) 0 ≡ 0 = rw (← et) (go t levels q) in
         omega (arith, turn)
       where
         go : (t : Bool) (levels : ℕ) → (eqb levels 0 || not t) ≡ true → cond t (deeper (answer question s n) levels s e) 0 ≡ 0
@@ -76,14 +76,14 @@ module _ (question : Question) (s : List ℕ) (n d levels : ℕ) where
         go true zero q = refl
         go true (suc levels) q = absurd (true-not-false q (rw (ne_eqb (suc levels) 0 (λ w. omega arith))))
 
-    pub rest-child : (t : Bool) → t ≡ isDirectory kind → t ≡ true → (levels ≡ 0 → ⊥) → (b : ℕ) → b ≡ firstBlock s e
-        → rest k end ≡ a + askTree (answer question s n) (levels - 1) s b + rest (k + 1) end
+    pub rest-child : (t : Bool) → t ≡ is_directory kind → t ≡ true → (levels ≡ 0 → ⊥) → (b : ℕ) → b ≡ first_block s e
+        → rest k end ≡ a + ask_tree (answer question s n) (levels - 1) s b + rest (k + 1) end
     rest-child t et e₁ l b eb =
-        let q : cond (isDirectory kind) (deeper (answer question s n) levels s e) 0 ≡ askTree (answer question s n) (levels - 1) s b =
+        let q : cond (is_directory kind) (deeper (answer question s n) levels s e) 0 ≡ ask_tree (answer question s n) (levels - 1) s b =
         rw (← et, e₁, eb) (down levels l) in
         omega (arith, turn)
       where
-        down : (levels : ℕ) → (levels ≡ 0 → ⊥) → deeper (answer question s n) levels s e ≡ askTree (answer question s n) (levels - 1) s (firstBlock s e)
+        down : (levels : ℕ) → (levels ≡ 0 → ⊥) → deeper (answer question s n) levels s e ≡ ask_tree (answer question s n) (levels - 1) s (first_block s e)
         down zero l = absurd (l refl)
         down (suc levels) l = let q : suc levels - 1 ≡ levels = omega arith in rw q
 

@@ -8,17 +8,17 @@ use native.Mathlib.Decide.{ℕ_discrete}
 use native.Mathlib.Omega.{arith}
 use lib.Dec.{eqb}
 use lib.ListN.{length, get_or}
-use Rattle.layout.specs.Limits.{minBlocks, maxBlocks}
+use Rattle.layout.specs.Limits.{min_blocks, max_blocks}
 use Rattle.layout.specs.Lists.{distinct}
-use Rattle.layout.specs.Geometry.{tableBlocks, rootBlock}
+use Rattle.layout.specs.Geometry.{table_blocks, root_block}
 use Rattle.layout.specs.Directory.{slot_at}
 use Rattle.layout.proofs.Laws.Tests.{lt-or-gt}
-use Rattle.layout.proofs.Laws.Lists.{In, getD-in, head_apart, tail-distinct}
+use Rattle.layout.proofs.Laws.Lists.{In, get_d-in, head_apart, tail-distinct}
 
 pub record Place (n : ℕ) (ds : List ℕ) : Type 0 where
-  pub least : minBlocks ≤ n
-  pub most : n ≤ maxBlocks
-  pub blocks : (x : ℕ) → In x ds → (tableBlocks n < x) × (x < n)
+  pub least : min_blocks ≤ n
+  pub most : n ≤ max_blocks
+  pub blocks : (x : ℕ) → In x ds → (table_blocks n < x) × (x < n)
   pub apart : distinct eqb ds ≡ true
   pub some : 1 ≤ length ds
 
@@ -26,8 +26,8 @@ pub record Place (n : ℕ) (ds : List ℕ) : Type 0 where
 pub index-apart : (xs : List ℕ) → distinct eqb xs ≡ true → (i j : ℕ) → i < length xs → j < length xs → i ≢ j → get_or xs i 0 ≢ get_or xs j 0
 index-apart [] d i j hi hj ne e = absurd (omega arith)
 index-apart (x ∷ xs) d zero zero hi hj ne e = ne refl
-index-apart (x ∷ xs) d zero (suc j) hi hj ne e = head_apart x xs d (subst (λ (z : ℕ). In z xs) (sym e) (getD-in xs j 0 (omega arith)))
-index-apart (x ∷ xs) d (suc i) zero hi hj ne e = head_apart x xs d (subst (λ (z : ℕ). In z xs) e (getD-in xs i 0 (omega arith)))
+index-apart (x ∷ xs) d zero (suc j) hi hj ne e = head_apart x xs d (subst (λ (z : ℕ). In z xs) (sym e) (get_d-in xs j 0 (omega arith)))
+index-apart (x ∷ xs) d (suc i) zero hi hj ne e = head_apart x xs d (subst (λ (z : ℕ). In z xs) e (get_d-in xs i 0 (omega arith)))
 index-apart (x ∷ xs) d (suc i) (suc j) hi hj ne e = index-apart xs (tail-distinct x xs d) i j (omega arith) (omega arith) (λ q. ne (omega arith)) e
 
 module _ (n : ℕ) (ds : List ℕ) (G : Place n ds) where
@@ -39,9 +39,9 @@ module _ (n : ℕ) (ds : List ℕ) (G : Place n ds) where
     slot-in : In (slot_at ds k / 512) ds
     slot-in =
         let e : slot_at ds k / 512 ≡ get_or ds (k / 4) 0 = omega (arith, slot_is k) in
-        rw e (getD-in ds (k / 4) 0 (omega arith))
+        rw e (get_d-in ds (k / 4) 0 (omega arith))
 
-    pub slot-low : 512 * rootBlock n ≤ slot_at ds k
+    pub slot-low : 512 * root_block n ≤ slot_at ds k
     slot-low = let w = G.blocks (slot_at ds k / 512) slot-in in omega arith
 
     pub slot-high : slot_at ds k + 128 ≤ 512 * n

@@ -9,21 +9,21 @@ use native.Mathlib.Omega.{arith}
 use lib.Dec.{eqb, ltb}
 use lib.ListN.{length, get_or}
 use borrow.Author.Tests.{eq-eqb, eqb-true, ltb-true, ltb-false}
-use Rattle.layout.specs.Limits.{minBlocks, maxBlocks}
+use Rattle.layout.specs.Limits.{min_blocks, max_blocks}
 use Rattle.layout.specs.Lists.{interval, has}
 use Rattle.layout.specs.Bytes.{be32, zeros}
-use Rattle.layout.specs.Geometry.{blockCount, tableBlocks, rootBlock}
-use Rattle.layout.specs.Table.{next, setNext, occupied}
+use Rattle.layout.specs.Geometry.{block_count, table_blocks, root_block}
+use Rattle.layout.specs.Table.{next, set_next, occupied}
 use Rattle.layout.specs.Directory.{type_of}
 use Rattle.layout.specs.Check.{stage7}
-use Rattle.volume.specs.Entries.{setOccupied}
+use Rattle.volume.specs.Entries.{set_occupied}
 use Rattle.layout.proofs.Laws.Tests.{and-join, or_split, true-not-false}
 use Rattle.layout.proofs.Laws.Lists.{In, has-eqb-in, in-has-eqb}
-use Rattle.layout.proofs.Laws.Bytes.{length-zeros, getD-zeros, length-splice, getD-splice-inside, splice-first}
+use Rattle.layout.proofs.Laws.Bytes.{length-zeros, get_d-zeros, length-splice, get_d-splice-inside, splice-first}
 use Rattle.layout.proofs.Laws.Frames.{Same, same_then, same_beside, same-be32, set-next-length, set-next-same, set-next-at, set-next-other}
 use Rattle.layout.proofs.Laws.Counts.{occupied-same, occupied-most}
 use Rattle.volume.proofs.Laws.Table.{set-occupied-length, set-occupied-same, set-occupied-next, set-occupied-used, set-occupied-free}
-use Rattle.salvage.specs.Salvage.{end_at, endRight, endPut, one_at, blanked, freeAt, in_turn, countsPut}
+use Rattle.salvage.specs.Salvage.{end_at, end_right, end_put, one_at, blanked, free_at, in_turn, counts_put}
 use Rattle.salvage.proofs.Laws.Walked.{by_cond}
 use Rattle.salvage.proofs.Laws.Places.{Place, slot-low, slot-high}
 
@@ -32,33 +32,33 @@ module _ (n : ℕ) (ds : List ℕ) (G : Place n ds) (s : List ℕ) (len : length
   end_fits : end_at ds + length {A = ℕ} (255 ∷ []) ≤ length s
   end_fits = omega (arith, slot-high n ds G (4 * length ds - 1) (omega (arith, G.some)), len)
 
-  pub end-length : length (endPut s ds) ≡ length s
-  unfolding endPut
-  end-length = by_cond (λ x. length x ≡ length s) (endRight s ds) s _ (λ e. refl) (λ e. length-splice s (end_at ds) (255 ∷ []) end_fits)
+  pub end-length : length (end_put s ds) ≡ length s
+  unfolding end_put
+  end-length = by_cond (λ x. length x ≡ length s) (end_right s ds) s _ (λ e. refl) (λ e. length-splice s (end_at ds) (255 ∷ []) end_fits)
 
-  pub end_same : (a m : ℕ) → (a + m ≤ end_at ds) ⊎ (end_at ds + 1 ≤ a) → Same s (endPut s ds) a m
-  unfolding endPut
-  end_same a m h = by_cond (λ x. Same s x a m) (endRight s ds) s _ (λ e i l. refl) (λ e. same_beside s (end_at ds) (255 ∷ []) end_fits a m h)
+  pub end_same : (a m : ℕ) → (a + m ≤ end_at ds) ⊎ (end_at ds + 1 ≤ a) → Same s (end_put s ds) a m
+  unfolding end_put
+  end_same a m h = by_cond (λ x. Same s x a m) (end_right s ds) s _ (λ e i l. refl) (λ e. same_beside s (end_at ds) (255 ∷ []) end_fits a m h)
 
-  pub end-type : type_of (endPut s ds) (end_at ds) ≡ 255
-  unfolding endPut endRight
-  end-type = by_cond (λ x. type_of x (end_at ds) ≡ 255) (endRight s ds) s _ (λ e. eqb-true _ 255 e) (λ e. splice-first s (end_at ds) (255 ∷ []) end_fits (omega arith))
+  pub end-type : type_of (end_put s ds) (end_at ds) ≡ 255
+  unfolding end_put end_right
+  end-type = by_cond (λ x. type_of x (end_at ds) ≡ 255) (end_right s ds) s _ (λ e. eqb-true _ 255 e) (λ e. splice-first s (end_at ds) (255 ∷ []) end_fits (omega arith))
 
-  pub end-next : (x : ℕ) → x < 128 * tableBlocks n → next (endPut s ds) x ≡ next s x
+  pub end-next : (x : ℕ) → x < 128 * table_blocks n → next (end_put s ds) x ≡ next s x
   unfolding next
   end-next x l =
       let w = slot-low n ds G (4 * length ds - 1) (omega (arith, G.some)) in
-      same-be32 s (endPut s ds) (512 + 4 * x) 4 (512 + 4 * x) (end_same (512 + 4 * x) 4 (inl (omega arith))) (omega arith) (omega arith)
+      same-be32 s (end_put s ds) (512 + 4 * x) 4 (512 + 4 * x) (end_same (512 + 4 * x) 4 (inl (omega arith))) (omega arith) (omega arith)
 
 -- entries 0 to t
-module _ (n : ℕ) (h₃ : minBlocks ≤ n) where
+module _ (n : ℕ) (h₃ : min_blocks ≤ n) where
   pub record Ones (s r : List ℕ) (a k : ℕ) : Type 0 where
     pub len : length r ≡ length s
-    pub same : (i w : ℕ) → (i + w ≤ 512) ⊎ (512 * rootBlock n ≤ i) → Same s r i w
+    pub same : (i w : ℕ) → (i + w ≤ 512) ⊎ (512 * root_block n ≤ i) → Same s r i w
     pub ones : (x : ℕ) → a ≤ x → x < a + k → next r x ≡ 1
     pub others : (x : ℕ) → (x < a) ⊎ (a + k ≤ x) → next r x ≡ next s x
 
-  module _ (s : List ℕ) (b : ℕ) (len : length s ≡ 512 * n) (hb : b ≤ tableBlocks n) where
+  module _ (s : List ℕ) (b : ℕ) (len : length s ≡ 512 * n) (hb : b ≤ table_blocks n) where
     one-fits : 512 + 4 * b + 4 ≤ length s
     one-fits = omega arith
 
@@ -75,7 +75,7 @@ module _ (n : ℕ) (h₃ : minBlocks ≤ n) where
               (λ e. set-next-other s b 1 one-fits x (λ q. ⊎_elim (λ z. omega arith) (λ z. omega arith) h));
         }
 
-  pub ones-put : (k a : ℕ) (s : List ℕ) → length s ≡ 512 * n → a + k ≤ tableBlocks n + 1 → Ones s (in_turn one_at s (interval a k)) a k
+  pub ones-put : (k a : ℕ) (s : List ℕ) → length s ≡ 512 * n → a + k ≤ table_blocks n + 1 → Ones s (in_turn one_at s (interval a k)) a k
   unfolding in_turn
   ones-put zero a s len h = record { len = refl; same = λ i w g j l. refl; ones = λ x g l. absurd (omega arith); others = λ x g. refl }
   ones-put (suc k) a s len h =
@@ -93,15 +93,15 @@ module _ (n : ℕ) (h₃ : minBlocks ≤ n) where
   module _ (cs : List ℕ) where
     pub record Frees (s r : List ℕ) (a k : ℕ) : Type 0 where
       pub len : length r ≡ length s
-      pub same : (i w : ℕ) → (i + w ≤ 512) ⊎ (512 * rootBlock n ≤ i)
+      pub same : (i w : ℕ) → (i + w ≤ 512) ⊎ (512 * root_block n ≤ i)
           → ((b : ℕ) → a ≤ b → b < a + k → b < n → (In b cs → ⊥) → next s b ≢ 0 → (i + w ≤ 512 * b) ⊎ (512 * b + 512 ≤ i)) → Same s r i w
-      pub kept : (x : ℕ) → x < 128 * tableBlocks n → In x cs → next r x ≡ next s x
-      pub others : (x : ℕ) → x < 128 * tableBlocks n → (x < a) ⊎ (a + k ≤ x) → next r x ≡ next s x
+      pub kept : (x : ℕ) → x < 128 * table_blocks n → In x cs → next r x ≡ next s x
+      pub others : (x : ℕ) → x < 128 * table_blocks n → (x < a) ⊎ (a + k ≤ x) → next r x ≡ next s x
       pub free : (x : ℕ) → a ≤ x → x < a + k → (In x cs → ⊥) → next r x ≡ 0
       pub blank : (x : ℕ) → a ≤ x → x < a + k → x < n → (In x cs → ⊥) → next s x ≢ 0 → (i : ℕ) → i < 512 → get_or r (512 * x + i) 0 ≡ 0
 
-    module _ (s : List ℕ) (b : ℕ) (len : length s ≡ 512 * n) (low : tableBlocks n < b) (high : b < 128 * tableBlocks n) where
-      bn : blockCount s ≡ n
+    module _ (s : List ℕ) (b : ℕ) (len : length s ≡ 512 * n) (low : table_blocks n < b) (high : b < 128 * table_blocks n) where
+      bn : block_count s ≡ n
       bn = omega arith
 
       blank-fits : b < n → 512 * b + length (zeros 512) ≤ length s
@@ -109,23 +109,23 @@ module _ (n : ℕ) (h₃ : minBlocks ≤ n) where
 
       blank-length : length (blanked s b) ≡ length s
       unfolding blanked
-      blank-length = by_cond (λ x. length x ≡ length s) (ltb b (blockCount s)) _ s
+      blank-length = by_cond (λ x. length x ≡ length s) (ltb b (block_count s)) _ s
           (λ e. length-splice s (512 * b) (zeros 512) (blank-fits (ltb-true b n (rw bn at e)))) (λ e. refl)
 
       blank-same : (i w : ℕ) → (b < n → (i + w ≤ 512 * b) ⊎ (512 * b + 512 ≤ i)) → Same s (blanked s b) i w
       unfolding blanked
-      blank-same i w f = by_cond (λ x. Same s x i w) (ltb b (blockCount s)) _ s
+      blank-same i w f = by_cond (λ x. Same s x i w) (ltb b (block_count s)) _ s
           (λ e. let l = ltb-true b n (rw bn at e) in same_beside s (512 * b) (zeros 512) (blank-fits l) i w (⊎_elim (λ x. inl x) (λ x. inr (omega (arith, length-zeros 512))) (f l)))
           (λ e j l. refl)
 
-      blank-next : (x : ℕ) → x < 128 * tableBlocks n → next (blanked s b) x ≡ next s x
+      blank-next : (x : ℕ) → x < 128 * table_blocks n → next (blanked s b) x ≡ next s x
       unfolding next
       blank-next x l = same-be32 s (blanked s b) (512 + 4 * x) 4 (512 + 4 * x) (blank-same (512 + 4 * x) 4 (λ g. inl (omega arith))) (omega arith) (omega arith)
 
       blank-zero : b < n → (i : ℕ) → i < 512 → get_or (blanked s b) (512 * b + i) 0 ≡ 0
       unfolding blanked
-      blank-zero l i il = by_cond (λ x. get_or x (512 * b + i) 0 ≡ 0) (ltb b (blockCount s)) _ s
-          (λ e. getD-splice-inside s (512 * b) (zeros 512) (blank-fits l) i (omega (arith, length-zeros 512)) ∙ getD-zeros 512 i)
+      blank-zero l i il = by_cond (λ x. get_or x (512 * b + i) 0 ≡ 0) (ltb b (block_count s)) _ s
+          (λ e. get_d-splice-inside s (512 * b) (zeros 512) (blank-fits l) i (omega (arith, length-zeros 512)) ∙ get_d-zeros 512 i)
           (λ e. let g = ltb-false b n (rw bn at e) in absurd (omega arith))
 
       room : 512 + 4 * b + 4 ≤ length (blanked s b)
@@ -142,11 +142,11 @@ module _ (n : ℕ) (h₃ : minBlocks ≤ n) where
           or-t true = refl
           or-t false = refl
 
-      free_step : Frees s (freeAt cs s b) b 1
-      unfolding freeAt
+      free_step : Frees s (free_at cs s b) b 1
+      unfolding free_at
       free_step =
           let test : Bool = has eqb b cs || eqb (next s b) 0 in
-          let new : List ℕ = setNext (blanked s b) b 0 in
+          let new : List ℕ = set_next (blanked s b) b 0 in
           record {
             len = by_cond (λ x. length x ≡ length s) test s new (λ e. refl) (λ e. set-next-length (blanked s b) b 0 room ∙ blank-length);
             same = λ i w h f. by_cond (λ x. Same s x i w) test s new (λ e j l. refl)
@@ -167,17 +167,17 @@ module _ (n : ℕ) (h₃ : minBlocks ≤ n) where
                 (λ e. set-next-same (blanked s b) b 0 room (512 * b) 512 (inr (omega arith)) i il ∙ blank-zero (omega arith) i il));
           }
 
-    pub frees-put : (k a : ℕ) (s : List ℕ) → length s ≡ 512 * n → tableBlocks n < a → a + k ≤ 128 * tableBlocks n → Frees s (in_turn (freeAt cs) s (interval a k)) a k
+    pub frees-put : (k a : ℕ) (s : List ℕ) → length s ≡ 512 * n → table_blocks n < a → a + k ≤ 128 * table_blocks n → Frees s (in_turn (free_at cs) s (interval a k)) a k
     unfolding in_turn
     frees-put zero a s len l h =
         record { len = refl; same = λ i w g f j q. refl; kept = λ x g i. refl; others = λ x g q. refl; free = λ x g q o. absurd (omega arith); blank = λ x g q z o ne i il. absurd (omega arith) }
     frees-put (suc k) a s len l h =
         let O = free_step s a len l (omega arith) in
-        let R = frees-put k (suc a) (freeAt cs s a) (O.len ∙ len) (omega arith) (omega arith) in
-        let r = in_turn (freeAt cs) (freeAt cs s a) (interval (suc a) k) in
+        let R = frees-put k (suc a) (free_at cs s a) (O.len ∙ len) (omega arith) (omega arith) in
+        let r = in_turn (free_at cs) (free_at cs s a) (interval (suc a) k) in
         record {
           len = R.len ∙ O.len;
-          same = λ i w g f. same_then s (freeAt cs s a) r i w (O.same i w g (λ b x y z o ne. f b (omega arith) (omega arith) z o ne))
+          same = λ i w g f. same_then s (free_at cs s a) r i w (O.same i w g (λ b x y z o ne. f b (omega arith) (omega arith) z o ne))
               (R.same i w g (λ b x y z o ne. f b (omega arith) (omega arith) z o (λ q. ne (O.others b (omega arith) (inr (omega arith)) ∙ q))));
           kept = λ x g i. R.kept x g i ∙ O.kept x g i;
           others = λ x g q. R.others x g (⊎_elim (λ z. inl (omega arith)) (λ z. inr (omega arith)) q) ∙ O.others x g (⊎_elim (λ z. inl z) (λ z. inr (omega arith)) q);
@@ -188,37 +188,37 @@ module _ (n : ℕ) (h₃ : minBlocks ≤ n) where
         }
 
 -- the counts
-stage7-is : (t : List ℕ) (k : ℕ) → blockCount t ≡ k → be32 t 20 ≡ occupied (next t) k → be32 t 24 ≡ k - occupied (next t) k → stage7 t ≡ true
+stage7-is : (t : List ℕ) (k : ℕ) → block_count t ≡ k → be32 t 20 ≡ occupied (next t) k → be32 t 24 ≡ k - occupied (next t) k → stage7 t ≡ true
 unfolding stage7
 stage7-is t k b p q = rw b (and-join (eq-eqb _ _ p) (eq-eqb _ _ q))
 
-module _ (n : ℕ) (h₃ : minBlocks ≤ n) (h₄ : n ≤ maxBlocks) (s : List ℕ) (len : length s ≡ 512 * n) where
+module _ (n : ℕ) (h₃ : min_blocks ≤ n) (h₄ : n ≤ max_blocks) (s : List ℕ) (len : length s ≡ 512 * n) where
   room₁ : 512 ≤ length s
   room₁ = omega arith
 
-  pub counts-length : length (countsPut s) ≡ length s
-  unfolding countsPut
-  counts-length = by_cond (λ x. length x ≡ length s) (stage7 s) s _ (λ e. refl) (λ e. set-occupied-length s (blockCount s) _ room₁)
+  pub counts-length : length (counts_put s) ≡ length s
+  unfolding counts_put
+  counts-length = by_cond (λ x. length x ≡ length s) (stage7 s) s _ (λ e. refl) (λ e. set-occupied-length s (block_count s) _ room₁)
 
-  pub counts_same : (a m : ℕ) → (a + m ≤ 20) ⊎ (28 ≤ a) → Same s (countsPut s) a m
-  unfolding countsPut
-  counts_same a m h = by_cond (λ x. Same s x a m) (stage7 s) s _ (λ e i l. refl) (λ e. set-occupied-same s (blockCount s) _ room₁ a m h)
+  pub counts_same : (a m : ℕ) → (a + m ≤ 20) ⊎ (28 ≤ a) → Same s (counts_put s) a m
+  unfolding counts_put
+  counts_same a m h = by_cond (λ x. Same s x a m) (stage7 s) s _ (λ e i l. refl) (λ e. set-occupied-same s (block_count s) _ room₁ a m h)
 
-  pub counts-next : (x : ℕ) → next (countsPut s) x ≡ next s x
-  unfolding countsPut
-  counts-next x = by_cond (λ y. next y x ≡ next s x) (stage7 s) s _ (λ e. refl) (λ e. set-occupied-next s (blockCount s) _ room₁ x)
+  pub counts-next : (x : ℕ) → next (counts_put s) x ≡ next s x
+  unfolding counts_put
+  counts-next x = by_cond (λ y. next y x ≡ next s x) (stage7 s) s _ (λ e. refl) (λ e. set-occupied-next s (block_count s) _ room₁ x)
 
-  counts-set : stage7 (setOccupied s n (occupied (next s) n)) ≡ true
+  counts-set : stage7 (set_occupied s n (occupied (next s) n)) ≡ true
   counts-set =
       let u = occupied (next s) n in
-      let s' = setOccupied s n u in
-      let b' : blockCount s' ≡ n = omega (arith, set-occupied-length s n u room₁) in
+      let s' = set_occupied s n u in
+      let b' : block_count s' ≡ n = omega (arith, set-occupied-length s n u room₁) in
       let q : occupied (next s') n ≡ occupied (next s) n = occupied-same (next s) (next s') n (λ x l. ap (λ (z : ℕ). eqb z 0) (set-occupied-next s n u room₁ x)) in
       let m = occupied-most (next s) n in
       stage7-is s' n b' (set-occupied-used s n u room₁ (omega arith) ∙ sym q) (set-occupied-free s n u room₁ (omega arith) ∙ ap (λ (z : ℕ). n - z) (sym q))
 
-  pub counts-right : stage7 (countsPut s) ≡ true
-  unfolding countsPut
+  pub counts-right : stage7 (counts_put s) ≡ true
+  unfolding counts_put
   counts-right =
-      let b : blockCount s ≡ n = omega arith in
-      by_cond (λ y. stage7 y ≡ true) (stage7 s) s _ (λ e. e) (λ e. subst (λ (k : ℕ). stage7 (setOccupied s k (occupied (next s) k)) ≡ true) (sym b) counts-set)
+      let b : block_count s ≡ n = omega arith in
+      by_cond (λ y. stage7 y ≡ true) (stage7 s) s _ (λ e. e) (λ e. subst (λ (k : ℕ). stage7 (set_occupied s k (occupied (next s) k)) ≡ true) (sym b) counts-set)

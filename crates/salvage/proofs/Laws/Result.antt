@@ -8,25 +8,25 @@ use native.Mathlib.Omega.{arith}
 use lib.Dec.{eqb}
 use lib.ListN.{length}
 use borrow.Author.Tests.{eq-eqb, eqb-true, lt-ltb, leb-true, le-leb, not-true}
-use Rattle.layout.specs.Limits.{minBlocks, maxBlocks, maxLevels}
+use Rattle.layout.specs.Limits.{min_blocks, max_blocks, max_levels}
 use Rattle.layout.specs.Lists.{every, has}
 use Rattle.layout.specs.Bytes.{be32}
-use Rattle.layout.specs.Geometry.{blockCount, tableBlocks, inVolume}
-use Rattle.layout.specs.Table.{next, chain, chainOk, allOnes}
-use Rattle.layout.specs.Directory.{slot_at, slots, type_of, blocksOf, isDirectory, files, directory, rootOf, children, dirs}
-use Rattle.layout.specs.Check.{stage1, stage2, stage3, stage6, directoryOk, chains, allChains, owned, tableOk, check}
+use Rattle.layout.specs.Geometry.{block_count, table_blocks, in_volume}
+use Rattle.layout.specs.Table.{next, chain, chain_ok, all_ones}
+use Rattle.layout.specs.Directory.{slot_at, slots, type_of, blocks_of, is_directory, files, directory, root_of, children, dirs}
+use Rattle.layout.specs.Check.{stage1, stage2, stage3, stage6, directory_ok, chains, all_chains, owned, table_ok, check}
 use Rattle.layout.proofs.Laws.Tests.{and_split, and-join, true-or-false, within-split, require-zero, true-not-false}
 use Rattle.layout.proofs.Laws.Lists.{In, in-every, every-interval, interval-every, every_in, in-has-eqb}
 use Rattle.layout.proofs.Laws.Joins.{in-interval, select-none, of-join}
-use Rattle.layout.proofs.Laws.Chains.{chainOk-split, chainOk-join, in-chain, chain-used}
+use Rattle.layout.proofs.Laws.Chains.{chain_ok-split, chain_ok-join, in-chain, chain-used}
 use Rattle.layout.proofs.Laws.Frames.{Same, same_then, same-inner, same-be32, same-part}
 use Rattle.layout.proofs.Laws.Entries.{same-type, same-field}
-use Rattle.layout.proofs.Laws.Visits.{Local, Tree, below-is, visit-tree, directoryOk-distinct}
-use Rattle.layout.proofs.Laws.Trees.{Directory, directoryOk-split, length-directory, in-directory, slotAt-zero}
-use Rattle.salvage.specs.Salvage.{salvageRefusal, takeSlots, slotsDone, salvageImage}
-use Rattle.salvage.proofs.Laws.Walked.{chain-stays, chainOk-stays}
+use Rattle.layout.proofs.Laws.Visits.{Local, Tree, below-is, visit-tree, directory_ok-distinct}
+use Rattle.layout.proofs.Laws.Trees.{Directory, directory_ok-split, length-directory, in-directory, slot_at-zero}
+use Rattle.salvage.specs.Salvage.{salvage_refusal, take_slots, slots_done, salvage_image}
+use Rattle.salvage.proofs.Laws.Walked.{chain-stays, chain_ok-stays}
 use Rattle.salvage.proofs.Laws.Places.{Place, slot-high}
-use Rattle.salvage.proofs.Laws.Done.{Done, filesTo, claimed-root}
+use Rattle.salvage.proofs.Laws.Done.{Done, files_to, claimed-root}
 use Rattle.salvage.proofs.Laws.Runs.{Run, run-slots}
 use Rattle.salvage.proofs.Laws.Final.{Final, final, final-slot, final-done}
 
@@ -35,40 +35,40 @@ pub record Given (s : List ℕ) : Type 0 where
   pub one : stage1 s ≡ true
   pub two : stage2 s ≡ true
   pub three : stage3 s ≡ true
-  pub four : directoryOk s (blockCount s) (rootOf s) (rootOf s) ≡ true
-  pub plain : every (λ k. not (isDirectory (type_of s (slot_at (directory s (rootOf s)) k)))) (slots (directory s (rootOf s))) ≡ true
+  pub four : directory_ok s (block_count s) (root_of s) (root_of s) ≡ true
+  pub plain : every (λ k. not (is_directory (type_of s (slot_at (directory s (root_of s)) k)))) (slots (directory s (root_of s))) ≡ true
 
-pub given : (s : List ℕ) (size : ℕ) → salvageRefusal s size ≡ 0 → Given s × (4 * length (directory s (rootOf s)) ≤ size)
-unfolding salvageRefusal
+pub given : (s : List ℕ) (size : ℕ) → salvage_refusal s size ≡ 0 → Given s × (4 * length (directory s (root_of s)) ≤ size)
+unfolding salvage_refusal
 given s size e =
     let a₁ = require-zero (stage1 s) 0 _ e in
     let a₂ = require-zero (stage2 s) 1 _ a₁.1 in
     let a₃ = require-zero (stage3 s) 2 _ a₂.1 in
-    let a₄ = require-zero (directoryOk s (blockCount s) (rootOf s) (rootOf s)) 3 _ a₃.1 in
-    let a₅ = require-zero (every (λ k. not (isDirectory (type_of s (slot_at (directory s (rootOf s)) k)))) (slots (directory s (rootOf s)))) 4 _ a₄.1 in
+    let a₄ = require-zero (directory_ok s (block_count s) (root_of s) (root_of s)) 3 _ a₃.1 in
+    let a₅ = require-zero (every (λ k. not (is_directory (type_of s (slot_at (directory s (root_of s)) k)))) (slots (directory s (root_of s)))) 4 _ a₄.1 in
     let a₆ = require-zero _ 8 _ a₅.1 in
     (record { one = a₁.0; two = a₂.0; three = a₃.0; four = a₄.0; plain = a₅.0 }, leb-true _ _ a₆.0)
 
 module _ (s : List ℕ) (A : Given s) where
   abbrev n : ℕ
-  n = blockCount s
+  n = block_count s
 
   abbrev r : ℕ
-  r = rootOf s
+  r = root_of s
 
   abbrev ds : List ℕ
-  ds = directory s (rootOf s)
+  ds = directory s (root_of s)
 
   pub whole : length s ≡ 512 * n
   unfolding stage1
   whole = eqb-true _ _ (and_split (eqb (length s) (512 * n)) _ A.one).0
 
-  least-most : (minBlocks ≤ n) × (n ≤ maxBlocks)
+  least-most : (min_blocks ≤ n) × (n ≤ max_blocks)
   unfolding stage1
-  least-most = within-split minBlocks maxBlocks n (and_split (eqb (length s) (512 * n)) _ A.one).1
+  least-most = within-split min_blocks max_blocks n (and_split (eqb (length s) (512 * n)) _ A.one).1
 
   root_dir : Directory s n r r
-  root_dir = directoryOk-split s n r r A.four
+  root_dir = directory_ok-split s n r r A.four
 
   pub place : Place n ds
   place =
@@ -76,20 +76,20 @@ module _ (s : List ℕ) (A : Given s) where
         least = least-most.0;
         most = least-most.1;
         blocks = λ x i. let w = in-directory s r x i in rw w.2 (root_dir.chained.above w.0 w.1, root_dir.chained.below w.0 w.1);
-        apart = directoryOk-distinct s n r r A.four;
+        apart = directory_ok-distinct s n r r A.four;
         some = omega (arith, length-directory s r, root_dir.d-least);
       }
 
   pub root-used : (x : ℕ) → In x ds → next s x ≢ 0
   root-used x i = let q = in-directory s r x i in
-      λ z. chain-used (next s) n r (blocksOf s (512 * r)) root_dir.chained least-most.0 q.0 q.1 (ap (next s) (sym q.2) ∙ z)
+      λ z. chain-used (next s) n r (blocks_of s (512 * r)) root_dir.chained least-most.0 q.0 q.1 (ap (next s) (sym q.2) ∙ z)
 
-  inside : every (inVolume n) ds ≡ true
-  unfolding inVolume
-  inside = in-every (inVolume n) ds (λ x i. let w = place.blocks x i in and-join (lt-ltb _ _ w.0) (lt-ltb _ _ w.1))
+  inside : every (in_volume n) ds ≡ true
+  unfolding in_volume
+  inside = in-every (in_volume n) ds (λ x i. let w = place.blocks x i in and-join (lt-ltb _ _ w.0) (lt-ltb _ _ w.1))
 
   start-done : Done n ds s ds 0
-  unfolding filesTo owned
+  unfolding files_to owned
   start-done =
       record {
         whole = whole;
@@ -120,27 +120,27 @@ module _ (s : List ℕ) (A : Given s) where
   pub last-slot : suc m ≡ 4 * length ds - 1
   last-slot = omega (arith, place.some)
 
-  pub no-directory : (k : ℕ) → 0 < k → k ≤ m → isDirectory (type_of s (slot_at ds k)) ≡ false
-  no-directory k h g = not-true _ (every-interval (λ j. not (isDirectory (type_of s (slot_at ds j)))) 1 m A.plain k h (omega arith))
+  pub no-directory : (k : ℕ) → 0 < k → k ≤ m → is_directory (type_of s (slot_at ds k)) ≡ false
+  no-directory k h g = not-true _ (every-interval (λ j. not (is_directory (type_of s (slot_at ds j)))) 1 m A.plain k h (omega arith))
 
-  pub run : Run n ds s (slotsDone s) m
-  unfolding slotsDone
+  pub run : Run n ds s (slots_done s) m
+  unfolding slots_done
   run =
       let e : 0 + m ≡ m = omega arith in
-      subst (λ (k : ℕ). Run n ds s (takeSlots ds (record { image = s; claimed = ds; codes = 0 ∷ [] }) (slots ds)) k) e
+      subst (λ (k : ℕ). Run n ds s (take_slots ds (record { image = s; claimed = ds; codes = 0 ∷ [] }) (slots ds)) k) e
       (run-slots n ds place s m 0 _ start-run (omega (arith, place.some)) (λ k h g. no-directory k h (omega arith)))
 
   abbrev t : List ℕ
-  t = (slotsDone s).image
+  t = (slots_done s).image
 
   abbrev cs : List ℕ
-  cs = (slotsDone s).claimed
+  cs = (slots_done s).claimed
 
   abbrev w : List ℕ
-  w = salvageImage s
+  w = salvage_image s
 
   pub end : Final n ds t cs w
-  unfolding salvageImage
+  unfolding salvage_image
   end = final n ds place t cs m run.done last-slot
 
   pub done : Done n ds w cs m
@@ -149,12 +149,12 @@ module _ (s : List ℕ) (A : Given s) where
   pub len : length w ≡ length s
   len = end.len ∙ run.since.len
 
-  bw : blockCount w ≡ n
+  bw : block_count w ≡ n
   bw = ap (λ (x : ℕ). x / 512) len
 
   -- the root's own entry
   zero-at : slot_at ds 0 ≡ 512 * r
-  zero-at = slotAt-zero s r root_dir.d-least
+  zero-at = slot_at-zero s r root_dir.d-least
 
   self-same : Same s w (512 * r) 128
   self-same =
@@ -175,14 +175,14 @@ module _ (s : List ℕ) (A : Given s) where
 
   root-stays : directory w r ≡ ds
   unfolding directory
-  root-stays = rw (self-field 12 (omega arith)) (chain-stays (next s) (next w) r (blocksOf s (512 * r)) (λ x i. value x i))
+  root-stays = rw (self-field 12 (omega arith)) (chain-stays (next s) (next w) r (blocks_of s (512 * r)) (λ x i. value x i))
 
-  root-chain : chainOk (next w) n r (blocksOf s (512 * r)) ≡ chainOk (next s) n r (blocksOf s (512 * r))
+  root-chain : chain_ok (next w) n r (blocks_of s (512 * r)) ≡ chain_ok (next s) n r (blocks_of s (512 * r))
   unfolding directory
-  root-chain = chainOk-stays (next s) (next w) n r (blocksOf s (512 * r)) (λ x i. value x i)
+  root-chain = chain_ok-stays (next s) (next w) n r (blocks_of s (512 * r)) (λ x i. value x i)
 
-  root-right : directoryOk w n r r ≡ true
-  unfolding directoryOk
+  root-right : directory_ok w n r r ≡ true
+  unfolding directory_ok
   root-right =
       rw (self_type, self-field 4 (omega arith), self-field 8 (omega arith), self-field 12 (omega arith), root-stays, root-chain) A.four
 
@@ -190,14 +190,14 @@ module _ (s : List ℕ) (A : Given s) where
   no-children : children w r ≡ []
   unfolding children
   no-children =
-      rw root-stays (ap (map (slot_at ds)) (select-none (λ k. isDirectory (type_of w (slot_at ds k))) (slots ds)
+      rw root-stays (ap (map (slot_at ds)) (select-none (λ k. is_directory (type_of w (slot_at ds k))) (slots ds)
       (λ k i e. let x = in-interval 1 m k i in true-not-false e (done.plain k x.0 (omega arith)))))
 
-  dirs-one : dirs w ≡ (r, maxLevels) ∷ []
+  dirs-one : dirs w ≡ (r, max_levels) ∷ []
   unfolding dirs
-  dirs-one = rw (bw, below-is w maxLevels r, no-children)
+  dirs-one = rw (bw, below-is w max_levels r, no-children)
 
-  local : Local w n r maxLevels
+  local : Local w n r max_levels
   local =
       record {
         end-type = rw root-stays end.end;
@@ -216,43 +216,43 @@ module _ (s : List ℕ) (A : Given s) where
       }
 
   -- the table
-  all-chains : allChains w ≡ (r, length ds) ∷ filesTo w ds m
-  unfolding allChains chains filesTo files
+  all-chains : all_chains w ≡ (r, length ds) ∷ files_to w ds m
+  unfolding all_chains chains files_to files
   all-chains = rw (dirs-one, root-stays) (append-nil _)
 
   own-chain : chain (next w) r (length ds) ≡ ds
   unfolding directory
-  own-chain = rw (length-directory s r) (chain-stays (next s) (next w) r (blocksOf s (512 * r)) (λ x i. value x i))
+  own-chain = rw (length-directory s r) (chain-stays (next s) (next w) r (blocks_of s (512 * r)) (λ x i. value x i))
 
-  all-owned : owned (next w) ((r, length ds) ∷ filesTo w ds m) ≡ cs
+  all-owned : owned (next w) ((r, length ds) ∷ files_to w ds m) ≡ cs
   unfolding owned
-  all-owned = ap (λ (l : List ℕ). l ++ owned (next w) (filesTo w ds m)) own-chain ∙ sym done.claims
+  all-owned = ap (λ (l : List ℕ). l ++ owned (next w) (files_to w ds m)) own-chain ∙ sym done.claims
 
-  chains-right : every (λ c. chainOk (next w) n c.0 c.1) ((r, length ds) ∷ filesTo w ds m) ≡ true
-  chains-right = and-join {a = chainOk (next w) n r (length ds)} (rw (length-directory s r, root-chain) own) done.chained
+  chains-right : every (λ c. chain_ok (next w) n c.0 c.1) ((r, length ds) ∷ files_to w ds m) ≡ true
+  chains-right = and-join {a = chain_ok (next w) n r (length ds)} (rw (length-directory s r, root-chain) own) done.chained
     where
-      own : chainOk (next s) n r (blocksOf s (512 * r)) ≡ true
-      own = chainOk-join (next s) n r (blocksOf s (512 * r)) root_dir.chained
+      own : chain_ok (next s) n r (blocks_of s (512 * r)) ≡ true
+      own = chain_ok-join (next s) n r (blocks_of s (512 * r)) root_dir.chained
 
   -- a claimed block is in use
   pub claimed-used : (b : ℕ) → In b cs → next w b ≢ 0
   unfolding owned
   claimed-used b i =
-      let all : List (ℕ × ℕ) = (r, length ds) ∷ filesTo w ds m in
+      let all : List (ℕ × ℕ) = (r, length ds) ∷ files_to w ds m in
       let q = of-join (λ c. chain (next w) c.0 c.1) all b (subst (In b) (sym all-owned) i) in
-      let c = chainOk-split (next w) n q.0.0 q.0.1 (every_in (λ c. chainOk (next w) n c.0 c.1) all q.0 chains-right q.1) in
+      let c = chain_ok-split (next w) n q.0.0 q.0.1 (every_in (λ c. chain_ok (next w) n c.0 c.1) all q.0 chains-right q.1) in
       let x = in-chain (next w) q.0.0 q.0.1 b q.2 in
       λ z. chain-used (next w) n q.0.0 q.0.1 c place.least x.0 x.1 (ap (next w) (sym x.2) ∙ z)
 
-  table-right : tableOk (next w) n ((r, length ds) ∷ filesTo w ds m) ≡ true
-  unfolding tableOk allOnes
+  table-right : table_ok (next w) n ((r, length ds) ∷ files_to w ds m) ≡ true
+  unfolding table_ok all_ones
   table-right =
       rw all-owned (and-join chains-right (and-join done.apart
-      (and-join (interval-every (λ b. eqb (next w b) 1) 0 (tableBlocks n + 1) (λ b h g. eq-eqb _ 1 (end.ones b (omega arith))))
-      (interval-every (λ b. eqb (next w b) 0 || has eqb b cs) (tableBlocks n + 1) (128 * tableBlocks n - (tableBlocks n + 1)) free_or))))
+      (and-join (interval-every (λ b. eqb (next w b) 1) 0 (table_blocks n + 1) (λ b h g. eq-eqb _ 1 (end.ones b (omega arith))))
+      (interval-every (λ b. eqb (next w b) 0 || has eqb b cs) (table_blocks n + 1) (128 * table_blocks n - (table_blocks n + 1)) free-or))))
     where
-      free_or : (b : ℕ) → tableBlocks n + 1 ≤ b → b < tableBlocks n + 1 + (128 * tableBlocks n - (tableBlocks n + 1)) → eqb (next w b) 0 || has eqb b cs ≡ true
-      free_or b h g = ⊎_elim
+      free-or : (b : ℕ) → table_blocks n + 1 ≤ b → b < table_blocks n + 1 + (128 * table_blocks n - (table_blocks n + 1)) → eqb (next w b) 0 || has eqb b cs ≡ true
+      free-or b h g = ⊎_elim
           (λ i. rw i (or-true (eqb (next w b) 0)))
           (λ o. rw (eq-eqb (next w b) 0 (end.free b (omega arith) (omega arith) (λ i. true-not-false (in-has-eqb b cs i) o))))
           (true-or-false (has eqb b cs))
@@ -285,11 +285,11 @@ module _ (s : List ℕ) (A : Given s) where
   pub salvaged-sound : check w ≡ 0
   unfolding check
   salvaged-sound =
-      let T : Tree w (blockCount w) = subst (Tree w) (sym bw) root-tree in
+      let T : Tree w (block_count w) = subst (Tree w) (sym bw) root-tree in
       rw (one, two, three, visit-tree w T, six, end.counts)
 
   -- salvaged once, it is accepted again
-  pub root-again : directory w (rootOf w) ≡ ds
+  pub root-again : directory w (root_of w) ≡ ds
   root-again = rw bw root-stays
 
   pub given-again : Given w
@@ -299,11 +299,11 @@ module _ (s : List ℕ) (A : Given s) where
         two = two;
         three = three;
         four = rw bw root-right;
-        plain = rw root-again (in-every (λ k. not (isDirectory (type_of w (slot_at ds k)))) (slots ds)
+        plain = rw root-again (in-every (λ k. not (is_directory (type_of w (slot_at ds k)))) (slots ds)
             (λ k i. let x = in-interval 1 m k i in ap not (done.plain k x.0 (omega arith))));
       }
 
 -- and an image that passes is
-pub accepts : (s : List ℕ) (size : ℕ) → Given s → 4 * length (directory s (rootOf s)) ≤ size → salvageRefusal s size ≡ 0
-unfolding salvageRefusal
-accepts s size A h = rw (A.one, A.two, A.three, A.four, A.plain, le-leb (4 * length (directory s (rootOf s))) size h)
+pub accepts : (s : List ℕ) (size : ℕ) → Given s → 4 * length (directory s (root_of s)) ≤ size → salvage_refusal s size ≡ 0
+unfolding salvage_refusal
+accepts s size A h = rw (A.one, A.two, A.three, A.four, A.plain, le-leb (4 * length (directory s (root_of s))) size h)

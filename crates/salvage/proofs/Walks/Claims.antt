@@ -11,12 +11,12 @@ use lib.ListN.{length, get_or, set, length-set}
 use lib.Seq.{get_or-set_same, get_or-set_other}
 use borrow.Author.Tests.{eq-eqb, ne_eqb, eqb-true, lt-ltb, not-true, not-false}
 use Rattle.layout.specs.Lists.{has, last_or}
-use Rattle.layout.specs.Geometry.{tableBlocks, inVolume}
+use Rattle.layout.specs.Geometry.{table_blocks, in_volume}
 use Rattle.layout.specs.Table.{next, chain}
 use Rattle.layout.specs.Walks.Shapes.{ChainBelow}
 use Rattle.layout.proofs.Laws.Tests.{and-join, eqb-self, is_false, true-not-false}
 use Rattle.layout.proofs.Laws.Lists.{In, in-elim, in-append, in_left, in_right, every_in, has-eqb-in, in-has-eqb, false-has, distinct_append, every_append}
-use Rattle.layout.proofs.Laws.Chains.{nth, nth-suc, chain-none, chain-suc, chain_snoc, length-chain, getD-chain, in-chain, chain-in, last_some, inVolume-split}
+use Rattle.layout.proofs.Laws.Chains.{nth, nth-suc, chain-none, chain-suc, chain_snoc, length-chain, get_d-chain, in-chain, chain-in, last_some, in_volume-split}
 use Rattle.layout.proofs.Walks.Marks.{marked_more}
 use Rattle.layout.proofs.Walks.Shapes.{run-rest}
 use Rattle.salvage.specs.Salvage.{claimable, ends}
@@ -61,8 +61,8 @@ module _ (v : ℕ → ℕ) (n first : ℕ) (m₀ m : List ℕ) (met b : ℕ) (w 
   one_more : chain v first (suc met) ≡ chain v first met ++ (b ∷ [])
   one_more = chain_snoc v v first first met b (λ y h. refl) (sym w.here)
 
-  pub walking-more : (c : ℕ) → tableBlocks n < b → b < n → n ≤ length m → get_or m b 0 ≡ 0 → c ≡ v b → Walking v n first m₀ (set m b 1) (met + 1) c
-  unfolding inVolume
+  pub walking-more : (c : ℕ) → table_blocks n < b → b < n → n ≤ length m → get_or m b 0 ≡ 0 → c ≡ v b → Walking v n first m₀ (set m b 1) (met + 1) c
+  unfolding in_volume
   walking-more c low high room z e =
       let q : met + 1 ≡ suc met = omega arith in
       rw (q, e)
@@ -83,7 +83,7 @@ module _ (v : ℕ → ℕ) (n first : ℕ) (m₀ m : List ℕ) (met b : ℕ) (w 
           let C = w.good cs M in
           let out = unmarked-out m (cs ++ xs) b (w.marks cs M) z in
           record {
-            inside = every_append (inVolume n) xs (b ∷ []) C.inside (and-join (and-join (lt-ltb _ _ low) (lt-ltb _ _ high)) refl);
+            inside = every_append (in_volume n) xs (b ∷ []) C.inside (and-join (and-join (lt-ltb _ _ low) (lt-ltb _ _ high)) refl);
             once = distinct_append eqb eqb-true eqb-self xs (b ∷ []) C.once refl
                 (λ x i j. in-elim x b [] j (λ p. out (in_right b cs xs (subst (λ (y : ℕ). In y xs) p i))) (λ o. o));
             fresh = λ x i j. ⊎_elim (λ o. C.fresh x i o) (λ o. in-elim x b [] o (λ p. out (in_left b cs xs (subst (λ (y : ℕ). In y cs) p i))) (λ o. o)) (in-append x xs (b ∷ []) j);
@@ -101,15 +101,15 @@ module _ (v : ℕ → ℕ) (n first : ℕ) (m₀ m : List ℕ) (met b : ℕ) (w 
     walked-stuck f =
         record {
           most = omega arith;
-          below = λ i h. rw (getD-chain v first met i h) (w.below i h);
+          below = λ i h. rw (get_d-chain v first met i h) (w.below i h);
           marks = w.marks;
           good = λ cs M. claimable-join n cs (chain v first met) (w.good cs M);
           stuck = λ h cs M. stop cs (f cs M);
         }
 
-    pub walked-outside : (b ≤ tableBlocks n) ⊎ (n ≤ b) → Walked v n first k m₀ met m
+    pub walked-outside : (b ≤ table_blocks n) ⊎ (n ≤ b) → Walked v n first k m₀ met m
     walked-outside o = walked-stuck (λ cs M C.
-        let i = inVolume-split n b (every_in (inVolume n) (chain v first k) b C.inside in_whole) in
+        let i = in_volume-split n b (every_in (in_volume n) (chain v first k) b C.inside in_whole) in
         ⊎_elim (λ p. omega arith) (λ p. omega arith) o)
 
     pub walked-marked : get_or m b 0 ≢ 0 → Walked v n first k m₀ met m
@@ -117,14 +117,14 @@ module _ (v : ℕ → ℕ) (n first : ℕ) (m₀ m : List ℕ) (met b : ℕ) (w 
         ⊎_elim (λ i. C.fresh b i in_whole)
         (λ i. let x = in-chain v first met b i in
         index-apart (chain v first k) C.once x.0 met (rw (length-chain v first k) (omega (arith, x.1))) (rw (length-chain v first k) more) (λ p. omega (arith, x.1))
-        (getD-chain v first k x.0 (omega (arith, x.1)) ∙ sym x.2 ∙ w.here ∙ sym (getD-chain v first k met more)))
+        (get_d-chain v first k x.0 (omega (arith, x.1)) ∙ sym x.2 ∙ w.here ∙ sym (get_d-chain v first k met more)))
         (in-append b cs (chain v first met) (marked-in m (cs ++ chain v first met) b (w.marks cs M) ne)))
 
   pub walked_all : (k : ℕ) → met ≡ k → Walked v n first k m₀ met m
   walked_all k e =
       record {
         most = omega arith;
-        below = λ i h. rw (getD-chain v first met i h) (w.below i h);
+        below = λ i h. rw (get_d-chain v first met i h) (w.below i h);
         marks = w.marks;
         good = λ cs M. claimable-join n cs (chain v first met) (w.good cs M);
         stuck = λ h cs M. absurd (omega arith);
@@ -203,7 +203,7 @@ module _ (v : ℕ → ℕ) (n first k : ℕ) (m : List ℕ) (r : ℕ) (m' : List
       record {
         told = λ cs M. sym (w.stuck (omega (arith, w.most)) cs M);
         marks = λ cs M. rw e (marks-back m' cs (chain v first r)
-            (λ y i. let x = in-chain v first r y i in let h = w.below x.0 x.1 in omega (arith, h, getD-chain v first r x.0 x.1, x.2))
+            (λ y i. let x = in-chain v first r y i in let h = w.below x.0 x.1 in omega (arith, h, get_d-chain v first r x.0 x.1, x.2))
             (claimable-split n cs (chain v first r) (w.good cs M)).fresh (w.marks cs M));
         below = λ t. absurd (false≢true t);
       }

@@ -6,23 +6,23 @@ use mathlib.Core.Path.{◌≡◌, refl, sym, ap, ◌∙◌, subst}
 use native.Mathlib.Omega.{arith}
 use lib.ListN.{length, get_or, set, length-set}
 use lib.Seq.{get_or-set_same, get_or-set_other}
-use Rattle.layout.specs.Limits.{maxSlots, maxDirectory}
+use Rattle.layout.specs.Limits.{max_slots, max_directory}
 use Rattle.layout.specs.Lists.{interval}
 use Rattle.layout.specs.Bytes.{part, splice}
-use Rattle.layout.specs.Geometry.{blockCount}
+use Rattle.layout.specs.Geometry.{block_count}
 use Rattle.layout.specs.Table.{next, chain}
-use Rattle.layout.specs.Directory.{slot_at, type_of, blocksOf, directory, rootOf}
+use Rattle.layout.specs.Directory.{slot_at, type_of, blocks_of, directory, root_of}
 use Rattle.layout.specs.Walks.Names.{Noted, SlotIn, fingerprint}
 use Rattle.layout.specs.Walks.Shapes.{Shape, Blocks, DirectoryAt}
-use Rattle.layout.specs.Walks.Slots.{Place, entry_at, slotBlock}
+use Rattle.layout.specs.Walks.Slots.{Place, entry_at, slot_block}
 use Rattle.layout.proofs.Laws.Tests.{below_more}
-use Rattle.layout.proofs.Laws.Lists.{getD-in}
+use Rattle.layout.proofs.Laws.Lists.{get_d-in}
 use Rattle.layout.proofs.Laws.Frames.{Same, same-part, same_byte}
-use Rattle.layout.proofs.Laws.Trees.{Directory, directoryOk-split, length-directory}
+use Rattle.layout.proofs.Laws.Trees.{Directory, directory_ok-split, length-directory}
 use Rattle.layout.proofs.Walks.Fingerprints.{noted-none}
-use Rattle.layout.proofs.Walks.Shapes.{shape-blockCount}
+use Rattle.layout.proofs.Walks.Shapes.{shape-block_count}
 use Rattle.layout.proofs.Walks.Slots.{place-first, place-then, place-entry, place-below}
-use Rattle.salvage.specs.Salvage.{Progress, takeSlot, takeSlots, slotsDone}
+use Rattle.salvage.specs.Salvage.{Progress, take_slot, take_slots, slots_done}
 use Rattle.salvage.specs.Walks.{MarksOf, progress, Reached, SlotGiven, SlotTaken, RootGiven, RootTaken}
 use Rattle.salvage.proofs.Laws.Walked.{chain-stays}
 use Rattle.salvage.proofs.Laws.Places.{slot-low, slot-high, slots_apart}
@@ -37,19 +37,19 @@ pub record Taking (s₀ : List ℕ) (n first d : ℕ) (report₀ s m ps pl repor
   pub claimed : List ℕ
   pub codes : List ℕ
   pub here : k ≡ suc done
-  pub run : Run (blockCount s₀) (directory s₀ (rootOf s₀)) s₀ (progress s claimed codes) done
-  pub rest : takeSlots (directory s₀ (rootOf s₀)) (progress s claimed codes) (interval k left) ≡ slotsDone s₀
+  pub run : Run (block_count s₀) (directory s₀ (root_of s₀)) s₀ (progress s claimed codes) done
+  pub rest : take_slots (directory s₀ (root_of s₀)) (progress s claimed codes) (interval k left) ≡ slots_done s₀
   pub marks : MarksOf m claimed
   pub noted : Noted s (chain (next s) first d) ps pl k
-  pub at : Place (directory s₀ (rootOf s₀)) d b k left
+  pub at : Place (directory s₀ (root_of s₀)) d b k left
   pub told : report ≡ splice report₀ 0 codes
 
 module _ {s₀ : List ℕ} {t n first d : ℕ} {m₀ report₀ : List ℕ} (R : RootGiven s₀ t n first d m₀ report₀) where
   abbrev ds : List ℕ
-  ds = directory s₀ (rootOf s₀)
+  ds = directory s₀ (root_of s₀)
 
   abbrev N : ℕ
-  N = blockCount s₀
+  N = block_count s₀
 
   A : Given s₀
   A = (given s₀ (length report₀) (sym R.weighed.number)).0
@@ -58,20 +58,20 @@ module _ {s₀ : List ℕ} {t n first d : ℕ} {m₀ report₀ : List ℕ} (R : 
   root-room = omega (arith, (given s₀ (length report₀) (sym R.weighed.number)).1, R.size)
 
   count : N ≡ n
-  count = shape-blockCount s₀ n R.room.shape
+  count = shape-block_count s₀ n R.room.shape
 
-  root-right : Directory s₀ N (rootOf s₀) (rootOf s₀)
-  root-right = directoryOk-split s₀ N (rootOf s₀) (rootOf s₀) A.four
+  root-right : Directory s₀ N (root_of s₀) (root_of s₀)
+  root-right = directory_ok-split s₀ N (root_of s₀) (root_of s₀) A.four
 
-  pub root-size : (1 ≤ d) × (d ≤ maxDirectory)
-  root-size = (omega (arith, R.size, (place s₀ A).some), omega (arith, R.size, length-directory s₀ (rootOf s₀), root-right.d-most))
+  pub root-size : (1 ≤ d) × (d ≤ max_directory)
+  root-size = (omega (arith, R.size, (place s₀ A).some), omega (arith, R.size, length-directory s₀ (root_of s₀), root-right.d-most))
 
   module _ {s cs codes : List ℕ} {j : ℕ} (U : Run N ds s₀ (progress s cs codes) j) where
     pub root-same : chain (next s) first d ≡ ds
     unfolding directory
     root-same =
-        let e : d ≡ blocksOf s₀ (512 * rootOf s₀) = R.size ∙ length-directory s₀ (rootOf s₀) in
-        rw (e, R.begins) (chain-stays (next s₀) (next s) (rootOf s₀) (blocksOf s₀ (512 * rootOf s₀)) (λ x i. U.since.root x i))
+        let e : d ≡ blocks_of s₀ (512 * root_of s₀) = R.size ∙ length-directory s₀ (root_of s₀) in
+        rw (e, R.begins) (chain-stays (next s₀) (next s) (root_of s₀) (blocks_of s₀ (512 * root_of s₀)) (λ x i. U.since.root x i))
 
     root-shape : Shape s n
     root-shape = record { whole = omega (arith, U.done.whole, count); low = R.room.shape.low; high = R.room.shape.high }
@@ -84,13 +84,13 @@ module _ {s₀ : List ℕ} {t n first d : ℕ} {m₀ report₀ : List ℕ} (R : 
             some = root-size.0;
             few = root-size.1;
             size = sym R.size;
-            below = λ i h. let w = (place s₀ A).blocks (get_or ds i 0) (getD-in ds i 0 (omega (arith, R.size))) in omega (arith, w.1, count);
+            below = λ i h. let w = (place s₀ A).blocks (get_or ds i 0) (get_d-in ds i 0 (omega (arith, R.size))) in omega (arith, w.1, count);
           });
         }
 
   -- before the first slot
-  pub taking-start : (ps pl : List ℕ) → length ps ≡ maxSlots → length pl ≡ maxSlots → Taking s₀ n first d report₀ s₀ m₀ ps pl report₀ first 1 (4 * d - 2)
-  unfolding slotsDone
+  pub taking-start : (ps pl : List ℕ) → length ps ≡ max_slots → length pl ≡ max_slots → Taking s₀ n first d report₀ s₀ m₀ ps pl report₀ first 1 (4 * d - 2)
+  unfolding slots_done
   taking-start ps pl l l' =
       let U = start-run s₀ A in
       record {
@@ -99,7 +99,7 @@ module _ {s₀ : List ℕ} {t n first d : ℕ} {m₀ report₀ : List ℕ} (R : 
         codes = 0 ∷ [];
         here = refl;
         run = U;
-        rest = ap (λ (x : ℕ). takeSlots ds (progress s₀ ds (0 ∷ [])) (interval 1 (4 * x - 2))) R.size;
+        rest = ap (λ (x : ℕ). take_slots ds (progress s₀ ds (0 ∷ [])) (interval 1 (4 * x - 2))) R.size;
         marks = R.weighed.marks refl;
         noted = noted-none s₀ (chain (next s₀) first d) ps pl l l';
         at = subst (λ (x : List ℕ). Place x d first 1 (4 * d - 2)) (root-same U) (place-first (next s₀) first d root-size.0);
@@ -125,7 +125,7 @@ module _ {s₀ : List ℕ} {t n first d : ℕ} {m₀ report₀ : List ℕ} (R : 
 
     pub taking-end : left ≡ 0 → RootTaken s₀ report₀ s m report
     taking-end z =
-        let e : progress s T.claimed T.codes ≡ slotsDone s₀ = sym (slots_end ds (progress s T.claimed T.codes) k) ∙ ap (λ (j : ℕ). takeSlots ds (progress s T.claimed T.codes) (interval k j)) (sym z) ∙ T.rest in
+        let e : progress s T.claimed T.codes ≡ slots_done s₀ = sym (slots_end ds (progress s T.claimed T.codes) k) ∙ ap (λ (j : ℕ). take_slots ds (progress s T.claimed T.codes) (interval k j)) (sym z) ∙ T.rest in
         record {
           image = ap (λ (p : Progress). p.image) e;
           marks = subst (λ (p : Progress). MarksOf m p.claimed) e T.marks;
@@ -167,12 +167,12 @@ module _ {s₀ : List ℕ} {t n first d : ℕ} {m₀ report₀ : List ℕ} (R : 
         p = progress s T.claimed T.codes
 
         abbrev q : Progress
-        q = takeSlot ds p k
+        q = take_slot ds p k
 
         X : Reached T.codes q code s' m'
-        X = subst (λ (x : List ℕ). Reached T.codes (takeSlot x p k) code s' m') same-root (S.reached T.claimed T.codes T.marks)
+        X = subst (λ (x : List ℕ). Reached T.codes (take_slot x p k) code s' m') same-root (S.reached T.claimed T.codes T.marks)
 
-        stepped : Stepped N ds p (takeSlot ds p (suc T.done)) (suc T.done)
+        stepped : Stepped N ds p (take_slot ds p (suc T.done)) (suc T.done)
         stepped =
             let h : suc T.done < 4 * length ds = omega (arith, taking-slot, T.here, R.size) in
             slot-stepped N ds (place s₀ A) p T.done T.run.done h
@@ -181,7 +181,7 @@ module _ {s₀ : List ℕ} {t n first d : ℕ} {m₀ report₀ : List ℕ} (R : 
         ran : Run N ds s₀ q k
         ran =
             let h : suc T.done < 4 * length ds = omega (arith, taking-slot, T.here, R.size) in
-            subst (λ (j : ℕ). Run N ds s₀ (takeSlot ds p j) j) (sym T.here) (run-next N ds (place s₀ A) s₀ p T.done T.run h (takeSlot ds p (suc T.done)) stepped)
+            subst (λ (j : ℕ). Run N ds s₀ (take_slot ds p j) j) (sym T.here) (run-next N ds (place s₀ A) s₀ p T.done T.run h (take_slot ds p (suc T.done)) stepped)
 
         q-is : q ≡ progress s' q.claimed (T.codes ++ (code ∷ []))
         q-is = ap (λ (x : List ℕ). progress x q.claimed q.codes) (sym X.image) ∙ ap (λ (x : List ℕ). progress s' q.claimed x) X.coded
@@ -193,7 +193,7 @@ module _ {s₀ : List ℕ} {t n first d : ℕ} {m₀ report₀ : List ℕ} (R : 
         other-slot i h =
             let hk : suc T.done < 4 * length ds = omega (arith, taking-slot, T.here, R.size) in
             let hi : i < 4 * length ds = omega (arith, T.here) in
-            let e : (takeSlot ds p (suc T.done)).image ≡ s' = ap (λ (j : ℕ). (takeSlot ds p j).image) (sym T.here) ∙ sym X.image in
+            let e : (take_slot ds p (suc T.done)).image ≡ s' = ap (λ (j : ℕ). (take_slot ds p j).image) (sym T.here) ∙ sym X.image in
             subst (λ (x : List ℕ). Same s x (slot_at ds i) 128) e
             (stepped.step.beside (slot_at ds i) 128 (inr (slot-low N ds (place s₀ A) i hi)) (slots_apart N ds (place s₀ A) i (suc T.done) hi hk (λ z. omega (arith, T.here))))
 
@@ -214,7 +214,7 @@ module _ {s₀ : List ℕ} {t n first d : ℕ} {m₀ report₀ : List ℕ} (R : 
 
         -- the next turn: the slot's code is stored, and its fingerprint noted as it is now
         pub taking-turn : (ps₁ ps₂ pl₁ : List ℕ) → (v : ℕ) → ps₁ ≡ set ps k v → ps₂ ≡ set ps₁ k (fingerprint (part s' (entry_at b k + 48) 80)) → pl₁ ≡ set pl k b
-            → (c : ℕ) → c ≡ slotBlock (next s') b (k + 1) → Taking s₀ n first d report₀ s' m' ps₂ pl₁ (set report k code) c (k + 1) (left - 1)
+            → (c : ℕ) → c ≡ slot_block (next s') b (k + 1) → Taking s₀ n first d report₀ s' m' ps₂ pl₁ (set report k code) c (k + 1) (left - 1)
         taking-turn ps₁ ps₂ pl₁ v e₁ e₂ e₃ c ec =
             let y : ℕ = fingerprint (part s' (entry_at b k + 48) 80) in
             let z : k + 1 ≡ suc k = omega arith in
@@ -231,8 +231,8 @@ module _ {s₀ : List ℕ} {t n first d : ℕ} {m₀ report₀ : List ℕ} (R : 
               here = z;
               run = ran';
               rest =
-                  ap (λ (x : Progress). takeSlots ds x (interval (k + 1) (left - 1))) (sym q-is) ∙ ap (λ (j : ℕ). takeSlots ds q (interval j (left - 1))) z
-                  ∙ sym (slots_next ds p k (left - 1)) ∙ ap (λ (j : ℕ). takeSlots ds p (interval k j)) f ∙ T.rest;
+                  ap (λ (x : Progress). take_slots ds x (interval (k + 1) (left - 1))) (sym q-is) ∙ ap (λ (j : ℕ). take_slots ds q (interval j (left - 1))) z
+                  ∙ sym (slots_next ds p k (left - 1)) ∙ ap (λ (j : ℕ). take_slots ds p (interval k j)) f ∙ T.rest;
               marks = X.marks;
               noted = record {
                 prints-room = l₂ ∙ T.noted.prints-room;

@@ -9,18 +9,18 @@ use lib.ListN.{length, get_or}
 use borrow.Author.Tests.{eq-eqb, ne_eqb, lt-ltb, ltb-true}
 use Rattle.layout.specs.Lists.{interval, has}
 use Rattle.layout.specs.Bytes.{be32, zeros, splice}
-use Rattle.layout.specs.Geometry.{blockCount, tableBlocks}
-use Rattle.layout.specs.Table.{next, setNext, occupied}
+use Rattle.layout.specs.Geometry.{block_count, table_blocks}
+use Rattle.layout.specs.Table.{next, set_next, occupied}
 use Rattle.layout.specs.Directory.{slot_at, type_of}
 use Rattle.layout.specs.Check.{stage7}
-use Rattle.layout.specs.Walks.Chains.{countUsed}
+use Rattle.layout.specs.Walks.Chains.{count_used}
 use Rattle.layout.specs.Walks.Shapes.{Shape}
 use Rattle.layout.specs.Walks.Slots.{entry_at}
-use Rattle.volume.specs.Entries.{setOccupied}
+use Rattle.volume.specs.Entries.{set_occupied}
 use Rattle.layout.proofs.Laws.Tests.{is_false}
 use Rattle.layout.proofs.Laws.Lists.{in-has-eqb, false-has}
-use Rattle.layout.proofs.Walks.Shapes.{shape-blockCount}
-use Rattle.salvage.specs.Salvage.{end_at, endRight, endPut, one_at, freeAt, in_turn, tablePut, countsPut}
+use Rattle.layout.proofs.Walks.Shapes.{shape-block_count}
+use Rattle.salvage.specs.Salvage.{end_at, end_right, end_put, one_at, free_at, in_turn, table_put, counts_put}
 use Rattle.salvage.specs.Walks.{MarksOf, EntryFreed, EntriesFreed, TablePut}
 use Rattle.salvage.proofs.Walks.Turns.{end-left, end-set, free-left, free-block, free-padding, counts-left, counts-new, turn_end, turn-next}
 use Rattle.salvage.proofs.Walks.Claims.{unmarked-out, marked-in}
@@ -35,18 +35,18 @@ module _ (s ds : List ℕ) (d b : ℕ) (size : length ds ≡ d) (some : 1 ≤ d)
       rw (q, r, ← last)
 
   module _ (type : ℕ) (et : type ≡ type_of s (entry_at b 3)) where
-    pub end-right : type ≡ 255 → endRight s ds ≡ true
-    unfolding endRight
+    pub end-right : type ≡ 255 → end_right s ds ≡ true
+    unfolding end_right
     end-right z = rw end_is (eq-eqb _ 255 (sym et ∙ z))
 
-    pub end-wrong : (type ≡ 255 → ⊥) → endRight s ds ≡ false
-    unfolding endRight
+    pub end-wrong : (type ≡ 255 → ⊥) → end_right s ds ≡ false
+    unfolding end_right
     end-wrong z = rw end_is (ne_eqb _ 255 (λ e. z (et ∙ e)))
 
-    pub end-stored : (type ≡ 255 → ⊥) → splice s (512 * b + 384) (255 ∷ []) ≡ endPut s ds
+    pub end-stored : (type ≡ 255 → ⊥) → splice s (512 * b + 384) (255 ∷ []) ≡ end_put s ds
     end-stored z = ap (λ (x : ℕ). splice s x (255 ∷ [])) (sym end_is) ∙ sym (end-set s ds (end-wrong z))
 
-    pub end_kept : type ≡ 255 → s ≡ endPut s ds
+    pub end_kept : type ≡ 255 → s ≡ end_put s ds
     end_kept z = sym (end-left s ds (end-right z))
 
 -- AN ENTRY that is not claimed
@@ -61,15 +61,15 @@ module _ (s m : List ℕ) (n b : ℕ) (shape : Shape s n) where
     lost : (cs : List ℕ) → MarksOf m cs → has eqb b cs || eqb (next s b) 0 ≡ false
     lost cs M = rw (false-has b cs (unmarked-out m cs b M clear), ne_eqb (next s b) 0 used)
 
-    pub freed-padding : n ≤ b → s' ≡ setNext s b 0 → EntryFreed s m b s'
+    pub freed-padding : n ≤ b → s' ≡ set_next s b 0 → EntryFreed s m b s'
     freed-padding h e =
-        let c = shape-blockCount s n shape in
-        record { freed = λ cs M. e ∙ sym (free-padding s cs b (lost cs M) (is_false _ (λ z. let y : b < blockCount s = ltb-true _ _ z in omega arith))) }
+        let c = shape-block_count s n shape in
+        record { freed = λ cs M. e ∙ sym (free-padding s cs b (lost cs M) (is_false _ (λ z. let y : b < block_count s = ltb-true _ _ z in omega arith))) }
 
-    pub freed-block : b < n → s' ≡ setNext (splice s (512 * b) (zeros 512)) b 0 → EntryFreed s m b s'
+    pub freed-block : b < n → s' ≡ set_next (splice s (512 * b) (zeros 512)) b 0 → EntryFreed s m b s'
     freed-block h e =
-        let c = shape-blockCount s n shape in
-        record { freed = λ cs M. e ∙ sym (free-block s cs b (lost cs M) (lt-ltb b (blockCount s) (omega arith))) }
+        let c = shape-block_count s n shape in
+        record { freed = λ cs M. e ∙ sym (free-block s cs b (lost cs M) (lt-ltb b (block_count s) (omega arith))) }
 
 -- THE LOOPS: each entry in turn; the image will be `goal`
 module _ (f : List ℕ → ℕ → List ℕ) (s : List ℕ) (b left : ℕ) where
@@ -85,28 +85,28 @@ module _ (f : List ℕ → ℕ → List ℕ) (s : List ℕ) (b left : ℕ) where
 -- the entries from b on are freed, for every list of blocks that the marks are those of
 pub record Freeing (s₀ m : List ℕ) (a k : ℕ) (s : List ℕ) (b left : ℕ) : Type 0 where
   pub size : length s ≡ length s₀
-  pub whole : (cs : List ℕ) → MarksOf m cs → in_turn (freeAt cs) s₀ (interval a k) ≡ in_turn (freeAt cs) s (interval b left)
+  pub whole : (cs : List ℕ) → MarksOf m cs → in_turn (free_at cs) s₀ (interval a k) ≡ in_turn (free_at cs) s (interval b left)
 
 module _ {s₀ m : List ℕ} {a k : ℕ} {s : List ℕ} {b left : ℕ} (F : Freeing s₀ m a k s b left) where
   pub freeing-end : left ≡ 0 → EntriesFreed s₀ m a k s
-  freeing-end e = record { freed = λ cs M. sym (F.whole cs M ∙ turn_last (freeAt cs) s b left e) }
+  freeing-end e = record { freed = λ cs M. sym (F.whole cs M ∙ turn_last (free_at cs) s b left e) }
 
   pub freeing-turn : 0 < left → (s' : List ℕ) → length s' ≡ length s → EntryFreed s m b s' → Freeing s₀ m a k s' (b + 1) (left - 1)
-  freeing-turn h s' l E = record { size = l ∙ F.size; whole = λ cs M. F.whole cs M ∙ turn_more (freeAt cs) s b left h s' (E.freed cs M) }
+  freeing-turn h s' l E = record { size = l ∙ F.size; whole = λ cs M. F.whole cs M ∙ turn_more (free_at cs) s b left h s' (E.freed cs M) }
 
 -- THE TABLE
-pub table-put : (s m : List ℕ) (t n : ℕ) (s₁ s' : List ℕ) → Shape s n → t ≡ tableBlocks n → s₁ ≡ in_turn one_at s (interval 0 (t + 1))
+pub table-put : (s m : List ℕ) (t n : ℕ) (s₁ s' : List ℕ) → Shape s n → t ≡ table_blocks n → s₁ ≡ in_turn one_at s (interval 0 (t + 1))
     → EntriesFreed s₁ m (t + 1) (128 * t - (t + 1)) s' → TablePut s m s'
-unfolding tablePut
+unfolding table_put
 table-put s m t n s₁ s' shape et e E =
-    let c : t ≡ tableBlocks (blockCount s) = et ∙ ap tableBlocks (sym (shape-blockCount s n shape)) in
+    let c : t ≡ table_blocks (block_count s) = et ∙ ap table_blocks (sym (shape-block_count s n shape)) in
     record { put = λ cs M. rw (← c, ← e) (E.freed cs M) }
 
 -- THE COUNTS
-module _ (s : List ℕ) (n used : ℕ) (shape : Shape s n) (eu : used ≡ countUsed (next s) 0 n) where
-  used-is : occupied (next s) (blockCount s) ≡ used
-  unfolding occupied countUsed
-  used-is = ap (occupied (next s)) (shape-blockCount s n shape) ∙ sym eu
+module _ (s : List ℕ) (n used : ℕ) (shape : Shape s n) (eu : used ≡ count_used (next s) 0 n) where
+  used-is : occupied (next s) (block_count s) ≡ used
+  unfolding occupied count_used
+  used-is = ap (occupied (next s)) (shape-block_count s n shape) ∙ sym eu
 
   pub counts-wrong : (x : ℕ) → x ≡ be32 s 20 → (x ≡ used → ⊥) → false ≡ stage7 s
   unfolding stage7
@@ -114,10 +114,10 @@ module _ (s : List ℕ) (n used : ℕ) (shape : Shape s n) (eu : used ≡ countU
 
   pub counts-are : (x : ℕ) → x ≡ be32 s 20 → x ≡ used → (y : ℕ) → y ≡ be32 s 24 → eqb y (n - used) ≡ stage7 s
   unfolding stage7
-  counts-are x ex e y ey = rw (used-is, shape-blockCount s n shape, ← ex, eq-eqb x used e, ← ey)
+  counts-are x ex e y ey = rw (used-is, shape-block_count s n shape, ← ex, eq-eqb x used e, ← ey)
 
-  pub counts-stay : true ≡ stage7 s → s ≡ countsPut s
+  pub counts-stay : true ≡ stage7 s → s ≡ counts_put s
   counts-stay e = sym (counts-left s (sym e))
 
-  pub counts-set : false ≡ stage7 s → (s' : List ℕ) → s' ≡ setOccupied s n used → s' ≡ countsPut s
-  counts-set e s' q = q ∙ ap (λ (x : ℕ). setOccupied s n x) (sym used-is) ∙ ap (λ (x : ℕ). setOccupied s x (occupied (next s) (blockCount s))) (sym (shape-blockCount s n shape)) ∙ sym (counts-new s (sym e))
+  pub counts-set : false ≡ stage7 s → (s' : List ℕ) → s' ≡ set_occupied s n used → s' ≡ counts_put s
+  counts-set e s' q = q ∙ ap (λ (x : ℕ). set_occupied s n x) (sym used-is) ∙ ap (λ (x : ℕ). set_occupied s x (occupied (next s) (block_count s))) (sym (shape-block_count s n shape)) ∙ sym (counts-new s (sym e))

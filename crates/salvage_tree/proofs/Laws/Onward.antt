@@ -9,10 +9,10 @@ use native.Mathlib.Omega.{arith}
 use lib.ListN.{length}
 use borrow.Author.Tests.{eq-eqb, eqb-true}
 use Rattle.layout.specs.Lists.{lowest}
-use Rattle.layout.specs.Directory.{slot_at, slots, type_of, isFree, name_of, freeSlot, directory}
+use Rattle.layout.specs.Directory.{slot_at, slots, type_of, is_free, name_of, free_slot, directory}
 use Rattle.layout.proofs.Laws.Lists.{In, lowest-met, lowest-none}
 use Rattle.salvage_tree.specs.SalvageTree.{State}
-use Rattle.salvage_tree.specs.Claims.{nameNew}
+use Rattle.salvage_tree.specs.Claims.{name_new}
 use Rattle.salvage_tree.proofs.Laws.Fine.{name-less}
 
 -- WHAT STAYS OF THE ROOT: its blocks, its slots in use with their names, and what is claimed
@@ -42,22 +42,22 @@ onward_then r p q w F G =
 -- why a lost folder is not hung: its block is claimed, its name is one of the root's, or the root is full
 abbrev pub Excused : ℕ → State → ℕ → List ℕ → Type 0
 Excused r p b name =
-    In b p.claimed ⊎ ((nameNew p.image (directory p.image r) (4 * length (directory p.image r) - 1) name ≡ false) ⊎ (freeSlot p.image (directory p.image r) ≡ 0))
+    In b p.claimed ⊎ ((name_new p.image (directory p.image r) (4 * length (directory p.image r) - 1) name ≡ false) ⊎ (free_slot p.image (directory p.image r) ≡ 0))
 
 pub excused-onward : (r : ℕ) (p q : State) (b : ℕ) (name : List ℕ) → Onward r p q → Excused r p b name → Excused r q b name
-unfolding freeSlot
+unfolding free_slot
 excused-onward r p q b name W (inl i) = inl (W.grows b i)
 excused-onward r p q b name W (inr (inl z)) =
     inr (inl (rw W.blocks (name-less p.image q.image (directory p.image r) (4 * length (directory p.image r) - 1) name (λ j h g y. W.used j h (omega arith) y) z)))
 excused-onward r p q b name W (inr (inr z)) =
-    inr (inr (rw W.blocks (go (ℕ_discrete (lowest (λ k. isFree (type_of q.image (slot_at (directory p.image r) k))) (slots (directory p.image r))) 0))))
+    inr (inr (rw W.blocks (go (ℕ_discrete (lowest (λ k. is_free (type_of q.image (slot_at (directory p.image r) k))) (slots (directory p.image r))) 0))))
   where
-    go : Dec (lowest (λ k. isFree (type_of q.image (slot_at (directory p.image r) k))) (slots (directory p.image r)) ≡ 0)
-        → lowest (λ k. isFree (type_of q.image (slot_at (directory p.image r) k))) (slots (directory p.image r)) ≡ 0
+    go : Dec (lowest (λ k. is_free (type_of q.image (slot_at (directory p.image r) k))) (slots (directory p.image r)) ≡ 0)
+        → lowest (λ k. is_free (type_of q.image (slot_at (directory p.image r) k))) (slots (directory p.image r)) ≡ 0
     go (yes y) = y
     go (no y) =
         let dd = directory p.image r in
-        let m = lowest-met (λ k. isFree (type_of q.image (slot_at dd k))) 1 (4 * length dd - 2) y in
-        let j = lowest (λ k. isFree (type_of q.image (slot_at dd k))) (slots dd) in
-        let u : type_of p.image (slot_at dd j) ≢ 0 = λ v. lowest-none (λ k. isFree (type_of p.image (slot_at dd k))) 1 (4 * length dd - 2) (omega arith) z j m.0 m.1 (eq-eqb _ 0 v) in
+        let m = lowest-met (λ k. is_free (type_of q.image (slot_at dd k))) 1 (4 * length dd - 2) y in
+        let j = lowest (λ k. is_free (type_of q.image (slot_at dd k))) (slots dd) in
+        let u : type_of p.image (slot_at dd j) ≢ 0 = λ v. lowest-none (λ k. is_free (type_of p.image (slot_at dd k))) 1 (4 * length dd - 2) (omega arith) z j m.0 m.1 (eq-eqb _ 0 v) in
         absurd ((W.used j m.0 (omega (arith, m.0, m.1)) u).0 (eqb-true _ 0 m.2))

@@ -8,20 +8,20 @@ use native.Mathlib.Omega.{arith}
 use lib.Dec.{eqb}
 use lib.ListN.{length, get_or}
 use Rattle.layout.specs.Lists.{every, has, distinct}
-use Rattle.layout.specs.Geometry.{inVolume}
+use Rattle.layout.specs.Geometry.{in_volume}
 use Rattle.layout.specs.Table.{chain}
-use Rattle.layout.specs.Directory.{slot_at, type_of, firstBlock, attributeSize, isFile, isDirectory, name_of, fileBlocks, attributeBlocks, attributes}
-use Rattle.layout.specs.Check.{slotOk}
+use Rattle.layout.specs.Directory.{slot_at, type_of, first_block, attribute_size_of, is_file, is_directory, name_of, file_blocks, attribute_blocks, attributes}
+use Rattle.layout.specs.Check.{slot_ok}
 use Rattle.layout.proofs.Laws.Tests.{and-join, lt-or-ge, true-not-false, true-or-false}
 use Rattle.layout.proofs.Laws.Lists.{In, in_left, in_right, in-append, every_in, in-every, in-has-eqb, has-eqb-in}
 use Rattle.layout.proofs.Laws.Frames.{Same, same-be32, same_byte}
 use Rattle.layout.proofs.Laws.Owners.{file-no-dir, file-used-type}
 use Rattle.layout.proofs.Laws.Inside.{directory-used-type}
-use Rattle.layout.proofs.Laws.Sound.{slotOk-split}
+use Rattle.layout.proofs.Laws.Sound.{slot_ok-split}
 use Rattle.salvage.specs.Salvage.{claimable}
 use Rattle.salvage.proofs.Laws.Walked.{claimable-join}
 use Rattle.salvage_tree.specs.SalvageTree.{State}
-use Rattle.salvage_tree.specs.Claims.{code_at, inUse, nameNew, Cause, FileKept, FolderKept, Hung, WholeFile, SameFile, StandingFolder}
+use Rattle.salvage_tree.specs.Claims.{code_at, in_use, name_new, Cause, FileKept, FolderKept, Hung, WholeFile, SameFile, StandingFolder}
 use Rattle.salvage_tree.proofs.Laws.Counting.{count-append, in_count, once-count, count-once}
 use Rattle.salvage_tree.proofs.Laws.Fine.{EntryKept, Over, cause-more, claimable-more}
 use Rattle.salvage_tree.proofs.Laws.Rest.{SlotTold}
@@ -50,29 +50,29 @@ module _ (s : List ℕ) (n : ℕ) (q : State) (left : ℕ) (ds : List ℕ) (k : 
   e = slot_at ds k
 
   -- what is zeroed, or hung over, was free, or has its cause
-  pub zeroed : type_of w e ≡ 0 → Over s w n left (inUse w) ds k
+  pub zeroed : type_of w e ≡ 0 → Over s w n left (in_use w) ds k
   zeroed z =
-      ⊎_elim (λ a. inl a.1) (λ a. inr (⊎_elim (λ y. inl (T.form y)) (λ y. inr (y.1, cause-more s n left q.claimed (inUse w) e T.owned_by y.2)) a.1)) (T.told.gone z)
+      ⊎_elim (λ a. inl a.1) (λ a. inr (⊎_elim (λ y. inl (T.form y)) (λ y. inr (y.1, cause-more s n left q.claimed (in_use w) e T.owned_by y.2)) a.1)) (T.told.gone z)
 
-  pub hung-over : code_at q.codes e ≡ 6 → Over s w n left (inUse w) ds k
-  hung-over c = ⊎_elim (λ z. inl z) (λ r. inr (⊎_elim (λ z. inl z) (λ z. inr (z.0, cause-more s n left q.claimed (inUse w) e T.owned_by z.1)) r)) (T.over c)
+  pub hung-over : code_at q.codes e ≡ 6 → Over s w n left (in_use w) ds k
+  hung-over c = ⊎_elim (λ z. inl z) (λ r. inr (⊎_elim (λ z. inl z) (λ z. inr (z.0, cause-more s n left q.claimed (in_use w) e T.owned_by z.1)) r)) (T.over c)
 
   pub dropped-why : type_of s e ≢ 0 → type_of w e ≡ 0
-      → ((code_at q.codes e ≡ 1) × ((slotOk s e && nameNew w ds k (name_of s e)) ≡ false)) ⊎ ((code_at q.codes e ≡ 2) × (slotOk s e ≡ true) × Cause s n left (inUse w) e)
+      → ((code_at q.codes e ≡ 1) × ((slot_ok s e && name_new w ds k (name_of s e)) ≡ false)) ⊎ ((code_at q.codes e ≡ 2) × (slot_ok s e ≡ true) × Cause s n left (in_use w) e)
   dropped-why u z =
-      ⊎_elim (λ a. absurd (u a.1)) (λ a. ⊎_elim (λ y. inl (y, T.form y)) (λ y. inr (y.0, y.1, cause-more s n left q.claimed (inUse w) e T.owned_by y.2)) a.1) (T.told.gone z)
+      ⊎_elim (λ a. absurd (u a.1)) (λ a. ⊎_elim (λ y. inl (y, T.form y)) (λ y. inr (y.0, y.1, cause-more s n left q.claimed (in_use w) e T.owned_by y.2)) a.1) (T.told.gone z)
 
   module _ (kept : type_of w e ≢ 0 → EntryKept s w e ⊎ Hung s w e) (len : length w ≡ length s) where
     type-kept : EntryKept s w e → type_of w e ≡ type_of s e
     type-kept K = same_byte s w e 12 e K.front (omega arith) (omega arith)
 
-    file-entry : isFile (type_of w e) ≡ true → EntryKept s w e
-    file-entry f = ⊎_elim (λ K. K) (λ G. absurd (true-not-false {a = isFile (type_of w e)} f (rw G.type))) (kept (file-used-type (type_of w e) f))
+    file-entry : is_file (type_of w e) ≡ true → EntryKept s w e
+    file-entry f = ⊎_elim (λ K. K) (λ G. absurd (true-not-false {a = is_file (type_of w e)} f (rw G.type))) (kept (file-used-type (type_of w e) f))
 
-    pub kept-file : isFile (type_of w e) ≡ true → FileKept s w e
+    pub kept-file : is_file (type_of w e) ≡ true → FileKept s w e
     kept-file f = file-kept s w len e f (file-entry f)
 
-    pub kept-folder : EntryKept s w e → isDirectory (type_of w e) ≡ true → FolderKept s w e
+    pub kept-folder : EntryKept s w e → is_directory (type_of w e) ≡ true → FolderKept s w e
     kept-folder K d = record { front = K.front; back = λ i h. go i h }
       where
         at : (o m : ℕ) → Same s w (e + o) m → (i : ℕ) → o ≤ i + 16 → i + 16 < o + m → get_or w (e + 16 + i) 0 ≡ get_or s (e + 16 + i) 0
@@ -84,44 +84,44 @@ module _ (s : List ℕ) (n : ℕ) (q : State) (left : ℕ) (ds : List ℕ) (k : 
     -- A WHOLE FILE
     module _ (W : WholeFile s w n ds k) where
       abbrev bs : List ℕ
-      bs = fileBlocks s e
+      bs = file_blocks s e
 
       abbrev xs : List ℕ
-      xs = attributeBlocks s e
+      xs = attribute_blocks s e
 
-      not-dropped : Over s w n left (inUse w) ds k → (isFile (type_of w e) ≡ true → ⊥) → ⊥
+      not-dropped : Over s w n left (in_use w) ds k → (is_file (type_of w e) ≡ true → ⊥) → ⊥
       not-dropped (inl z) no-file = file-used-type (type_of s e) W.file z
       not-dropped (inr (inl z)) no-file = true-not-false (and-join W.form W.name) z
       not-dropped (inr (inr (ok, inl c))) no-file =
-          true-not-false (claimable-join n (inUse w) bs
+          true-not-false (claimable-join n (in_use w) bs
           (record {
-            inside = every-left (inVolume n) bs xs W.inside;
+            inside = every-left (in_volume n) bs xs W.inside;
             once = once-left bs xs W.once;
-            fresh = λ x i j. no-file (W.alone x (in-has-eqb x (bs ++ xs) (in_left x bs xs j)) (in-has-eqb x (inUse w) i)).0;
+            fresh = λ x i j. no-file (W.alone x (in-has-eqb x (bs ++ xs) (in_left x bs xs j)) (in-has-eqb x (in_use w) i)).0;
           })) c.1
       not-dropped (inr (inr (ok, inr c))) no-file = true-not-false c.0 (file-no-dir (type_of s e) W.file)
 
-      no_second : attributeSize w e ≡ 0 → attributeBlocks w e ≡ []
-      unfolding attributeBlocks chain
+      no_second : attribute_size_of w e ≡ 0 → attribute_blocks w e ≡ []
+      unfolding attribute_blocks chain
       no_second z = rw z
 
-      not-cleared : isFile (type_of w e) ≡ true → attributeSize w e ≡ 0 → claimable n (inUse w) xs ≡ false → ⊥
+      not-cleared : is_file (type_of w e) ≡ true → attribute_size_of w e ≡ 0 → claimable n (in_use w) xs ≡ false → ⊥
       not-cleared f z c =
-          true-not-false (claimable-join n (inUse w) xs
+          true-not-false (claimable-join n (in_use w) xs
           (record {
-            inside = every-right (inVolume n) bs xs W.inside;
+            inside = every-right (in_volume n) bs xs W.inside;
             once = once-right bs xs W.once;
             fresh = λ x i j.
-                let a = W.alone x (in-has-eqb x (bs ++ xs) (in_right x bs xs j)) (in-has-eqb x (inUse w) i) in
+                let a = W.alone x (in-has-eqb x (bs ++ xs) (in_right x bs xs j)) (in-has-eqb x (in_use w) i) in
                 ⊎_elim (λ m. once-both bs xs W.once x (subst (In x) ((file-entry f).blocks f) m) j) (λ m. subst (In x) (no_second z) m)
-                (in-append x (fileBlocks w e) (attributeBlocks w e) (has-eqb-in x (fileBlocks w e ++ attributeBlocks w e) a.1));
+                (in-append x (file_blocks w e) (attribute_blocks w e) (has-eqb-in x (file_blocks w e ++ attribute_blocks w e) a.1));
           })) c
 
-      none_both : attributeSize w e ≡ 0 → attributeSize s e ≡ 0 → attributes w e ≡ attributes s e
-      unfolding attributes attributeBlocks chain
+      none_both : attribute_size_of w e ≡ 0 → attribute_size_of s e ≡ 0 → attributes w e ≡ attributes s e
+      unfolding attributes attribute_blocks chain
       none_both a b = rw (a, b)
 
-      same-file : isFile (type_of w e) ≡ true → Same s w e 128 → SameFile s w e
+      same-file : is_file (type_of w e) ≡ true → Same s w e 128 → SameFile s w e
       same-file f S =
           let K = kept-file f in
           record {
@@ -134,17 +134,17 @@ module _ (s : List ℕ) (n : ℕ) (q : State) (left : ℕ) (ds : List ℕ) (k : 
       survives =
           ⊎_elim (λ z. absurd (not-dropped (zeroed z) (λ f. file-used-type (type_of w e) f z)))
           (λ r. ⊎_elim
-          (λ y. ⊎_elim (λ a. (same-file y.0 a.0, a.1)) (λ a. absurd (not-cleared y.0 a.1 (claimable-more n q.claimed (inUse w) xs T.owned_by a.2))) (T.told.file y.0))
+          (λ y. ⊎_elim (λ a. (same-file y.0 a.0, a.1)) (λ a. absurd (not-cleared y.0 a.1 (claimable-more n q.claimed (in_use w) xs T.owned_by a.2))) (T.told.file y.0))
           (λ y. absurd (⊎_elim (λ a. true-not-false (rw (← type-kept a.0) y.0) (file-no-dir (type_of s e) W.file)) (λ a. not-dropped (hung-over a.1) (λ f. true-not-false y.0 (file-no-dir (type_of w e) f)))
           (T.told.folder y.0))) r)
-          (slotOk-split w e T.ok)
+          (slot_ok-split w e T.ok)
 
     -- A FOLDER THAT STANDS
     module _ (F : StandingFolder s w n left ds k) where
       abbrev b : ℕ
-      b = firstBlock s e
+      b = first_block s e
 
-      folder-cause : Over s w n left (inUse w) ds k → has eqb b (inUse w) ≡ true
+      folder-cause : Over s w n left (in_use w) ds k → has eqb b (in_use w) ≡ true
       folder-cause (inl z) = absurd (directory-used-type (type_of s e) F.folder z)
       folder-cause (inr (inl z)) = absurd (true-not-false (and-join F.form F.name) z)
       folder-cause (inr (inr (ok, inl c))) = absurd (true-not-false F.folder (file-no-dir (type_of s e) c.0))
@@ -152,18 +152,18 @@ module _ (s : List ℕ) (n : ℕ) (q : State) (left : ℕ) (ds : List ℕ) (k : 
       folder-cause (inr (inr (ok, inr (d, inr (inr c))))) = absurd (true-not-false F.witness c)
       folder-cause (inr (inr (ok, inr (d, inr (inl c))))) =
           ⊎_elim (λ t. t)
-          (λ f. absurd (true-not-false (claimable-join n (inUse w) (b ∷ [])
+          (λ f. absurd (true-not-false (claimable-join n (in_use w) (b ∷ [])
           (record {
             inside = and-join F.inside refl;
             once = refl;
-            fresh = λ x i j. ⊎_elim (λ z. true-not-false (in-has-eqb b (inUse w) (subst (λ (y : ℕ). In y (inUse w)) z i)) f) (λ z. z) j;
+            fresh = λ x i j. ⊎_elim (λ z. true-not-false (in-has-eqb b (in_use w) (subst (λ (y : ℕ). In y (in_use w)) z i)) f) (λ z. z) j;
           })) c))
-          (true-or-false (has eqb b (inUse w)))
+          (true-or-false (has eqb b (in_use w)))
 
-      pub stands : (FolderKept s w e × ((code_at q.codes e ≡ 0) ⊎ (code_at q.codes e ≡ 3))) ⊎ (Hung s w e × (code_at q.codes e ≡ 6) × (firstBlock w e ≡ b))
+      pub stands : (FolderKept s w e × ((code_at q.codes e ≡ 0) ⊎ (code_at q.codes e ≡ 3))) ⊎ (Hung s w e × (code_at q.codes e ≡ 6) × (first_block w e ≡ b))
       stands =
           ⊎_elim (λ z. absurd (directory-used-type (type_of w e) (F.alone (folder-cause (zeroed z))).0 z))
           (λ r. ⊎_elim
           (λ y. absurd (true-not-false F.folder (file-no-dir (type_of s e) (rw (← type-kept (file-entry y.0)) y.0))))
           (λ y. ⊎_elim (λ a. inl (kept-folder a.0 y.0, a.1)) (λ a. inr (a.0, a.1, (F.alone (folder-cause (hung-over a.1))).1)) (T.told.folder y.0)) r)
-          (slotOk-split w e T.ok)
+          (slot_ok-split w e T.ok)

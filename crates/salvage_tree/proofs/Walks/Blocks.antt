@@ -11,33 +11,33 @@ use lib.ListN.{length, get_or, take, set, length-set}
 use lib.Seq.{take-suc, take-suc-set, get_or-set_same, get_or-set_other, length-take-le, get_or-take, take-take, take-length}
 use borrow.Author.Tests.{eq-eqb, ne_eqb, lt-ltb, not-true}
 use Rattle.layout.specs.Lists.{within, interval, every, has, select}
-use Rattle.layout.specs.Limits.{maxDirectory}
-use Rattle.layout.specs.Geometry.{tableBlocks, inVolume}
+use Rattle.layout.specs.Limits.{max_directory}
+use Rattle.layout.specs.Geometry.{table_blocks, in_volume}
 use Rattle.layout.specs.Directory.{type_of}
 use Rattle.layout.specs.Table.{next, chain}
 use Rattle.layout.proofs.Laws.Tests.{and_split, and-join, is_false, true-not-false, within-join, within-split, lt-or-ge}
-use Rattle.layout.proofs.Laws.Lists.{In, in_left, in_right, in-append, in-elim, getD-in, has-eqb-in, in-has-eqb, false-has, interval-next, getD-interval}
+use Rattle.layout.proofs.Laws.Lists.{In, in_left, in_right, in-append, in-elim, get_d-in, has-eqb-in, in-has-eqb, false-has, interval-next, get_d-interval}
 use Rattle.layout.specs.Walks.Shapes.{DirectoryAt}
-use Rattle.layout.proofs.Laws.Chains.{inVolume-split, nth, nth-suc, chain_snoc, getD-chain}
+use Rattle.layout.proofs.Laws.Chains.{in_volume-split, nth, nth-suc, chain_snoc, get_d-chain}
 use Rattle.layout.proofs.Laws.Joins.{interval-in, in-select, select_has}
 use Rattle.layout.proofs.Walks.Marks.{marked_more}
 use Rattle.salvage.specs.Walks.{MarksOf}
-use Rattle.salvage_tree.specs.SalvageTree.{run, endsIn, rowRight, directoryBlocks}
+use Rattle.salvage_tree.specs.SalvageTree.{run, ends_in, row_right, directory_blocks}
 use Rattle.salvage_tree.specs.Walks.{IsGood, Ran, RowGood, RowRight, otherwise, ChoseOther, Chose, MarkedToo, Own}
 use Rattle.salvage_tree.proofs.Laws.Chosen.{Chosen, chosen}
 
 -- A GOOD BLOCK, by its tests
-not-inside : (n b : ℕ) → (b ≤ tableBlocks n) ⊎ (n ≤ b) → inVolume n b ≡ false
-not-inside n b o = is_false (inVolume n b) (λ e. let i = inVolume-split n b e in ⊎_elim (λ p. omega arith) (λ p. omega arith) o)
+not-inside : (n b : ℕ) → (b ≤ table_blocks n) ⊎ (n ≤ b) → in_volume n b ≡ false
+not-inside n b o = is_false (in_volume n b) (λ e. let i = in_volume-split n b e in ⊎_elim (λ p. omega arith) (λ p. omega arith) o)
 
-inside : (n b : ℕ) → tableBlocks n < b → b < n → inVolume n b ≡ true
-unfolding inVolume
+inside : (n b : ℕ) → table_blocks n < b → b < n → in_volume n b ≡ true
+unfolding in_volume
 inside n b l h = and-join (lt-ltb _ _ l) (lt-ltb _ _ h)
 
-pub good-outside : (n : ℕ) (m : List ℕ) (b : ℕ) → (b ≤ tableBlocks n) ⊎ (n ≤ b) → IsGood n m b false
+pub good-outside : (n : ℕ) (m : List ℕ) (b : ℕ) → (b ≤ table_blocks n) ⊎ (n ≤ b) → IsGood n m b false
 good-outside n m b o = record { told = λ cs M. rw (not-inside n b o); below = λ e. absurd (true-not-false e refl) }
 
-pub good-marked : (n : ℕ) (m : List ℕ) (b : ℕ) → tableBlocks n < b → b < n → IsGood n m b (eqb (get_or m b 0) 0)
+pub good-marked : (n : ℕ) (m : List ℕ) (b : ℕ) → table_blocks n < b → b < n → IsGood n m b (eqb (get_or m b 0) 0)
 good-marked n m b l h = record { told = λ cs M. rw (inside n b l h) (M.at b); below = λ e. h }
 
 -- A NUMBER AMONG THE FIRST k
@@ -52,43 +52,43 @@ met-more xs b i h e ne =
 
 pub met-found : (xs : List ℕ) (b i k : ℕ) → i < k → k ≤ length xs → get_or xs i 0 ≡ b → true ≡ has eqb b (take k xs)
 met-found xs b i k h l e =
-    sym (in-has-eqb b (take k xs) (subst (λ (y : ℕ). In y (take k xs)) (get_or-take k xs i 0 h ∙ e) (getD-in (take k xs) i 0 (rw (length-take-le k xs l) h))))
+    sym (in-has-eqb b (take k xs) (subst (λ (y : ℕ). In y (take k xs)) (get_or-take k xs i 0 h ∙ e) (get_d-in (take k xs) i 0 (rw (length-take-le k xs l) h))))
 
 -- THE RUN, when k of its blocks are found and c is the next number
 pub record Running (s : List ℕ) (n b : ℕ) (m xs : List ℕ) (k c : ℕ) : Type 0 where
-  pub most : k ≤ maxDirectory
-  pub size : length xs ≡ maxDirectory
+  pub most : k ≤ max_directory
+  pub size : length xs ≡ max_directory
   pub below : (i : ℕ) → i < k → get_or xs i 0 < n
-  pub is : (cs : List ℕ) → MarksOf m cs → run s n cs maxDirectory b ≡ take k xs ++ run s n (cs ++ take k xs) (maxDirectory - k) c
+  pub is : (cs : List ℕ) → MarksOf m cs → run s n cs max_directory b ≡ take k xs ++ run s n (cs ++ take k xs) (max_directory - k) c
 
-pub running-start : (s : List ℕ) (n b : ℕ) (m xs : List ℕ) → length xs ≡ maxDirectory → Running s n b m xs 0 b
+pub running-start : (s : List ℕ) (n b : ℕ) (m xs : List ℕ) → length xs ≡ max_directory → Running s n b m xs 0 b
 running-start s n b m xs e = record { most = omega arith; size = e; below = λ i h. absurd (omega arith); is = λ cs M. rw (append-nil cs) refl }
 
-run-stop : (s : List ℕ) (n : ℕ) (cs : List ℕ) (j c : ℕ) → inVolume n c && not (has eqb c cs) ≡ false → run s n cs j c ≡ []
+run-stop : (s : List ℕ) (n : ℕ) (cs : List ℕ) (j c : ℕ) → in_volume n c && not (has eqb c cs) ≡ false → run s n cs j c ≡ []
 unfolding run
 run-stop s n cs zero c e = refl
 run-stop s n cs (suc j) c e = rw e
 
-run_more : (s : List ℕ) (n : ℕ) (cs : List ℕ) (j c : ℕ) → 0 < j → inVolume n c && not (has eqb c cs) ≡ true → run s n cs j c ≡ c ∷ run s n (cs ++ (c ∷ [])) (j - 1) (next s c)
+run_more : (s : List ℕ) (n : ℕ) (cs : List ℕ) (j c : ℕ) → 0 < j → in_volume n c && not (has eqb c cs) ≡ true → run s n cs j c ≡ c ∷ run s n (cs ++ (c ∷ [])) (j - 1) (next s c)
 unfolding run
 run_more s n cs zero c p e = absurd (omega arith)
 run_more s n cs (suc j) c p e = let q : suc j - 1 ≡ j = omega arith in rw (e, q)
 
 module _ {s : List ℕ} {n b : ℕ} {m xs : List ℕ} {k c : ℕ} (w : Running s n b m xs k c) where
-  ended : ((cs : List ℕ) → MarksOf m cs → inVolume n c && not (has eqb c (cs ++ take k xs)) ≡ false) → Ran s n b m k xs
-  ended f = record { most = w.most; size = w.size; below = w.below; is = λ cs M. w.is cs M ∙ rw (run-stop s n (cs ++ take k xs) (maxDirectory - k) c (f cs M)) (append-nil (take k xs)) }
+  ended : ((cs : List ℕ) → MarksOf m cs → in_volume n c && not (has eqb c (cs ++ take k xs)) ≡ false) → Ran s n b m k xs
+  ended f = record { most = w.most; size = w.size; below = w.below; is = λ cs M. w.is cs M ∙ rw (run-stop s n (cs ++ take k xs) (max_directory - k) c (f cs M)) (append-nil (take k xs)) }
 
-  bad : (cs : List ℕ) → In c (cs ++ take k xs) → inVolume n c && not (has eqb c (cs ++ take k xs)) ≡ false
-  bad cs i = rw (in-has-eqb c (cs ++ take k xs) i) (and-false (inVolume n c))
+  bad : (cs : List ℕ) → In c (cs ++ take k xs) → in_volume n c && not (has eqb c (cs ++ take k xs)) ≡ false
+  bad cs i = rw (in-has-eqb c (cs ++ take k xs) i) (and-false (in_volume n c))
     where
       and-false : (t : Bool) → t && false ≡ false
       and-false true = refl
       and-false false = refl
 
   pub ran-bad : (r : Bool) → IsGood n m c r → r ≡ false → Ran s n b m k xs
-  ran-bad r g e = ended (λ cs M. go cs (inVolume n c) refl (has eqb c cs) refl (sym (g.told cs M) ∙ e))
+  ran-bad r g e = ended (λ cs M. go cs (in_volume n c) refl (has eqb c cs) refl (sym (g.told cs M) ∙ e))
     where
-      go : (cs : List ℕ) (v : Bool) → inVolume n c ≡ v → (h : Bool) → has eqb c cs ≡ h → inVolume n c && not (has eqb c cs) ≡ false → inVolume n c && not (has eqb c (cs ++ take k xs)) ≡ false
+      go : (cs : List ℕ) (v : Bool) → in_volume n c ≡ v → (h : Bool) → has eqb c cs ≡ h → in_volume n c && not (has eqb c cs) ≡ false → in_volume n c && not (has eqb c (cs ++ take k xs)) ≡ false
       go cs false p h q z = rw p
       go cs true p true q z = bad cs (in_left c cs (take k xs) (has-eqb-in c cs q))
       go cs true p false q z = absurd (true-not-false {a = true} refl (rw (p, q) at z))
@@ -96,11 +96,11 @@ module _ {s : List ℕ} {n b : ℕ} {m xs : List ℕ} {k c : ℕ} (w : Running s
   pub ran-met : (r : Bool) → r ≡ has eqb c (take k xs) → r ≡ true → Ran s n b m k xs
   ran-met r g e = ended (λ cs M. bad cs (in_right c cs (take k xs) (has-eqb-in c (take k xs) (sym g ∙ e))))
 
-  pub ran-all : k ≡ maxDirectory → Ran s n b m k xs
+  pub ran-all : k ≡ max_directory → Ran s n b m k xs
   unfolding run
-  ran-all e = record { most = w.most; size = w.size; below = w.below; is = λ cs M. w.is cs M ∙ (let q : maxDirectory - k ≡ 0 = omega arith in rw q (append-nil (take k xs))) }
+  ran-all e = record { most = w.most; size = w.size; below = w.below; is = λ cs M. w.is cs M ∙ (let q : max_directory - k ≡ 0 = omega arith in rw q (append-nil (take k xs))) }
 
-  pub running_more : k < maxDirectory → (r : Bool) → IsGood n m c r → r ≡ true → (u : Bool) → u ≡ has eqb c (take k xs) → u ≡ false → (c' : ℕ) → c' ≡ next s c → Running s n b m (set xs k c) (k + 1) c'
+  pub running_more : k < max_directory → (r : Bool) → IsGood n m c r → r ≡ true → (u : Bool) → u ≡ has eqb c (take k xs) → u ≡ false → (c' : ℕ) → c' ≡ next s c → Running s n b m (set xs k c) (k + 1) c'
   running_more h r g e u f z c' e' =
       let l : k < length xs = omega (arith, w.size) in
       let q : k + 1 ≡ suc k = omega arith in
@@ -115,19 +115,19 @@ module _ {s : List ℕ} {n b : ℕ} {m xs : List ℕ} {k c : ℕ} (w : Running s
         is = λ cs M. w.is cs M ∙ step cs M l;
       })
     where
-      fresh : (cs : List ℕ) → MarksOf m cs → inVolume n c && not (has eqb c (cs ++ take k xs)) ≡ true
+      fresh : (cs : List ℕ) → MarksOf m cs → in_volume n c && not (has eqb c (cs ++ take k xs)) ≡ true
       fresh cs M =
-          let a = and_split (inVolume n c) (not (has eqb c cs)) (sym (g.told cs M) ∙ e) in
+          let a = and_split (in_volume n c) (not (has eqb c cs)) (sym (g.told cs M) ∙ e) in
           and-join a.0 (ap not (false-has c (cs ++ take k xs) (λ i. ⊎_elim (λ o. true-not-false (in-has-eqb c cs o) (not-true _ a.1)) (λ o. true-not-false (in-has-eqb c (take k xs) o) (sym f ∙ z)) (in-append c cs (take k xs) i))))
 
-      step : (cs : List ℕ) → MarksOf m cs → k < length xs → take k xs ++ run s n (cs ++ take k xs) (maxDirectory - k) c ≡ take (suc k) (set xs k c) ++ run s n (cs ++ take (suc k) (set xs k c)) (maxDirectory - suc k) (next s c)
+      step : (cs : List ℕ) → MarksOf m cs → k < length xs → take k xs ++ run s n (cs ++ take k xs) (max_directory - k) c ≡ take (suc k) (set xs k c) ++ run s n (cs ++ take (suc k) (set xs k c)) (max_directory - suc k) (next s c)
       step cs M l =
-          let j : maxDirectory - suc k ≡ maxDirectory - k - 1 = omega arith in
-          rw (take-suc-set xs k c l, run_more s n (cs ++ take k xs) (maxDirectory - k) c (omega arith) (fresh cs M), j, append_assoc cs (take k xs) (c ∷ []), append_assoc (take k xs) (c ∷ []) (run s n (cs ++ (take k xs ++ (c ∷ []))) (maxDirectory - k - 1) (next s c)))
+          let j : max_directory - suc k ≡ max_directory - k - 1 = omega arith in
+          rw (take-suc-set xs k c l, run_more s n (cs ++ take k xs) (max_directory - k) c (omega arith) (fresh cs M), j, append_assoc cs (take k xs) (c ∷ []), append_assoc (take k xs) (c ∷ []) (run s n (cs ++ (take k xs ++ (c ∷ []))) (max_directory - k - 1) (next s c)))
 
 -- A ROW, when the blocks before x are good
 pub record Rowing (n b d : ℕ) (m : List ℕ) (x left : ℕ) : Type 0 where
-  pub told : (cs : List ℕ) → MarksOf m cs → every (λ y. inVolume n y && not (has eqb y cs)) (interval b d) ≡ every (λ y. inVolume n y && not (has eqb y cs)) (interval x left)
+  pub told : (cs : List ℕ) → MarksOf m cs → every (λ y. in_volume n y && not (has eqb y cs)) (interval b d) ≡ every (λ y. in_volume n y && not (has eqb y cs)) (interval x left)
   pub sum : x + left ≡ b + d
   pub low : b < x → x ≤ n
 
@@ -141,14 +141,14 @@ module _ {n b d : ℕ} {m : List ℕ} {x left : ℕ} (w : Rowing n b d m x left)
   pub row-bad : 0 < left → (r : Bool) → IsGood n m x r → r ≡ false → RowGood n b d m false
   row-bad h r g e =
       record {
-        told = λ cs M. sym (w.told cs M ∙ every-step (λ y. inVolume n y && not (has eqb y cs)) x left h ∙ rw (sym (g.told cs M) ∙ e));
+        told = λ cs M. sym (w.told cs M ∙ every-step (λ y. in_volume n y && not (has eqb y cs)) x left h ∙ rw (sym (g.told cs M) ∙ e));
         below = λ z. absurd (true-not-false z refl);
       }
 
   pub row_more : 0 < left → (r : Bool) → IsGood n m x r → r ≡ true → Rowing n b d m (x + 1) (left - 1)
   row_more h r g e =
       record {
-        told = λ cs M. w.told cs M ∙ every-step (λ y. inVolume n y && not (has eqb y cs)) x left h ∙ rw (sym (g.told cs M) ∙ e);
+        told = λ cs M. w.told cs M ∙ every-step (λ y. in_volume n y && not (has eqb y cs)) x left h ∙ rw (sym (g.told cs M) ∙ e);
         sum = omega (arith, w.sum);
         low = λ z. let y = g.below e in omega arith;
       }
@@ -158,31 +158,31 @@ module _ {n b d : ℕ} {m : List ℕ} {x left : ℕ} (w : Rowing n b d m x left)
 
 -- a row that is not a directory's, by the tests in their order, and one that is
 module _ (s : List ℕ) (n b d : ℕ) (m : List ℕ) where
-  pub row-size : (d < 1) ⊎ (maxDirectory < d) → RowRight s n b d m false
-  unfolding rowRight
+  pub row-size : (d < 1) ⊎ (max_directory < d) → RowRight s n b d m false
+  unfolding row_right
   row-size o =
-      let z : within 1 maxDirectory d ≡ false = is_false _ (λ e. let p = within-split 1 maxDirectory d e in ⊎_elim (λ q. omega arith) (λ q. omega arith) o) in
+      let z : within 1 max_directory d ≡ false = is_false _ (λ e. let p = within-split 1 max_directory d e in ⊎_elim (λ q. omega arith) (λ q. omega arith) o) in
       record { told = λ cs M. rw z; below = λ e. absurd (true-not-false e refl) }
 
-  module _ (some : 1 ≤ d) (few : d ≤ maxDirectory) where
+  module _ (some : 1 ≤ d) (few : d ≤ max_directory) where
     pub row-not : (r : Bool) → RowGood n b d m r → r ≡ false → RowRight s n b d m false
-    unfolding rowRight
-    row-not r g e = record { told = λ cs M. rw (within-join 1 maxDirectory d some few, sym (g.told cs M) ∙ e); below = λ z. absurd (true-not-false z refl) }
+    unfolding row_right
+    row-not r g e = record { told = λ cs M. rw (within-join 1 max_directory d some few, sym (g.told cs M) ∙ e); below = λ z. absurd (true-not-false z refl) }
 
     pub row_typed : (r : Bool) → RowGood n b d m r → r ≡ true → (type : ℕ) → type ≡ type_of s (512 * (b + d - 1) + 384) → RowRight s n b d m (eqb type 255)
-    unfolding rowRight
-    row_typed r g e type q = record { told = λ cs M. rw (within-join 1 maxDirectory d some few, sym (g.told cs M) ∙ e, q); below = λ z. (some, few, g.below e (omega arith)) }
+    unfolding row_right
+    row_typed r g e type q = record { told = λ cs M. rw (within-join 1 max_directory d some few, sym (g.told cs M) ∙ e, q); below = λ z. (some, few, g.below e (omega arith)) }
 
 -- THE CHOICES
 module _ (s : List ℕ) (n b d : ℕ) (sure : Bool) (m : List ℕ) where
-  pub other_row : (r : Bool) → RowRight s n b d m r → r ≡ true → (xs : List ℕ) → length xs ≡ maxDirectory → take d xs ≡ interval b d → ChoseOther s n b d sure m d xs
+  pub other_row : (r : Bool) → RowRight s n b d m r → r ≡ true → (xs : List ℕ) → length xs ≡ max_directory → take d xs ≡ interval b d → ChoseOther s n b d sure m d xs
   unfolding otherwise
   other_row r g e xs l q =
       let f = g.below e in
       record {
         most = f.1;
         size = l;
-        below = λ i h. rw (sym (get_or-take d xs i 0 h) ∙ ap (λ (ys : List ℕ). get_or ys i 0) q ∙ getD-interval b d i h) (omega (arith, f.2));
+        below = λ i h. rw (sym (get_or-take d xs i 0 h) ∙ ap (λ (ys : List ℕ). get_or ys i 0) q ∙ get_d-interval b d i h) (omega (arith, f.2));
         is = λ cs M. rw (sym (g.told cs M) ∙ e) (sym q);
       }
 
@@ -215,34 +215,34 @@ module _ (s : List ℕ) (n b d : ℕ) (sure : Bool) (m : List ℕ) where
             is = λ cs M. rw (R.is cs M, sym (g.told cs M) ∙ e, len, y, within-join 1 k d h l) (take-take d k xs l);
           }
 
-    pub chose-other : (r : ℕ) (ys : List ℕ) → (1 ≤ d → d ≤ k → endsIn s (get_or xs (d - 1) 0) ≡ false) → ChoseOther s n b d sure m r ys → Chose s n b d sure m r ys
-    unfolding directoryBlocks otherwise
+    pub chose-other : (r : ℕ) (ys : List ℕ) → (1 ≤ d → d ≤ k → ends_in s (get_or xs (d - 1) 0) ≡ false) → ChoseOther s n b d sure m r ys → Chose s n b d sure m r ys
+    unfolding directory_blocks otherwise
     chose-other r ys f C =
         record {
           most = C.most;
           size = C.size;
           below = C.below;
-          is = λ cs M. (let z : within 1 (length (run s n cs maxDirectory b)) d && endsIn s (get_or (run s n cs maxDirectory b) (d - 1) 0) ≡ false = test cs M in rw z) ∙ C.is cs M;
+          is = λ cs M. (let z : within 1 (length (run s n cs max_directory b)) d && ends_in s (get_or (run s n cs max_directory b) (d - 1) 0) ≡ false = test cs M in rw z) ∙ C.is cs M;
         }
       where
-        test : (cs : List ℕ) → MarksOf m cs → within 1 (length (run s n cs maxDirectory b)) d && endsIn s (get_or (run s n cs maxDirectory b) (d - 1) 0) ≡ false
+        test : (cs : List ℕ) → MarksOf m cs → within 1 (length (run s n cs max_directory b)) d && ends_in s (get_or (run s n cs max_directory b) (d - 1) 0) ≡ false
         test cs M =
             rw (R.is cs M, len)
-            (is_false _ (λ z. let a = and_split (within 1 k d) (endsIn s (get_or (take k xs) (d - 1) 0)) z in
+            (is_false _ (λ z. let a = and_split (within 1 k d) (ends_in s (get_or (take k xs) (d - 1) 0)) z in
             let p = within-split 1 k d a.0 in
-            true-not-false (ap (endsIn s) (sym (get_or-take k xs (d - 1) 0 (omega (arith, p)))) ∙ a.1) (f p.0 p.1)))
+            true-not-false (ap (ends_in s) (sym (get_or-take k xs (d - 1) 0 (omega (arith, p)))) ∙ a.1) (f p.0 p.1)))
 
-    pub chose-run : 1 ≤ d → d ≤ k → endsIn s (get_or xs (d - 1) 0) ≡ true → Chose s n b d sure m d xs
-    unfolding directoryBlocks
+    pub chose-run : 1 ≤ d → d ≤ k → ends_in s (get_or xs (d - 1) 0) ≡ true → Chose s n b d sure m d xs
+    unfolding directory_blocks
     chose-run h l e =
         record {
           most = omega (arith, R.most);
           size = R.size;
           below = λ i j. R.below i (omega arith);
-          is = λ cs M. (let y : within 1 (length (run s n cs maxDirectory b)) d && endsIn s (get_or (run s n cs maxDirectory b) (d - 1) 0) ≡ true = test cs M in rw y) ∙ ap (take d) (R.is cs M) ∙ take-take d k xs l;
+          is = λ cs M. (let y : within 1 (length (run s n cs max_directory b)) d && ends_in s (get_or (run s n cs max_directory b) (d - 1) 0) ≡ true = test cs M in rw y) ∙ ap (take d) (R.is cs M) ∙ take-take d k xs l;
         }
       where
-        test : (cs : List ℕ) → MarksOf m cs → within 1 (length (run s n cs maxDirectory b)) d && endsIn s (get_or (run s n cs maxDirectory b) (d - 1) 0) ≡ true
+        test : (cs : List ℕ) → MarksOf m cs → within 1 (length (run s n cs max_directory b)) d && ends_in s (get_or (run s n cs max_directory b) (d - 1) 0) ≡ true
         test cs M = rw (R.is cs M, len, get_or-take k xs (d - 1) 0 (omega arith)) (and-join (within-join 1 k d h l) e)
 
 -- A ROW WRITTEN, block by block
@@ -278,12 +278,12 @@ met-none xs b i k e h l = let q : i ≡ k = omega arith in sym (subst (λ (j : �
 
 -- A BLOCK THAT ENDS
 module _ (s : List ℕ) (b type : ℕ) (et : type ≡ type_of s (512 * b + 384)) where
-  pub ends-typed : type ≡ 255 → true ≡ endsIn s b
-  unfolding endsIn
+  pub ends-typed : type ≡ 255 → true ≡ ends_in s b
+  unfolding ends_in
   ends-typed z = rw (← et, eq-eqb type 255 z)
 
-  pub ends-valued : (type ≡ 255 → ⊥) → (v : ℕ) → v ≡ next s b → eqb v 1 ≡ endsIn s b
-  unfolding endsIn
+  pub ends-valued : (type ≡ 255 → ⊥) → (v : ℕ) → v ≡ next s b → eqb v 1 ≡ ends_in s b
+  unfolding ends_in
   ends-valued z v e = rw (← et, ne_eqb type 255 z, e)
 
 get_d_past : (m : List ℕ) (y : ℕ) → length m ≤ y → get_or m y 0 ≡ 0
@@ -292,16 +292,16 @@ get_d_past (x ∷ m) zero h = absurd (omega arith)
 get_d_past (x ∷ m) (suc y) h = get_d_past m y (omega arith)
 
 -- SOME BLOCKS THAT THE MARKS ARE THOSE OF: there always are
-someBlocks : List ℕ → List ℕ
-someBlocks m = select (λ x. not (eqb (get_or m x 0) 0)) (interval 0 (length m))
+some_blocks : List ℕ → List ℕ
+some_blocks m = select (λ x. not (eqb (get_or m x 0) 0)) (interval 0 (length m))
 
 pub some-marks : (m : List ℕ) → (cs : List ℕ) × MarksOf m cs
-unfolding someBlocks
-some-marks m = (someBlocks m, record { at = λ x. go x (eqb (get_or m x 0) 0) refl })
+unfolding some_blocks
+some-marks m = (some_blocks m, record { at = λ x. go x (eqb (get_or m x 0) 0) refl })
   where
-    go : (x : ℕ) (t : Bool) → eqb (get_or m x 0) 0 ≡ t → t ≡ not (has eqb x (someBlocks m))
-    go x true e = sym (ap not (false-has x (someBlocks m) (λ i. true-not-false (in-select (λ y. not (eqb (get_or m y 0) 0)) (interval 0 (length m)) x i).1 (ap not e))))
-    go x false e = sym (ap not (in-has-eqb x (someBlocks m) (select_has (λ y. not (eqb (get_or m y 0) 0)) (interval 0 (length m)) x (interval-in (length m) 0 x (omega arith) (inside_of x e)) (ap not e))))
+    go : (x : ℕ) (t : Bool) → eqb (get_or m x 0) 0 ≡ t → t ≡ not (has eqb x (some_blocks m))
+    go x true e = sym (ap not (false-has x (some_blocks m) (λ i. true-not-false (in-select (λ y. not (eqb (get_or m y 0) 0)) (interval 0 (length m)) x i).1 (ap not e))))
+    go x false e = sym (ap not (in-has-eqb x (some_blocks m) (select_has (λ y. not (eqb (get_or m y 0) 0)) (interval 0 (length m)) x (interval-in (length m) 0 x (omega arith) (inside_of x e)) (ap not e))))
       where
         inside_of : (y : ℕ) → eqb (get_or m y 0) 0 ≡ false → y < 0 + length m
         inside_of y q = ⊎_elim (λ h. omega arith) (λ h. absurd (true-not-false (eq-eqb (get_or m y 0) 0 (get_d_past m y h)) q)) (lt-or-ge y (length m))
@@ -310,7 +310,7 @@ some-marks m = (someBlocks m, record { at = λ x. go x (eqb (get_or m x 0) 0) re
 pub chose-own : (s : List ℕ) (n b d : ℕ) (sure : Bool) (m : List ℕ) (r : ℕ) (xs : List ℕ) → Chose s n b d sure m r xs → 0 < r → Own n (take r xs)
 chose-own s n b d sure m r xs C h =
     let w = some-marks m in
-    let K : Chosen n w.0 maxDirectory b (take r xs) = subst (λ (ys : List ℕ). Chosen n w.0 maxDirectory b ys) (C.is w.0 w.1) (chosen s n w.0 b d sure) in
+    let K : Chosen n w.0 max_directory b (take r xs) = subst (λ (ys : List ℕ). Chosen n w.0 max_directory b ys) (C.is w.0 w.1) (chosen s n w.0 b d sure) in
     let l : length (take r xs) ≡ r = length-take-le r xs (omega (arith, C.most, C.size)) in
     record {
       some = omega arith;
@@ -323,7 +323,7 @@ chose-own s n b d sure m r xs C h =
 pub chose-first : (s : List ℕ) (n b d : ℕ) (sure : Bool) (m : List ℕ) (r : ℕ) (xs : List ℕ) → Chose s n b d sure m r xs → 0 < r → get_or (take r xs) 0 0 ≡ b
 chose-first s n b d sure m r xs C h =
     let w = some-marks m in
-    let K : Chosen n w.0 maxDirectory b (take r xs) = subst (λ (ys : List ℕ). Chosen n w.0 maxDirectory b ys) (C.is w.0 w.1) (chosen s n w.0 b d sure) in
+    let K : Chosen n w.0 max_directory b (take r xs) = subst (λ (ys : List ℕ). Chosen n w.0 max_directory b ys) (C.is w.0 w.1) (chosen s n w.0 b d sure) in
     let l : length (take r xs) ≡ r = length-take-le r xs (omega (arith, C.most, C.size)) in
     K.first (omega arith)
 
@@ -332,16 +332,16 @@ row-whole xs b k d e h l = let q : k ≡ d = omega arith in subst (λ (j : ℕ).
 
 -- A CHAIN READ, block by block
 pub record Reading (s : List ℕ) (first : ℕ) (xs : List ℕ) (b k : ℕ) : Type 0 where
-  pub size : length xs ≡ maxDirectory
+  pub size : length xs ≡ max_directory
   pub here : b ≡ nth (next s) k first
   pub is : take k xs ≡ chain (next s) first k
 
-pub reading-start : (s : List ℕ) (first : ℕ) (xs : List ℕ) → length xs ≡ maxDirectory → Reading s first xs first 0
+pub reading-start : (s : List ℕ) (first : ℕ) (xs : List ℕ) → length xs ≡ max_directory → Reading s first xs first 0
 unfolding chain
 reading-start s first xs l = record { size = l; here = refl; is = refl }
 
 pub reading-below : (s : List ℕ) (n first d : ℕ) (xs : List ℕ) (b k : ℕ) → Reading s first xs b k → DirectoryAt s n first d → k < d → b < n
-reading-below s n first d xs b k w D h = let g = D.blocks.below k h in omega (arith, g, getD-chain (next s) first d k h, w.here)
+reading-below s n first d xs b k w D h = let g = D.blocks.below k h in omega (arith, g, get_d-chain (next s) first d k h, w.here)
 
 pub reading-more : (s : List ℕ) (first : ℕ) (xs : List ℕ) (b k : ℕ) → Reading s first xs b k → k < length xs → (c : ℕ) → c ≡ next s b → Reading s first (set xs k b) c (k + 1)
 reading-more s first xs b k w h c e =

@@ -11,18 +11,18 @@ use lib.ListN.{length, get_or, set, drop, take, replicate, length-set}
 use lib.Seq.{drop-cons, drop-length, get_or-set_same, get_or-set_other}
 use borrow.Author.Tests.{eq-eqb, ne_eqb, le-leb, lt-leb, leb-true}
 use Rattle.layout.specs.Lists.{within, interval, select, same}
-use Rattle.layout.specs.Limits.{minBlocks, maxBlocks}
+use Rattle.layout.specs.Limits.{min_blocks, max_blocks}
 use Rattle.layout.specs.Bytes.{be32, zeros, splice}
-use Rattle.layout.specs.Geometry.{signature, blockCount, tableBlocks}
-use Rattle.layout.specs.Directory.{isFree, type_of}
+use Rattle.layout.specs.Geometry.{signature, block_count, table_blocks}
+use Rattle.layout.specs.Directory.{is_free, type_of}
 use Rattle.layout.specs.Check.{stage1, stage2}
 use Rattle.layout.specs.Walks.Slots.{entry_at}
 use Rattle.layout.proofs.Laws.Tests.{is_false, within-join, within-split, require-zero, accept-refused}
 use Rattle.layout.proofs.Laws.Lists.{interval-from, select-same}
 use Rattle.layout.proofs.Laws.Joins.{select-agree}
 use Rattle.layout.proofs.Laws.Bytes.{lent}
-use Rattle.salvage_tree.specs.SalvageTree.{otherLength, treeRefusal, number, hungOver, salvaged, TreeAnswer, salvageTree}
-use Rattle.salvage_tree.specs.Walks.{one, usedBits, UsedOf, wasUsed, hungHere, Answered}
+use Rattle.salvage_tree.specs.SalvageTree.{other_length, tree_refusal, number, hung_over, salvaged, TreeAnswer, salvage_tree}
+use Rattle.salvage_tree.specs.Walks.{one, used_bits, UsedOf, was_used, hung_here, Answered}
 
 -- A BIT FOR EACH SLOT
 bit_is : (t : Bool) → cond {A = ℕ} t 0 1 ≡ one (not t)
@@ -30,21 +30,21 @@ bit_is true = refl
 bit_is false = refl
 
 pub used-is : (s : List ℕ) (b x y z w t₀ t₁ t₂ t₃ : ℕ) → t₀ ≡ type_of s (entry_at b 0) → t₁ ≡ type_of s (entry_at b 1) → t₂ ≡ type_of s (entry_at b 2) → t₃ ≡ type_of s (entry_at b 3)
-    → x ≡ cond (isFree t₀) 0 1 → y ≡ cond (isFree t₁) 0 1 → z ≡ cond (isFree t₂) 0 1 → w ≡ cond (isFree t₃) 0 1 → x + 2 * y + 4 * z + 8 * w ≡ usedBits s b
-unfolding usedBits
+    → x ≡ cond (is_free t₀) 0 1 → y ≡ cond (is_free t₁) 0 1 → z ≡ cond (is_free t₂) 0 1 → w ≡ cond (is_free t₃) 0 1 → x + 2 * y + 4 * z + 8 * w ≡ used_bits s b
+unfolding used_bits
 used-is s b x y z w t₀ t₁ t₂ t₃ e₀ e₁ e₂ e₃ ex ey ez ew =
     let q : entry_at b 0 ≡ 512 * b = omega arith in
-    rw (ex ∙ bit_is (isFree t₀), ey ∙ bit_is (isFree t₁), ez ∙ bit_is (isFree t₂), ew ∙ bit_is (isFree t₃), e₀ ∙ ap (λ (a : ℕ). type_of s a) q, e₁, e₂, e₃)
+    rw (ex ∙ bit_is (is_free t₀), ey ∙ bit_is (is_free t₁), ez ∙ bit_is (is_free t₂), ew ∙ bit_is (is_free t₃), e₀ ∙ ap (λ (a : ℕ). type_of s a) q, e₁, e₂, e₃)
 
 pub record UsedUp (s : List ℕ) (n : ℕ) (used₀ used : List ℕ) (b left : ℕ) : Type 0 where
   pub sum : b + left ≡ n
   pub size : length used ≡ length used₀
-  pub at : (x : ℕ) → x < b → get_or used x 0 ≡ usedBits s x
+  pub at : (x : ℕ) → x < b → get_or used x 0 ≡ used_bits s x
 
 pub used_start : (s : List ℕ) (n : ℕ) (used : List ℕ) → UsedUp s n used used 0 n
 used_start s n used = record { sum = omega arith; size = refl; at = λ x h. absurd (omega arith) }
 
-pub used-more : {s : List ℕ} {n : ℕ} {used₀ used : List ℕ} {b left : ℕ} → UsedUp s n used₀ used b left → 0 < left → n ≤ length used₀ → (v : ℕ) → v ≡ usedBits s b → UsedUp s n used₀ (set used b v) (b + 1) (left - 1)
+pub used-more : {s : List ℕ} {n : ℕ} {used₀ used : List ℕ} {b left : ℕ} → UsedUp s n used₀ used b left → 0 < left → n ≤ length used₀ → (v : ℕ) → v ≡ used_bits s b → UsedUp s n used₀ (set used b v) (b + 1) (left - 1)
 used-more {s} {n} {used₀} {used} {b} {left} w h l v e =
     record {
       sum = omega (arith, w.sum);
@@ -60,20 +60,20 @@ used-end w e = record { at = λ x h. w.at x (omega (arith, w.sum)) }
 
 -- ONE SLOT'S BIT, by its place in the block
 module _ (x j : ℕ) where
-  pub was-0 : j ≡ 0 → eqb (x % 2) 1 ≡ wasUsed x j
-  unfolding wasUsed
+  pub was-0 : j ≡ 0 → eqb (x % 2) 1 ≡ was_used x j
+  unfolding was_used
   was-0 e = rw (eq-eqb j 0 e)
 
-  pub was-1 : (j ≡ 0 → ⊥) → j ≡ 1 → eqb (x / 2 % 2) 1 ≡ wasUsed x j
-  unfolding wasUsed
+  pub was-1 : (j ≡ 0 → ⊥) → j ≡ 1 → eqb (x / 2 % 2) 1 ≡ was_used x j
+  unfolding was_used
   was-1 a e = rw (ne_eqb j 0 a, eq-eqb j 1 e)
 
-  pub was-2 : (j ≡ 0 → ⊥) → (j ≡ 1 → ⊥) → j ≡ 2 → eqb (x / 4 % 2) 1 ≡ wasUsed x j
-  unfolding wasUsed
+  pub was-2 : (j ≡ 0 → ⊥) → (j ≡ 1 → ⊥) → j ≡ 2 → eqb (x / 4 % 2) 1 ≡ was_used x j
+  unfolding was_used
   was-2 a b e = rw (ne_eqb j 0 a, ne_eqb j 1 b, eq-eqb j 2 e)
 
-  pub was-3 : (j ≡ 0 → ⊥) → (j ≡ 1 → ⊥) → (j ≡ 2 → ⊥) → eqb (x / 8 % 2) 1 ≡ wasUsed x j
-  unfolding wasUsed
+  pub was-3 : (j ≡ 0 → ⊥) → (j ≡ 1 → ⊥) → (j ≡ 2 → ⊥) → eqb (x / 8 % 2) 1 ≡ was_used x j
+  unfolding was_used
   was-3 a b c = rw (ne_eqb j 0 a, ne_eqb j 1 b, ne_eqb j 2 c)
 
 one-most : (t : Bool) → one t ≤ 1
@@ -95,29 +95,29 @@ bits p q r t x e =
     go : (a b c d : ℕ) → a ≤ 1 → b ≤ 1 → c ≤ 1 → d ≤ 1 → x ≡ a + 2 * b + 4 * c + 8 * d → (x % 2 ≡ a) × (x / 2 % 2 ≡ b) × (x / 4 % 2 ≡ c) × (x / 8 % 2 ≡ d)
     go a b c d ha hb hc hd e = (omega arith, omega arith, omega arith, omega arith)
 
-pub was-is : (s : List ℕ) (n : ℕ) (used : List ℕ) (i : ℕ) → UsedOf s n used → i < 4 * n → wasUsed (get_or used (i / 4) 0) (i % 4) ≡ not (isFree (type_of s (128 * i)))
-unfolding usedBits
+pub was-is : (s : List ℕ) (n : ℕ) (used : List ℕ) (i : ℕ) → UsedOf s n used → i < 4 * n → was_used (get_or used (i / 4) 0) (i % 4) ≡ not (is_free (type_of s (128 * i)))
+unfolding used_bits
 was-is s n used i U h =
     let b : ℕ = i / 4 in
     let e = 512 * b in
-    let w = bits (not (isFree (type_of s e))) (not (isFree (type_of s (e + 128)))) (not (isFree (type_of s (e + 256)))) (not (isFree (type_of s (e + 384)))) (get_or used b 0) (U.at b (omega arith)) in
+    let w = bits (not (is_free (type_of s e))) (not (is_free (type_of s (e + 128)))) (not (is_free (type_of s (e + 256)))) (not (is_free (type_of s (e + 384)))) (get_or used b 0) (U.at b (omega arith)) in
     elim (ℕ_discrete (i % 4) 0) [
-      | yes p ↦ sym (was-0 (get_or used b 0) (i % 4) p) ∙ bit-of _ _ w.0 ∙ (let q : 512 * (i / 4) ≡ 128 * i = omega arith in ap (λ (a : ℕ). not (isFree (type_of s a))) q)
+      | yes p ↦ sym (was-0 (get_or used b 0) (i % 4) p) ∙ bit-of _ _ w.0 ∙ (let q : 512 * (i / 4) ≡ 128 * i = omega arith in ap (λ (a : ℕ). not (is_free (type_of s a))) q)
       | no a ↦ elim (ℕ_discrete (i % 4) 1) [
-        | yes p ↦ sym (was-1 (get_or used b 0) (i % 4) a p) ∙ bit-of _ _ w.1 ∙ (let q : 512 * (i / 4) + 128 ≡ 128 * i = omega arith in ap (λ (a : ℕ). not (isFree (type_of s a))) q)
+        | yes p ↦ sym (was-1 (get_or used b 0) (i % 4) a p) ∙ bit-of _ _ w.1 ∙ (let q : 512 * (i / 4) + 128 ≡ 128 * i = omega arith in ap (λ (a : ℕ). not (is_free (type_of s a))) q)
         | no c ↦ elim (ℕ_discrete (i % 4) 2) [
-          | yes p ↦ sym (was-2 (get_or used b 0) (i % 4) a c p) ∙ bit-of _ _ w.2 ∙ (let q : 512 * (i / 4) + 256 ≡ 128 * i = omega arith in ap (λ (a : ℕ). not (isFree (type_of s a))) q)
-          | no d ↦ sym (was-3 (get_or used b 0) (i % 4) a c d) ∙ bit-of _ _ w.3 ∙ (let q : 512 * (i / 4) + 384 ≡ 128 * i = omega arith in ap (λ (a : ℕ). not (isFree (type_of s a))) q)
+          | yes p ↦ sym (was-2 (get_or used b 0) (i % 4) a c p) ∙ bit-of _ _ w.2 ∙ (let q : 512 * (i / 4) + 256 ≡ 128 * i = omega arith in ap (λ (a : ℕ). not (is_free (type_of s a))) q)
+          | no d ↦ sym (was-3 (get_or used b 0) (i % 4) a c d) ∙ bit-of _ _ w.3 ∙ (let q : 512 * (i / 4) + 384 ≡ 128 * i = omega arith in ap (λ (a : ℕ). not (is_free (type_of s a))) q)
         ]
       ]
     ]
 
-pub over-code : (codes used : List ℕ) (i : ℕ) → (get_or codes i 0 ≡ 6 → ⊥) → (◌≡◌ {A = ℕ} 0 (one (hungHere codes used i))) × (0 ≤ 1)
-unfolding hungHere
+pub over-code : (codes used : List ℕ) (i : ℕ) → (get_or codes i 0 ≡ 6 → ⊥) → (◌≡◌ {A = ℕ} 0 (one (hung_here codes used i))) × (0 ≤ 1)
+unfolding hung_here
 over-code codes used i z = (rw (ne_eqb (get_or codes i 0) 6 z), omega arith)
 
-pub over-was : (codes used : List ℕ) (i : ℕ) → get_or codes i 0 ≡ 6 → (r : Bool) → r ≡ wasUsed (get_or used (i / 4) 0) (i % 4) → (v : ℕ) → v ≡ one r → (v ≡ one (hungHere codes used i)) × (v ≤ 1)
-unfolding hungHere
+pub over-was : (codes used : List ℕ) (i : ℕ) → get_or codes i 0 ≡ 6 → (r : Bool) → r ≡ was_used (get_or used (i / 4) 0) (i % 4) → (v : ℕ) → v ≡ one r → (v ≡ one (hung_here codes used i)) × (v ≤ 1)
+unfolding hung_here
 over-was codes used i z r er v ev = (ev ∙ rw (eq-eqb (get_or codes i 0) 6 z, ← er), (let k = one-most r in omega arith))
 
 -- HOW MANY PASS
@@ -168,10 +168,10 @@ over-end p n count i w h =
     let k : length (select p (interval i (n - i))) ≡ 0 = ap (λ (j : ℕ). length (select p (interval i j))) q in
     (omega (arith, w.is, k), omega (arith, w.few, w.most))
 
-pub over-is : (s : List ℕ) (n : ℕ) (codes used : List ℕ) → UsedOf s n used → length codes ≡ 4 * n → length (select (hungHere codes used) (interval 0 (length codes))) ≡ hungOver s codes
-unfolding hungOver hungHere
+pub over-is : (s : List ℕ) (n : ℕ) (codes used : List ℕ) → UsedOf s n used → length codes ≡ 4 * n → length (select (hung_here codes used) (interval 0 (length codes))) ≡ hung_over s codes
+unfolding hung_over hung_here
 over-is s n codes used U l =
-    ap length (select-same (λ i. eqb (get_or codes i 0) 6 && not (isFree (type_of s (128 * i)))) (λ i. eqb (get_or codes i 0) 6 && wasUsed (get_or used (i / 4) 0) (i % 4)) (length codes) 0
+    ap length (select-same (λ i. eqb (get_or codes i 0) 6 && not (is_free (type_of s (128 * i)))) (λ i. eqb (get_or codes i 0) 6 && was_used (get_or used (i / 4) 0) (i % 4)) (length codes) 0
     (λ i g h. ap (λ (t : Bool). eqb (get_or codes i 0) 6 && t) (was-is s n used i U (omega arith))))
 
 within-is : (lo x : ℕ) → within lo lo x ≡ eqb x lo
@@ -198,10 +198,10 @@ zeroed-number codes = ap length (select-agree (λ c. eqb c 1 || eqb c 2) (within
     ]
 
 -- A TYPE'S BIT, A CODE'S
-pub bit-free : (type : ℕ) → type ≡ 0 → (◌≡◌ {A = ℕ} 0 (cond (isFree type) 0 1)) × (0 ≤ 1)
+pub bit-free : (type : ℕ) → type ≡ 0 → (◌≡◌ {A = ℕ} 0 (cond (is_free type) 0 1)) × (0 ≤ 1)
 bit-free type e = (rw (eq-eqb type 0 e), omega arith)
 
-pub bit-used : (type : ℕ) → (type ≡ 0 → ⊥) → (◌≡◌ {A = ℕ} 1 (cond (isFree type) 0 1)) × (1 ≤ 1)
+pub bit-used : (type : ℕ) → (type ≡ 0 → ⊥) → (◌≡◌ {A = ℕ} 1 (cond (is_free type) 0 1)) × (1 ≤ 1)
 bit-used type e = (rw (ne_eqb type 0 e), omega arith)
 
 pub code_out : (code lo hi : ℕ) → (code < lo) ⊎ (hi < code) → (◌≡◌ {A = ℕ} 0 (one (within lo hi code))) × (0 ≤ 1)
@@ -213,56 +213,56 @@ pub code_in : (code lo hi : ℕ) → lo ≤ code → code ≤ hi → (◌≡◌ 
 code_in code lo hi l h = (rw (within-join lo hi code l h), omega arith)
 
 -- THE REFUSALS
-module _ (s : List ℕ) (n : ℕ) (c : blockCount s ≡ n) (x : Bool) (ex : x ≡ same (take 12 s) signature) where
-  pub other-signed : x ≡ false → false ≡ otherLength s
-  unfolding otherLength stage2
+module _ (s : List ℕ) (n : ℕ) (c : block_count s ≡ n) (x : Bool) (ex : x ≡ same (take 12 s) signature) where
+  pub other-signed : x ≡ false → false ≡ other_length s
+  unfolding other_length stage2
   other-signed z = rw (sym ex ∙ z)
 
   module _ (ok : x ≡ true) (m : ℕ) (em : m ≡ be32 s 12) where
-    pub other-same : m ≡ n → false ≡ otherLength s
-    unfolding otherLength stage2
+    pub other-same : m ≡ n → false ≡ other_length s
+    unfolding other_length stage2
     other-same z = rw (sym ex ∙ ok, c, ← em, eq-eqb m n z)
 
     module _ (ne : m ≡ n → ⊥) where
-      pub other-range : (m < minBlocks) ⊎ (maxBlocks < m) → false ≡ otherLength s
-      unfolding otherLength stage2
+      pub other-range : (m < min_blocks) ⊎ (max_blocks < m) → false ≡ other_length s
+      unfolding other_length stage2
       other-range o =
-          let z : within minBlocks maxBlocks m ≡ false = is_false _ (λ e. let w = within-split minBlocks maxBlocks m e in ⊎_elim (λ p. omega arith) (λ p. omega arith) o) in
+          let z : within min_blocks max_blocks m ≡ false = is_false _ (λ e. let w = within-split min_blocks max_blocks m e in ⊎_elim (λ p. omega arith) (λ p. omega arith) o) in
           rw (sym ex ∙ ok, c, ← em, ne_eqb m n ne, z)
 
-      module _ (low : minBlocks ≤ m) (high : m ≤ maxBlocks) (t : ℕ) (et : t ≡ tableBlocks m) (u : ℕ) (eu : u ≡ be32 s 16) where
-        pub other-table : (u ≡ t → ⊥) → false ≡ otherLength s
-        unfolding otherLength stage2
-        other-table z = rw (sym ex ∙ ok, c, ← em, ne_eqb m n ne, within-join minBlocks maxBlocks m low high, ← eu, ← et, ne_eqb u t z)
+      module _ (low : min_blocks ≤ m) (high : m ≤ max_blocks) (t : ℕ) (et : t ≡ table_blocks m) (u : ℕ) (eu : u ≡ be32 s 16) where
+        pub other-table : (u ≡ t → ⊥) → false ≡ other_length s
+        unfolding other_length stage2
+        other-table z = rw (sym ex ∙ ok, c, ← em, ne_eqb m n ne, within-join min_blocks max_blocks m low high, ← eu, ← et, ne_eqb u t z)
 
-        pub other-root : u ≡ t → (v : ℕ) → v ≡ be32 s 28 → eqb v (t + 1) ≡ otherLength s
-        unfolding otherLength stage2
-        other-root z v ev = rw (sym ex ∙ ok, c, ← em, ne_eqb m n ne, within-join minBlocks maxBlocks m low high, ← eu, ← et, eq-eqb u t z, ← ev)
+        pub other-root : u ≡ t → (v : ℕ) → v ≡ be32 s 28 → eqb v (t + 1) ≡ other_length s
+        unfolding other_length stage2
+        other-root z v ev = rw (sym ex ∙ ok, c, ← em, ne_eqb m n ne, within-join min_blocks max_blocks m low high, ← eu, ← et, eq-eqb u t z, ← ev)
 
 module _ (s : List ℕ) (size : ℕ) (x : Bool) (ex : x ≡ stage1 s) where
-  pub refusal-1 : x ≡ false → 1 ≡ treeRefusal s size
-  unfolding treeRefusal
+  pub refusal-1 : x ≡ false → 1 ≡ tree_refusal s size
+  unfolding tree_refusal
   refusal-1 z = rw (sym ex ∙ z)
 
-  module _ (ok : x ≡ true) (y : Bool) (ey : y ≡ otherLength s) where
-    pub refusal-3 : y ≡ true → 3 ≡ treeRefusal s size
-    unfolding treeRefusal
+  module _ (ok : x ≡ true) (y : Bool) (ey : y ≡ other_length s) where
+    pub refusal-3 : y ≡ true → 3 ≡ tree_refusal s size
+    unfolding tree_refusal
     refusal-3 z = rw (sym ex ∙ ok, sym ey ∙ z)
 
-    pub refusal-9 : y ≡ false → size < 4 * blockCount s → 9 ≡ treeRefusal s size
-    unfolding treeRefusal
-    refusal-9 z h = rw (sym ex ∙ ok, sym ey ∙ z, lt-leb (4 * blockCount s) size h)
+    pub refusal-9 : y ≡ false → size < 4 * block_count s → 9 ≡ tree_refusal s size
+    unfolding tree_refusal
+    refusal-9 z h = rw (sym ex ∙ ok, sym ey ∙ z, lt-leb (4 * block_count s) size h)
 
-    pub refusal-0 : y ≡ false → 4 * blockCount s ≤ size → 0 ≡ treeRefusal s size
-    unfolding treeRefusal
-    refusal-0 z h = rw (sym ex ∙ ok, sym ey ∙ z, le-leb (4 * blockCount s) size h)
+    pub refusal-0 : y ≡ false → 4 * block_count s ≤ size → 0 ≡ tree_refusal s size
+    unfolding tree_refusal
+    refusal-0 z h = rw (sym ex ∙ ok, sym ey ∙ z, le-leb (4 * block_count s) size h)
 
-pub refusal-fits : (s : List ℕ) (size : ℕ) → treeRefusal s size ≡ 0 → (stage1 s ≡ true) × (4 * blockCount s ≤ size)
-unfolding treeRefusal
+pub refusal-fits : (s : List ℕ) (size : ℕ) → tree_refusal s size ≡ 0 → (stage1 s ≡ true) × (4 * block_count s ≤ size)
+unfolding tree_refusal
 refusal-fits s size e =
     let a = require-zero (stage1 s) 0 _ e in
-    let b = require-zero (not (otherLength s)) 2 _ a.1 in
-    let d = require-zero (leb (4 * blockCount s) size) 8 _ b.1 in
+    let b = require-zero (not (other_length s)) 2 _ a.1 in
+    let d = require-zero (leb (4 * block_count s) size) 8 _ b.1 in
     (a.0, leb-true _ _ d.0)
 
 -- THE ANSWER
@@ -271,26 +271,26 @@ unfolding zeros
 cleared n c c' e l = e ∙ ap (λ (k : ℕ). replicate k 0) l
 
 pub answered : (s : List ℕ) (n : ℕ) (used s' codes : List ℕ) → UsedOf s n used → length codes ≡ 4 * n → s' ≡ (salvaged s).image → codes ≡ (salvaged s).codes → (a b d : ℕ) → a ≡ number (within 1 2) codes
-    → b ≡ length (select (hungHere codes used) (interval 0 (length codes))) → d ≡ number (within 5 5) codes → Answered s 0 (a + b) d s' codes
+    → b ≡ length (select (hung_here codes used) (interval 0 (length codes))) → d ≡ number (within 5 5) codes → Answered s 0 (a + b) d s' codes
 answered s n used s' codes U l ei ec a b d ea eb ed =
     record {
       none = refl;
       image = ei;
       codes-are = ec;
-      zeroed-are = ap (λ (x : ℕ). x + b) (ea ∙ zeroed-number codes) ∙ ap (λ (x : ℕ). number (λ c. eqb c 1 || eqb c 2) codes + x) (eb ∙ over-is s n codes used U l) ∙ ap (λ (k : List ℕ). number (λ c. eqb c 1 || eqb c 2) k + hungOver s k) ec;
+      zeroed-are = ap (λ (x : ℕ). x + b) (ea ∙ zeroed-number codes) ∙ ap (λ (x : ℕ). number (λ c. eqb c 1 || eqb c 2) codes + x) (eb ∙ over-is s n codes used U l) ∙ ap (λ (k : List ℕ). number (λ c. eqb c 1 || eqb c 2) k + hung_over s k) ec;
       freed-are = ed ∙ freed-number codes ∙ ap (number (λ c. eqb c 5)) ec;
     }
 
-pub tree-refused : (s report : List ℕ) (why : ℕ) → why ≡ treeRefusal s (length report) → (why ≡ 0 → ⊥) → ◌≡◌ {A = TreeAnswer} (record { number = why; zeroed = 0; freed = 0; image = s; report = report }) (salvageTree s report)
-unfolding salvageTree
-tree-refused s report why e ne = rw e (sym (accept-refused (treeRefusal s (length report)) _ _ (λ z. ne (e ∙ z))))
+pub tree-refused : (s report : List ℕ) (why : ℕ) → why ≡ tree_refusal s (length report) → (why ≡ 0 → ⊥) → ◌≡◌ {A = TreeAnswer} (record { number = why; zeroed = 0; freed = 0; image = s; report = report }) (salvage_tree s report)
+unfolding salvage_tree
+tree-refused s report why e ne = rw e (sym (accept-refused (tree_refusal s (length report)) _ _ (λ z. ne (e ∙ z))))
 
-tree-accepted : (s report : List ℕ) (why : ℕ) → why ≡ treeRefusal s (length report) → why ≡ 0 → (num a d : ℕ) (s' codes r' : List ℕ) → Answered s num a d s' codes → r' ≡ splice report 0 codes
-    → ◌≡◌ {A = TreeAnswer} (record { number = num; zeroed = a; freed = d; image = s'; report = r' }) (salvageTree s report)
-unfolding salvageTree
+tree-accepted : (s report : List ℕ) (why : ℕ) → why ≡ tree_refusal s (length report) → why ≡ 0 → (num a d : ℕ) (s' codes r' : List ℕ) → Answered s num a d s' codes → r' ≡ splice report 0 codes
+    → ◌≡◌ {A = TreeAnswer} (record { number = num; zeroed = a; freed = d; image = s'; report = r' }) (salvage_tree s report)
+unfolding salvage_tree
 tree-accepted s report why e z num a d s' codes r' A er = rw (sym e ∙ z, A.none, A.zeroed-are, A.freed-are, A.image, er, A.codes-are)
 
 -- the report, whose front was lent
-pub tree_lent : (s report : List ℕ) (why : ℕ) → why ≡ treeRefusal s (length report) → why ≡ 0 → (num a d : ℕ) (s' codes : List ℕ) (k : ℕ) → Answered s num a d s' codes → length codes ≡ k
-    → ◌≡◌ {A = TreeAnswer} (record { number = num; zeroed = a; freed = d; image = s'; report = take 0 report ++ (codes ++ drop k (drop 0 report)) }) (salvageTree s report)
+pub tree_lent : (s report : List ℕ) (why : ℕ) → why ≡ tree_refusal s (length report) → why ≡ 0 → (num a d : ℕ) (s' codes : List ℕ) (k : ℕ) → Answered s num a d s' codes → length codes ≡ k
+    → ◌≡◌ {A = TreeAnswer} (record { number = num; zeroed = a; freed = d; image = s'; report = take 0 report ++ (codes ++ drop k (drop 0 report)) }) (salvage_tree s report)
 tree_lent s report why e z num a d s' codes k A l = tree-accepted s report why e z num a d s' codes (take 0 report ++ (codes ++ drop k (drop 0 report))) A (lent report 0 k codes codes refl l)

@@ -10,7 +10,7 @@ use Rattle.layout.specs.Bytes.{zeros, splice}
 use Rattle.layout.specs.Directory.{slot_at, slots}
 use Rattle.layout.proofs.Laws.Lists.{interval-next}
 use Rattle.salvage.specs.Walks.{MarksOf}
-use Rattle.salvage_tree.specs.SalvageTree.{State, coded, takeSlot, takeSlots, takeChild}
+use Rattle.salvage_tree.specs.SalvageTree.{State, coded, take_slot, take_slots, take_child}
 use Rattle.salvage_tree.specs.Walks.{st, Reached, Ready, Own, EntryTaken, Entered, SlotDone, SlotsDone}
 use Rattle.salvage_tree.proofs.Walks.Entries.{dropped-is, front}
 
@@ -20,23 +20,23 @@ reached-state q s m c R = rw (R.image, R.codes-are)
 -- A SLOT
 module _ (s ds : List ℕ) (k left : ℕ) (m codes : List ℕ) (r : Bool) (s₁ m₁ c₁ : List ℕ) (E : EntryTaken s ds k m codes r s₁ m₁ c₁) where
   pub slot-done : r ≡ false → SlotDone s ds k left m codes s₁ m₁ c₁
-  slot-done z = record { reached = λ cs M. E.done z (takeChild left (get_or ds 0 0)) cs M }
+  slot-done z = record { reached = λ cs M. E.done z (take_child left (get_or ds 0 0)) cs M }
 
   module _ (z : r ≡ true) (e : ℕ) (ee : slot_at ds k ≡ e) where
     marks-are : (cs : List ℕ) → MarksOf m cs → MarksOf m₁ cs
     marks-are cs M = rw (E.same-marks z) M
 
-    child-is : (child : State → ℕ → State) (cs : List ℕ) → takeSlot child ds (st s cs codes) k ≡ child (st s₁ cs c₁) e
+    child-is : (child : State → ℕ → State) (cs : List ℕ) → take_slot child ds (st s cs codes) k ≡ child (st s₁ cs c₁) e
     child-is child cs = E.left z child cs ∙ rw (ee, E.same-image z, E.same_codes z)
 
     pub slot-deep : left ≡ 0 → (s' c' : List ℕ) → s' ≡ splice s₁ e (zeros 128) → c' ≡ coded c₁ e 2 → SlotDone s ds k left m codes s' m₁ c'
-    unfolding takeChild
+    unfolding take_child
     slot-deep l s' c' es ec =
-        record { reached = λ cs M. subst (λ (q : State). Reached q s' m₁ c') (sym (child-is (takeChild left (get_or ds 0 0)) cs ∙ rw l)) (dropped-is s₁ e 2 m₁ c₁ s' c' es ec cs (marks-are cs M)) }
+        record { reached = λ cs M. subst (λ (q : State). Reached q s' m₁ c') (sym (child-is (take_child left (get_or ds 0 0)) cs ∙ rw l)) (dropped-is s₁ e 2 m₁ c₁ s' c' es ec cs (marks-are cs M)) }
 
     module _ (pos : 0 < left) (n : ℕ) (d : ℕ) (xs s₂ m₂ c₂ : List ℕ) (N : Entered s₁ n (get_or ds 0 0) e m₁ c₁ d xs s₂ m₂ c₂) where
-      child-left : (cs : List ℕ) → takeSlot (takeChild left (get_or ds 0 0)) ds (st s cs codes) k ≡ takeChild (suc (left - 1)) (get_or ds 0 0) (st s₁ cs c₁) e
-      child-left cs = let q : suc (left - 1) ≡ left = omega arith in child-is (takeChild left (get_or ds 0 0)) cs ∙ rw q
+      child-left : (cs : List ℕ) → take_slot (take_child left (get_or ds 0 0)) ds (st s cs codes) k ≡ take_child (suc (left - 1)) (get_or ds 0 0) (st s₁ cs c₁) e
+      child-left cs = let q : suc (left - 1) ≡ left = omega arith in child-is (take_child left (get_or ds 0 0)) cs ∙ rw q
 
       pub slot-dropped : d ≡ 0 → SlotDone s ds k left m codes s₂ m₂ c₂
       slot-dropped l = record { reached = λ cs M. subst (λ (q : State). Reached q s₂ m₂ c₂) (sym (child-left cs)) (N.none l (left - 1) cs (marks-are cs M)) }
@@ -63,18 +63,18 @@ pub record Slotting (s ds : List ℕ) (left : ℕ) (m codes s₁ m₁ c₁ : Lis
   pub long : length s₁ ≡ length s
   pub marked : length m₁ ≡ length m
   pub coded-all : length c₁ ≡ length codes
-  pub is : (cs : List ℕ) → MarksOf m cs → (cs₁ : List ℕ) × MarksOf m₁ cs₁ × (takeSlots (takeChild left (get_or ds 0 0)) ds (st s cs codes) (slots ds) ≡ takeSlots (takeChild left (get_or ds 0 0)) ds (st s₁ cs₁ c₁) (interval k more))
+  pub is : (cs : List ℕ) → MarksOf m cs → (cs₁ : List ℕ) × MarksOf m₁ cs₁ × (take_slots (take_child left (get_or ds 0 0)) ds (st s cs codes) (slots ds) ≡ take_slots (take_child left (get_or ds 0 0)) ds (st s₁ cs₁ c₁) (interval k more))
 
 pub slotting-start : (s ds : List ℕ) (left : ℕ) (m codes : List ℕ) → 1 ≤ length ds → Slotting s ds left m codes s m codes 1 (4 * length ds - 2)
 slotting-start s ds left m codes h = record { sum = omega arith; some = omega arith; long = refl; marked = refl; coded-all = refl; is = λ cs M. (cs, M, refl) }
 
-slots_next : (child : State → ℕ → State) (ds : List ℕ) (p : State) (k more : ℕ) → 0 < more → takeSlots child ds p (interval k more) ≡ takeSlots child ds (takeSlot child ds p k) (interval (k + 1) (more - 1))
-unfolding takeSlots
-slots_next child ds p k more h = ap (takeSlots child ds p) (interval-next k more h)
+slots_next : (child : State → ℕ → State) (ds : List ℕ) (p : State) (k more : ℕ) → 0 < more → take_slots child ds p (interval k more) ≡ take_slots child ds (take_slot child ds p k) (interval (k + 1) (more - 1))
+unfolding take_slots
+slots_next child ds p k more h = ap (take_slots child ds p) (interval-next k more h)
 
-slots-none : (child : State → ℕ → State) (ds : List ℕ) (p : State) (k more : ℕ) → more ≡ 0 → takeSlots child ds p (interval k more) ≡ p
-unfolding takeSlots
-slots-none child ds p k more e = ap (λ (j : ℕ). takeSlots child ds p (interval k j)) e
+slots-none : (child : State → ℕ → State) (ds : List ℕ) (p : State) (k more : ℕ) → more ≡ 0 → take_slots child ds p (interval k more) ≡ p
+unfolding take_slots
+slots-none child ds p k more e = ap (λ (j : ℕ). take_slots child ds p (interval k j)) e
 
 module _ {s ds : List ℕ} {left : ℕ} {m codes s₁ m₁ c₁ : List ℕ} {k more : ℕ} (w : Slotting s ds left m codes s₁ m₁ c₁ k more) where
   pub slotting-more : 0 < more → (s₂ m₂ c₂ : List ℕ) → length s₂ ≡ length s₁ → length m₂ ≡ length m₁ → length c₂ ≡ length c₁ → SlotDone s₁ ds k left m₁ c₁ s₂ m₂ c₂ → Slotting s ds left m codes s₂ m₂ c₂ (k + 1) (more - 1)
@@ -87,11 +87,11 @@ module _ {s ds : List ℕ} {left : ℕ} {m codes s₁ m₁ c₁ : List ℕ} {k m
         coded-all = lc ∙ w.coded-all;
         is = λ cs M.
             let W = w.is cs M in
-            let child = takeChild left (get_or ds 0 0) in
+            let child = take_child left (get_or ds 0 0) in
             let R = D.reached W.0 W.1 in (
-              (takeSlot child ds (st s₁ W.0 c₁) k).claimed,
+              (take_slot child ds (st s₁ W.0 c₁) k).claimed,
               R.marks,
-              W.2 ∙ slots_next child ds (st s₁ W.0 c₁) k more h ∙ ap (λ (q : State). takeSlots child ds q (interval (k + 1) (more - 1))) (sym (reached-state (takeSlot child ds (st s₁ W.0 c₁) k) s₂ m₂ c₂ R)),
+              W.2 ∙ slots_next child ds (st s₁ W.0 c₁) k more h ∙ ap (λ (q : State). take_slots child ds q (interval (k + 1) (more - 1))) (sym (reached-state (take_slot child ds (st s₁ W.0 c₁) k) s₂ m₂ c₂ R)),
             );
       }
 
@@ -100,7 +100,7 @@ module _ {s ds : List ℕ} {left : ℕ} {m codes s₁ m₁ c₁ : List ℕ} {k m
       record {
         reached = λ cs M.
             let W = w.is cs M in
-            let child = takeChild left (get_or ds 0 0) in
+            let child = take_child left (get_or ds 0 0) in
             subst (λ (q : State). Reached q s₁ m₁ c₁) (sym (W.2 ∙ slots-none child ds (st s₁ W.0 c₁) k more e)) (record { image = refl; marks = W.1; codes-are = refl });
       }
 

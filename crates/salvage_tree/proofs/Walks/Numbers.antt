@@ -9,12 +9,12 @@ use lib.ListN.{length, get_or, set}
 use borrow.Author.Tests.{eq-eqb, ne_eqb, eqb-true}
 use Rattle.layout.specs.Lists.{same}
 use Rattle.layout.specs.Bytes.{be32, bytes4, part, splice}
-use Rattle.layout.specs.Table.{next, setNext}
+use Rattle.layout.specs.Table.{next, set_next}
 use Rattle.layout.specs.Walks.Slots.{entry_at}
 use Rattle.layout.proofs.Laws.Tests.{is_false, true-not-false}
 use Rattle.layout.proofs.Laws.Bytes.{sets-splice}
 use Rattle.layout.proofs.Laws.Names.{same-eq, same_refl}
-use Rattle.salvage_tree.specs.SalvageTree.{coded, putNumber, putByte, putField, putValue}
+use Rattle.salvage_tree.specs.SalvageTree.{coded, put_number, put_byte, put_field, put_value}
 use Rattle.salvage_tree.proofs.Laws.Puts.{number_is, byte-is}
 
 -- two tests that follow from one another are the same
@@ -26,48 +26,48 @@ pub one_set : (s : List ℕ) (at v : ℕ) → at < length s → set s at v ≡ s
 one_set s at v h = sets-splice s at (v ∷ []) (omega arith)
 
 module _ (s : List ℕ) (at v : ℕ) where
-  pub number-left : be32 s at ≡ v → s ≡ putNumber s at v
-  unfolding putNumber
+  pub number-left : be32 s at ≡ v → s ≡ put_number s at v
+  unfolding put_number
   number-left e = rw (eq-eqb (be32 s at) v e)
 
-  pub number-set : (be32 s at ≡ v → ⊥) → splice s at (bytes4 v) ≡ putNumber s at v
-  unfolding putNumber
+  pub number-set : (be32 s at ≡ v → ⊥) → splice s at (bytes4 v) ≡ put_number s at v
+  unfolding put_number
   number-set e = rw (ne_eqb (be32 s at) v e)
 
-  pub byte_left : get_or s at 0 ≡ v → s ≡ putByte s at v
-  unfolding putByte
+  pub byte_left : get_or s at 0 ≡ v → s ≡ put_byte s at v
+  unfolding put_byte
   byte_left e = rw (eq-eqb (get_or s at 0) v e)
 
-  pub byte-set : (get_or s at 0 ≡ v → ⊥) → splice s at (v ∷ []) ≡ putByte s at v
-  unfolding putByte
+  pub byte-set : (get_or s at 0 ≡ v → ⊥) → splice s at (v ∷ []) ≡ put_byte s at v
+  unfolding put_byte
   byte-set e = rw (ne_eqb (get_or s at 0) v e)
 
-  pub number-flag : at + 4 ≤ length s → v < 0x100000000 → eqb (be32 s at) v ≡ same s (putNumber s at v)
+  pub number-flag : at + 4 ≤ length s → v < 0x100000000 → eqb (be32 s at) v ≡ same s (put_number s at v)
   number-flag h l =
       both_ways _ _ (λ e. subst (λ (u : List ℕ). same s u ≡ true) (number-left (eqb-true _ _ e)) (same_refl s))
-      (λ e. eq-eqb _ _ (ap (λ (u : List ℕ). be32 u at) (same-eq s (putNumber s at v) e) ∙ number_is s at v h l))
+      (λ e. eq-eqb _ _ (ap (λ (u : List ℕ). be32 u at) (same-eq s (put_number s at v) e) ∙ number_is s at v h l))
 
-  pub byte_flag : at < length s → eqb (get_or s at 0) v ≡ same s (putByte s at v)
+  pub byte_flag : at < length s → eqb (get_or s at 0) v ≡ same s (put_byte s at v)
   byte_flag h =
       both_ways _ _ (λ e. subst (λ (u : List ℕ). same s u ≡ true) (byte_left (eqb-true _ _ e)) (same_refl s))
-      (λ e. eq-eqb _ _ (ap (λ (u : List ℕ). get_or u at 0) (same-eq s (putByte s at v) e) ∙ byte-is s at v (omega arith)))
+      (λ e. eq-eqb _ _ (ap (λ (u : List ℕ). get_or u at 0) (same-eq s (put_byte s at v) e) ∙ byte-is s at v (omega arith)))
 
 module _ (s : List ℕ) (at : ℕ) (field : List ℕ) (t : Bool) (e : t ≡ same (part s at 80) field) where
-  pub field-left : t ≡ true → s ≡ putField s at field
-  unfolding putField
+  pub field-left : t ≡ true → s ≡ put_field s at field
+  unfolding put_field
   field-left z = rw (sym e ∙ z)
 
-  pub field-set : t ≡ false → splice s at field ≡ putField s at field
-  unfolding putField
+  pub field-set : t ≡ false → splice s at field ≡ put_field s at field
+  unfolding put_field
   field-set z = rw (sym e ∙ z)
 
 module _ (s : List ℕ) (b v : ℕ) where
-  pub value-left : next s b ≡ v → s ≡ putValue s b v
-  unfolding putValue
+  pub value-left : next s b ≡ v → s ≡ put_value s b v
+  unfolding put_value
   value-left e = rw (eq-eqb (next s b) v e)
 
-  pub value_set : (next s b ≡ v → ⊥) → setNext s b v ≡ putValue s b v
-  unfolding putValue
+  pub value_set : (next s b ≡ v → ⊥) → set_next s b v ≡ put_value s b v
+  unfolding put_value
   value_set e = rw (ne_eqb (next s b) v e)
 
 -- A CODE

@@ -9,23 +9,23 @@ use lib.Dec.{eqb}
 use lib.ListN.{length, get_or, set, take}
 use borrow.Author.Tests.{eq-eqb, ne_eqb, eqb-true}
 use Rattle.layout.specs.Lists.{interval, every, has, same}
-use Rattle.layout.specs.Limits.{minBlocks, maxBlocks}
+use Rattle.layout.specs.Limits.{min_blocks, max_blocks}
 use Rattle.layout.specs.Bytes.{be32, splice}
-use Rattle.layout.specs.Geometry.{signature, blockCount, tableBlocks, rootBlock}
-use Rattle.layout.specs.Table.{next, allOnes}
+use Rattle.layout.specs.Geometry.{signature, block_count, table_blocks, root_block}
+use Rattle.layout.specs.Table.{next, all_ones}
 use Rattle.layout.specs.Check.{stage1, stage2, stage3, stage7}
 use Rattle.layout.specs.Walks.Shapes.{Shape}
-use Rattle.layout.specs.Walks.Stages.{headStage}
+use Rattle.layout.specs.Walks.Stages.{head_stage}
 use Rattle.layout.proofs.Laws.Tests.{and_split, and-join, is_false, true-not-false, require-zero, within-join}
 use Rattle.layout.proofs.Laws.Lists.{interval-next, interval-every, in-has-eqb, false-has}
 use Rattle.layout.proofs.Laws.Names.{same-eq, same_refl}
-use Rattle.layout.proofs.Walks.Shapes.{shape-blockCount}
-use Rattle.salvage.specs.Salvage.{one_at, freeAt, in_turn, countsPut}
+use Rattle.layout.proofs.Walks.Shapes.{shape-block_count}
+use Rattle.salvage.specs.Salvage.{one_at, free_at, in_turn, counts_put}
 use Rattle.salvage.specs.Walks.{MarksOf, EntriesFreed}
 use Rattle.salvage.proofs.Laws.Puts.{Ones, ones-put, Frees, frees-put}
 use Rattle.salvage.proofs.Walks.Turns.{one_left, free-left, counts-left}
 use Rattle.salvage.proofs.Walks.Claims.{unmarked-out, marked-in}
-use Rattle.salvage_tree.specs.SalvageTree.{coded, putNumber, onesPut, blocksFreed, paddingPut, headPut, freedCodes, rest}
+use Rattle.salvage_tree.specs.SalvageTree.{coded, put_number, ones_put, blocks_freed, padding_put, head_put, freed_codes, rest}
 use Rattle.salvage_tree.specs.Walks.{FreedNoted, IsFree, AllFree, signed, BlocksPut, PaddingPut, RestPut}
 use Rattle.salvage_tree.proofs.Laws.Rest.{HeadIs, head-is}
 use Rattle.salvage_tree.proofs.Walks.Numbers.{both_ways, number-left, one_set}
@@ -33,44 +33,44 @@ use Rattle.salvage_tree.proofs.Walks.Numbers.{both_ways, number-left, one_set}
 shape-stage1 : (s : List ℕ) (n : ℕ) → Shape s n → stage1 s ≡ true
 unfolding stage1
 shape-stage1 s n H =
-    let c = shape-blockCount s n H in
-    rw c (and-join (eq-eqb (length s) (512 * n) H.whole) (within-join minBlocks maxBlocks n H.low H.high))
+    let c = shape-block_count s n H in
+    rw c (and-join (eq-eqb (length s) (512 * n) H.whole) (within-join min_blocks max_blocks n H.low H.high))
 
 -- THE CODES of freed blocks
 module _ (s m : List ℕ) (b : ℕ) (codes : List ℕ) where
   pub noted-marked : (get_or m b 0 ≡ 0 → ⊥) → FreedNoted s m b 1 codes codes
-  unfolding freedCodes
+  unfolding freed_codes
   noted-marked z = record { is = λ cs M. rw (in-has-eqb b cs (marked-in m cs b M z)) }
 
   pub noted-free : next s b ≡ 0 → FreedNoted s m b 1 codes codes
-  unfolding freedCodes
+  unfolding freed_codes
   noted-free z = record { is = λ cs M. let q : has eqb b cs || eqb (next s b) 0 ≡ true = ap (λ (t : Bool). has eqb b cs || t) (eq-eqb (next s b) 0 z) ∙ or-true (has eqb b cs) in rw q }
 
   pub noted-freed : get_or m b 0 ≡ 0 → (next s b ≡ 0 → ⊥) → 4 * b < length codes → FreedNoted s m b 1 codes (set codes (4 * b) 5)
-  unfolding freedCodes
+  unfolding freed_codes
   noted-freed z u h = record { is = λ cs M. rw (false-has b cs (unmarked-out m cs b M z), ne_eqb (next s b) 0 u) (one_set codes (4 * b) 5 h) }
 
 pub record Noting (s m : List ℕ) (a k : ℕ) (codes₀ codes : List ℕ) (b left : ℕ) : Type 0 where
   pub sum : b + left ≡ a + k
   pub size : length codes ≡ length codes₀
-  pub is : (cs : List ℕ) → MarksOf m cs → freedCodes s cs codes₀ (interval a k) ≡ freedCodes s cs codes (interval b left)
+  pub is : (cs : List ℕ) → MarksOf m cs → freed_codes s cs codes₀ (interval a k) ≡ freed_codes s cs codes (interval b left)
 
 pub noting-start : (s m : List ℕ) (a k : ℕ) (codes : List ℕ) → Noting s m a k codes codes a k
 noting-start s m a k codes = record { sum = refl; size = refl; is = λ cs M. refl }
 
 module _ {s m : List ℕ} {a k : ℕ} {codes₀ codes : List ℕ} {b left : ℕ} (w : Noting s m a k codes₀ codes b left) where
   pub noting-more : 0 < left → (codes' : List ℕ) → length codes' ≡ length codes → FreedNoted s m b 1 codes codes' → Noting s m a k codes₀ codes' (b + 1) (left - 1)
-  unfolding freedCodes
+  unfolding freed_codes
   noting-more h codes' l F =
       record {
         sum = omega (arith, w.sum);
         size = l ∙ w.size;
-        is = λ cs M. w.is cs M ∙ ap (freedCodes s cs codes) (interval-next b left h) ∙ ap (λ (x : List ℕ). freedCodes s cs x (interval (b + 1) (left - 1))) (sym (F.is cs M));
+        is = λ cs M. w.is cs M ∙ ap (freed_codes s cs codes) (interval-next b left h) ∙ ap (λ (x : List ℕ). freed_codes s cs x (interval (b + 1) (left - 1))) (sym (F.is cs M));
       }
 
   pub noting-end : left ≡ 0 → FreedNoted s m a k codes₀ codes
-  unfolding freedCodes
-  noting-end e = record { is = λ cs M. sym (w.is cs M ∙ ap (λ (j : ℕ). freedCodes s cs codes (interval b j)) e) }
+  unfolding freed_codes
+  noting-end e = record { is = λ cs M. sym (w.is cs M ∙ ap (λ (j : ℕ). freed_codes s cs codes (interval b j)) e) }
 
 -- ENTRIES THAT NEED NOT BE FREED
 module _ (s m : List ℕ) (b : ℕ) where
@@ -98,42 +98,42 @@ module _ {s m : List ℕ} {a k b left : ℕ} (w : Freed s m a k b left) where
   freed-all e = record { told = λ cs M. sym (w.told cs M ∙ rw e) }
 
 -- WHETHER THE TABLE WAS RIGHT
-ones-left : (k a : ℕ) (s : List ℕ) → allOnes (next s) a k ≡ true → in_turn one_at s (interval a k) ≡ s
-unfolding allOnes in_turn
+ones-left : (k a : ℕ) (s : List ℕ) → all_ones (next s) a k ≡ true → in_turn one_at s (interval a k) ≡ s
+unfolding all_ones in_turn
 ones-left zero a s e = refl
 ones-left (suc k) a s e =
     let w = and_split (eqb (next s a) 1) (every (λ b. eqb (next s b) 1) (interval (suc a) k)) e in
     ap (λ (u : List ℕ). in_turn one_at u (interval (suc a) k)) (one_left s a w.0) ∙ ones-left k (suc a) s w.1
 
-frees-left : (cs : List ℕ) (k a : ℕ) (s : List ℕ) → every (λ b. has eqb b cs || eqb (next s b) 0) (interval a k) ≡ true → in_turn (freeAt cs) s (interval a k) ≡ s
+frees-left : (cs : List ℕ) (k a : ℕ) (s : List ℕ) → every (λ b. has eqb b cs || eqb (next s b) 0) (interval a k) ≡ true → in_turn (free_at cs) s (interval a k) ≡ s
 unfolding in_turn
 frees-left cs zero a s e = refl
 frees-left cs (suc k) a s e =
     let w = and_split (has eqb a cs || eqb (next s a) 0) (every (λ b. has eqb b cs || eqb (next s b) 0) (interval (suc a) k)) e in
-    ap (λ (u : List ℕ). in_turn (freeAt cs) u (interval (suc a) k)) (free-left s cs a w.0) ∙ frees-left cs k (suc a) s w.1
+    ap (λ (u : List ℕ). in_turn (free_at cs) u (interval (suc a) k)) (free-left s cs a w.0) ∙ frees-left cs k (suc a) s w.1
 
 module _ (s : List ℕ) (n : ℕ) (H : Shape s n) where
-  count : blockCount s ≡ n
-  count = shape-blockCount s n H
+  count : block_count s ≡ n
+  count = shape-block_count s n H
 
-  pub ones-flag : (t : ℕ) → t ≡ tableBlocks n → (r : Bool) → r ≡ allOnes (next s) 0 (t + 1) → r ≡ same s (onesPut s)
-  unfolding onesPut allOnes
+  pub ones-flag : (t : ℕ) → t ≡ table_blocks n → (r : Bool) → r ≡ all_ones (next s) 0 (t + 1) → r ≡ same s (ones_put s)
+  unfolding ones_put all_ones
   ones-flag t et r e =
-      let q : allOnes (next s) 0 (t + 1) ≡ allOnes (next s) 0 (rootBlock (blockCount s)) = rw (et, count) in
+      let q : all_ones (next s) 0 (t + 1) ≡ all_ones (next s) 0 (root_block (block_count s)) = rw (et, count) in
       e ∙ q ∙ both_ways _ _
-      (λ z. subst (λ (u : List ℕ). same s u ≡ true) (sym (ones-left (rootBlock (blockCount s)) 0 s z)) (same_refl s))
-      (λ z. let O : Ones n H.low s (in_turn one_at s (interval 0 (rootBlock (blockCount s)))) 0 (rootBlock (blockCount s)) = ones-put n H.low (rootBlock (blockCount s)) 0 s H.whole (omega (arith, count)) in
-      interval-every (λ b. eqb (next s b) 1) 0 (rootBlock (blockCount s)) (λ x l h. eq-eqb (next s x) 1 (ap (λ (u : List ℕ). next u x) (same-eq s _ z) ∙ O.ones x l h)))
+      (λ z. subst (λ (u : List ℕ). same s u ≡ true) (sym (ones-left (root_block (block_count s)) 0 s z)) (same_refl s))
+      (λ z. let O : Ones n H.low s (in_turn one_at s (interval 0 (root_block (block_count s)))) 0 (root_block (block_count s)) = ones-put n H.low (root_block (block_count s)) 0 s H.whole (omega (arith, count)) in
+      interval-every (λ b. eqb (next s b) 1) 0 (root_block (block_count s)) (λ x l h. eq-eqb (next s x) 1 (ap (λ (u : List ℕ). next u x) (same-eq s _ z) ∙ O.ones x l h)))
 
-  pub padding-flag : (m : List ℕ) (t : ℕ) → t ≡ tableBlocks n → (r : Bool) → AllFree s m n (128 * t - n) r → (cs : List ℕ) → MarksOf m cs → r ≡ same s (paddingPut cs s)
-  unfolding paddingPut
+  pub padding-flag : (m : List ℕ) (t : ℕ) → t ≡ table_blocks n → (r : Bool) → AllFree s m n (128 * t - n) r → (cs : List ℕ) → MarksOf m cs → r ≡ same s (padding_put cs s)
+  unfolding padding_put
   padding-flag m t et r A cs M =
-      let k : ℕ = 128 * tableBlocks (blockCount s) - blockCount s in
-      let q : every (λ b. has eqb b cs || eqb (next s b) 0) (interval n (128 * t - n)) ≡ every (λ b. has eqb b cs || eqb (next s b) 0) (interval (blockCount s) k) = rw (et, count) in
+      let k : ℕ = 128 * table_blocks (block_count s) - block_count s in
+      let q : every (λ b. has eqb b cs || eqb (next s b) 0) (interval n (128 * t - n)) ≡ every (λ b. has eqb b cs || eqb (next s b) 0) (interval (block_count s) k) = rw (et, count) in
       A.told cs M ∙ q ∙ both_ways _ _
-      (λ z. subst (λ (u : List ℕ). same s u ≡ true) (sym (frees-left cs k (blockCount s) s z)) (same_refl s))
-      (λ z. let F : Frees n H.low cs s (in_turn (freeAt cs) s (interval (blockCount s) k)) (blockCount s) k = frees-put n H.low cs k (blockCount s) s H.whole (omega (arith, count, H.low)) (omega (arith, count, H.low)) in
-      interval-every (λ b. has eqb b cs || eqb (next s b) 0) (blockCount s) k
+      (λ z. subst (λ (u : List ℕ). same s u ≡ true) (sym (frees-left cs k (block_count s) s z)) (same_refl s))
+      (λ z. let F : Frees n H.low cs s (in_turn (free_at cs) s (interval (block_count s) k)) (block_count s) k = frees-put n H.low cs k (block_count s) s H.whole (omega (arith, count, H.low)) (omega (arith, count, H.low)) in
+      interval-every (λ b. has eqb b cs || eqb (next s b) 0) (block_count s) k
       (λ x l h. go x (has eqb x cs) refl (λ o. ap (λ (u : List ℕ). next u x) (same-eq s _ z) ∙ F.free x l h (λ i. true-not-false (in-has-eqb x cs i) o))))
     where
       go : (x : ℕ) (t : Bool) → has eqb x cs ≡ t → (has eqb x cs ≡ false → next s x ≡ 0) → has eqb x cs || eqb (next s x) 0 ≡ true
@@ -141,23 +141,23 @@ module _ (s : List ℕ) (n : ℕ) (H : Shape s n) where
       go x false e f = rw (e, eq-eqb (next s x) 0 (f e))
 
   -- and the header
-  head-left : stage2 s ≡ true → stage3 s ≡ true → stage7 s ≡ true → s ≡ headPut s
-  unfolding headPut stage3
+  head-left : stage2 s ≡ true → stage3 s ≡ true → stage7 s ≡ true → s ≡ head_put s
+  unfolding head_put stage3
   head-left a b c =
-      let w₁ = and_split (eqb (be32 s 12) (blockCount s)) _ b in
-      let w₂ = and_split (eqb (be32 s 16) (tableBlocks (blockCount s))) _ w₁.1 in
-      let q₁ : putNumber s 12 (blockCount s) ≡ s = sym (number-left s 12 (blockCount s) (eqb-true _ _ w₁.0)) in
-      let q₂ : putNumber s 16 (tableBlocks (blockCount s)) ≡ s = sym (number-left s 16 (tableBlocks (blockCount s)) (eqb-true _ _ w₂.0)) in
-      let q₃ : putNumber s 28 (rootBlock (blockCount s)) ≡ s = sym (number-left s 28 (rootBlock (blockCount s)) (eqb-true _ _ w₂.1)) in
+      let w₁ = and_split (eqb (be32 s 12) (block_count s)) _ b in
+      let w₂ = and_split (eqb (be32 s 16) (table_blocks (block_count s))) _ w₁.1 in
+      let q₁ : put_number s 12 (block_count s) ≡ s = sym (number-left s 12 (block_count s) (eqb-true _ _ w₁.0)) in
+      let q₂ : put_number s 16 (table_blocks (block_count s)) ≡ s = sym (number-left s 16 (table_blocks (block_count s)) (eqb-true _ _ w₂.0)) in
+      let q₃ : put_number s 28 (root_block (block_count s)) ≡ s = sym (number-left s 28 (root_block (block_count s)) (eqb-true _ _ w₂.1)) in
       rw (a, q₁, q₂, q₃, counts-left s c)
 
-  W : HeadIs n s (headPut s)
+  W : HeadIs n s (head_put s)
   W = head-is n H.low H.high s H.whole
 
-  pub head-bad : headStage s ≢ 0 → false ≡ same s (headPut s)
-  unfolding headStage
+  pub head-bad : head_stage s ≢ 0 → false ≡ same s (head_put s)
+  unfolding head_stage
   head-bad ne =
-      sym (is_false _ (λ z. let q : s ≡ headPut s = same-eq s (headPut s) z in
+      sym (is_false _ (λ z. let q : s ≡ head_put s = same-eq s (head_put s) z in
       let a : stage2 s ≡ true = subst (λ (u : List ℕ). stage2 u ≡ true) (sym q) W.signed in
       let b : stage3 s ≡ true = subst (λ (u : List ℕ). stage3 u ≡ true) (sym q) W.numbered in
       ne (rw (one, a, b))))
@@ -165,53 +165,53 @@ module _ (s : List ℕ) (n : ℕ) (H : Shape s n) where
       one : stage1 s ≡ true
       one = shape-stage1 s n H
 
-  pub head-counted : headStage s ≡ 0 → (r : Bool) → r ≡ stage7 s → r ≡ same s (headPut s)
-  unfolding headStage
+  pub head-counted : head_stage s ≡ 0 → (r : Bool) → r ≡ stage7 s → r ≡ same s (head_put s)
+  unfolding head_stage
   head-counted e r er =
       let a = require-zero (stage1 s) 0 _ e in
       let b = require-zero (stage2 s) 1 _ a.1 in
       let c = require-zero (stage3 s) 2 _ b.1 in
-      er ∙ both_ways _ _ (λ z. subst (λ (u : List ℕ). same s u ≡ true) (head-left b.0 c.0 z) (same_refl s)) (λ z. subst (λ (u : List ℕ). stage7 u ≡ true) (sym (same-eq s (headPut s) z)) W.counted)
+      er ∙ both_ways _ _ (λ z. subst (λ (u : List ℕ). same s u ≡ true) (head-left b.0 c.0 z) (same_refl s)) (λ z. subst (λ (u : List ℕ). stage7 u ≡ true) (sym (same-eq s (head_put s) z)) W.counted)
 
 -- THE HEADER WRITTEN
-pub header-steps : (s : List ℕ) (t n : ℕ) (s₁ s₂ s₃ s₄ s₅ : List ℕ) → blockCount s ≡ n → t ≡ tableBlocks n → s₁ ≡ signed s → s₂ ≡ putNumber s₁ 12 n → s₃ ≡ putNumber s₂ 16 t → s₄ ≡ putNumber s₃ 28 (t + 1) → s₅ ≡ countsPut s₄ → s₅ ≡ headPut s
-unfolding headPut signed
+pub header-steps : (s : List ℕ) (t n : ℕ) (s₁ s₂ s₃ s₄ s₅ : List ℕ) → block_count s ≡ n → t ≡ table_blocks n → s₁ ≡ signed s → s₂ ≡ put_number s₁ 12 n → s₃ ≡ put_number s₂ 16 t → s₄ ≡ put_number s₃ 28 (t + 1) → s₅ ≡ counts_put s₄ → s₅ ≡ head_put s
+unfolding head_put signed
 header-steps s t n s₁ s₂ s₃ s₄ s₅ c et e₁ e₂ e₃ e₄ e₅ = rw (e₅, e₄, e₃, e₂, e₁, c, et)
 
 -- ALL OF IT
-module _ (s m codes : List ℕ) (n t : ℕ) (H : Shape s n) (et : t ≡ tableBlocks n) where
-  pub blocks-put : (r : Bool) → r ≡ allOnes (next s) 0 (t + 1) → (s₁ s₂ codes' : List ℕ) → s₁ ≡ in_turn one_at s (interval 0 (t + 1)) → FreedNoted s₁ m (t + 1) (n - (t + 1)) codes codes' → EntriesFreed s₁ m (t + 1) (n - (t + 1)) s₂ → BlocksPut s m codes r s₂ codes'
-  unfolding onesPut blocksFreed
+module _ (s m codes : List ℕ) (n t : ℕ) (H : Shape s n) (et : t ≡ table_blocks n) where
+  pub blocks-put : (r : Bool) → r ≡ all_ones (next s) 0 (t + 1) → (s₁ s₂ codes' : List ℕ) → s₁ ≡ in_turn one_at s (interval 0 (t + 1)) → FreedNoted s₁ m (t + 1) (n - (t + 1)) codes codes' → EntriesFreed s₁ m (t + 1) (n - (t + 1)) s₂ → BlocksPut s m codes r s₂ codes'
+  unfolding ones_put blocks_freed
   blocks-put r er s₁ s₂ codes' e₁ F E =
-      let c = shape-blockCount s n H in
-      let q : s₁ ≡ in_turn one_at s (interval 0 (rootBlock (blockCount s))) = e₁ ∙ rw (et, c) in
+      let c = shape-block_count s n H in
+      let q : s₁ ≡ in_turn one_at s (interval 0 (root_block (block_count s))) = e₁ ∙ rw (et, c) in
       let l : length s₁ ≡ length s = ap length e₁ ∙ (ones-put n H.low (t + 1) 0 s H.whole (omega arith)).len in
-      let d : blockCount s₁ ≡ n = ap (λ (x : ℕ). x / 512) l ∙ c in
+      let d : block_count s₁ ≡ n = ap (λ (x : ℕ). x / 512) l ∙ c in
       record {
         right = ones-flag s n H t et r er;
-        image = λ cs M. E.freed cs M ∙ (let z : in_turn (freeAt cs) s₁ (interval (t + 1) (n - (t + 1))) ≡ in_turn (freeAt cs) s₁ (interval (rootBlock (blockCount s₁)) (blockCount s₁ - rootBlock (blockCount s₁))) = rw (d, et) in z) ∙ ap (blocksFreed cs) q;
-        codes-are = λ cs M. F.is cs M ∙ (let z : freedCodes s₁ cs codes (interval (t + 1) (n - (t + 1))) ≡ freedCodes s₁ cs codes (interval (rootBlock (blockCount s)) (blockCount s - rootBlock (blockCount s))) = rw (c, et) in z) ∙ ap (λ (u : List ℕ). freedCodes u cs codes (interval (rootBlock (blockCount s)) (blockCount s - rootBlock (blockCount s)))) q;
+        image = λ cs M. E.freed cs M ∙ (let z : in_turn (free_at cs) s₁ (interval (t + 1) (n - (t + 1))) ≡ in_turn (free_at cs) s₁ (interval (root_block (block_count s₁)) (block_count s₁ - root_block (block_count s₁))) = rw (d, et) in z) ∙ ap (blocks_freed cs) q;
+        codes-are = λ cs M. F.is cs M ∙ (let z : freed_codes s₁ cs codes (interval (t + 1) (n - (t + 1))) ≡ freed_codes s₁ cs codes (interval (root_block (block_count s)) (block_count s - root_block (block_count s))) = rw (c, et) in z) ∙ ap (λ (u : List ℕ). freed_codes u cs codes (interval (root_block (block_count s)) (block_count s - root_block (block_count s)))) q;
       }
 
   pub padding-put : (r : Bool) → AllFree s m n (128 * t - n) r → (s' : List ℕ) → EntriesFreed s m n (128 * t - n) s' → PaddingPut s m r s'
-  unfolding paddingPut
+  unfolding padding_put
   padding-put r A s' E =
-      let c = shape-blockCount s n H in
+      let c = shape-block_count s n H in
       record {
         right = λ cs M. padding-flag s n H m t et r A cs M;
-        image = λ cs M. E.freed cs M ∙ (let z : in_turn (freeAt cs) s (interval n (128 * t - n)) ≡ in_turn (freeAt cs) s (interval (blockCount s) (128 * tableBlocks (blockCount s) - blockCount s)) = rw (c, et) in z);
+        image = λ cs M. E.freed cs M ∙ (let z : in_turn (free_at cs) s (interval n (128 * t - n)) ≡ in_turn (free_at cs) s (interval (block_count s) (128 * table_blocks (block_count s) - block_count s)) = rw (c, et) in z);
       }
 
-pub rest_put : (s m codes s₁ c₁ s₂ s₃ c₃ : List ℕ) (x y z : Bool) → BlocksPut s m codes x s₁ c₁ → PaddingPut s₁ m y s₂ → z ≡ same s₂ (headPut s₂) → s₃ ≡ headPut s₂ → c₃ ≡ coded c₁ (512 * 0 + 128 * 0) (cond (x && (y && z)) 0 3) → RestPut s m codes s₃ c₃
+pub rest_put : (s m codes s₁ c₁ s₂ s₃ c₃ : List ℕ) (x y z : Bool) → BlocksPut s m codes x s₁ c₁ → PaddingPut s₁ m y s₂ → z ≡ same s₂ (head_put s₂) → s₃ ≡ head_put s₂ → c₃ ≡ coded c₁ (512 * 0 + 128 * 0) (cond (x && (y && z)) 0 3) → RestPut s m codes s₃ c₃
 unfolding rest
 rest_put s m codes s₁ c₁ s₂ s₃ c₃ x y z B P ez e₃ ec =
     record {
-      image = λ cs M. e₃ ∙ ap headPut (P.image cs M ∙ ap (paddingPut cs) (B.image cs M));
+      image = λ cs M. e₃ ∙ ap head_put (P.image cs M ∙ ap (padding_put cs) (B.image cs M));
       codes-are = λ cs M.
-          let b : s₁ ≡ blocksFreed cs (onesPut s) = B.image cs M in
-          let p : s₂ ≡ paddingPut cs (blocksFreed cs (onesPut s)) = P.image cs M ∙ ap (paddingPut cs) b in
-          let fy : y ≡ same (blocksFreed cs (onesPut s)) (paddingPut cs (blocksFreed cs (onesPut s))) = P.right cs M ∙ rw b in
-          let fz : z ≡ same (paddingPut cs (blocksFreed cs (onesPut s))) (headPut (paddingPut cs (blocksFreed cs (onesPut s)))) = ez ∙ rw p in
+          let b : s₁ ≡ blocks_freed cs (ones_put s) = B.image cs M in
+          let p : s₂ ≡ padding_put cs (blocks_freed cs (ones_put s)) = P.image cs M ∙ ap (padding_put cs) b in
+          let fy : y ≡ same (blocks_freed cs (ones_put s)) (padding_put cs (blocks_freed cs (ones_put s))) = P.right cs M ∙ rw b in
+          let fz : z ≡ same (padding_put cs (blocks_freed cs (ones_put s))) (head_put (padding_put cs (blocks_freed cs (ones_put s)))) = ez ∙ rw p in
           ec ∙ rw (B.codes-are cs M, B.right, fy, fz);
     }
 

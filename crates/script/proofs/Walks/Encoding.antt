@@ -10,16 +10,16 @@ use lib.ListN.{length, replicate, length-append, length-replicate}
 use Rattle.layout.specs.Bytes.{be64, bytes4, zeros, part, splice}
 use Rattle.layout.specs.declared.reading.Filled.{Filled}
 use Rattle.layout.specs.declared.reading.Filled.TheVariants.{Bytes, Refused}
-use Rattle.layout.specs.Looks.{ReadAnswer, Extent, VolumeAnswer, EntryAnswer, read, extentOf, lookInPlace, readAttributes, volumeInfo, nextEntry}
-use Rattle.store.specs.Get.{GetAnswer, gotAnswer, getIn}
-use Rattle.journal.specs.Run.{Call, Answer, State, change, undo, look, checkImage, findFile, readFile, lookAt, readAttributesOf, showVolume, showEntry, getSettingsIn, filled, shown, got, described, entered, lookAnswer, answer, changeAnswer, changeRefusal, undoAnswer, undoRefusal}
-use Rattle.script.specs.Script.{ItemKind, list, journalInfo, undoTo, itemKindOf, itemKinds, encodedReply, opAt, name_at, dataAt, numbers, volumeHead, entryHead, encoded, encodedItem, answerSize, itemRoom}
+use Rattle.layout.specs.Looks.{ReadAnswer, Extent, VolumeAnswer, EntryAnswer, read, extent_of, look_in_place, read_attributes, volume_info, next_entry}
+use Rattle.store.specs.Get.{GetAnswer, got_answer, get_in}
+use Rattle.journal.specs.Run.{Call, Answer, State, change, undo, look, check_image, find_file, read_file, look_at, read_attributes_of, show_volume, show_entry, get_settings_in, filled, shown, got, described, entered, look_answer, answer, change_answer, change_refusal, undo_answer, undo_refusal}
+use Rattle.script.specs.Script.{ItemKind, list, journal_info, undo_to, item_kind_of, item_kinds, encoded_reply, op_at, name_at, data_at, numbers, volume_head, entry_head, encoded, encoded_item, answer_size, item_room}
 use Rattle.journal.specs.Kinds.{KindCall, call, further, answer_of}
-use Rattle.script.specs.Walks.Scripts.{filledAt}
-use Rattle.layout.specs.Answers.{readAnswer, volumeAnswer, entryAnswer}
+use Rattle.script.specs.Walks.Scripts.{filled_at}
+use Rattle.layout.specs.Answers.{read_answer, volume_answer, entry_answer}
 use Rattle.layout.specs.declared.overview.VolumeInfo.{VolumeInfo}
 use Rattle.layout.specs.declared.overview.EntryInfo.{EntryInfo}
-use Rattle.layout.proofs.Laws.Bytes.{length-zeros, lent, putMid-splice, splice-append, splice-whole, splice-two, splice-three, splice-back}
+use Rattle.layout.proofs.Laws.Bytes.{length-zeros, lent, put_mid-splice, splice-append, splice-whole, splice-two, splice-three, splice-back}
 use Rattle.layout.proofs.Laws.Tests.{accept-either}
 use Rattle.store.proofs.Laws.Gets.{get-length}
 use Rattle.layout.proofs.Laws.Looks.{read_count, read_length, attributes-count, attributes-length, extent-small, length-look, look-short, volume-length, entry_length}
@@ -42,52 +42,52 @@ pub numbers-alone : (s : List ℕ) (a b c d : ℕ) → length s ≡ 16 → splic
 numbers-alone s a b c d h = splice-whole s (numbers a b c d) (length-numbers a b c d ∙ sym h)
 
 -- the numbers of the volume and of an entry
-pub length-volumeHead : (a : VolumeAnswer) → length (volumeHead a) ≡ 32
-unfolding volumeHead numbers bytes4
-length-volumeHead a = refl
+pub length-volume_head : (a : VolumeAnswer) → length (volume_head a) ≡ 32
+unfolding volume_head numbers bytes4
+length-volume_head a = refl
 
-pub length-entryHead : (a : EntryAnswer) → length (entryHead a) ≡ 64
-unfolding entryHead numbers bytes4
-length-entryHead a = refl
+pub length-entry_head : (a : EntryAnswer) → length (entry_head a) ≡ 64
+unfolding entry_head numbers bytes4
+length-entry_head a = refl
 
 -- an answer's length is that of its call, whatever the state
-pub answer-length : (p : State) (c : Call) → length (encoded (answer p c)) ≡ answerSize c
-unfolding answer answerSize encoded changeAnswer undoAnswer lookAnswer
-answer-length p (change c) = accept-either (λ (a : Answer). length (encoded a) ≡ 16) (changeRefusal p c) _ _ (length-numbers _ _ _ _) (length-numbers _ _ _ _)
-answer-length p undo = accept-either (λ (a : Answer). length (encoded a) ≡ 16) (undoRefusal p) _ _ (length-numbers _ _ _ _) (length-numbers _ _ _ _)
-answer-length p (look checkImage) = length-numbers _ _ _ _
-answer-length p (look (findFile name)) = length-numbers _ _ _ _
-answer-length p (look (readFile name offset buffer)) =
+pub answer-length : (p : State) (c : Call) → length (encoded (answer p c)) ≡ answer_size c
+unfolding answer answer_size encoded change_answer undo_answer look_answer
+answer-length p (change c) = accept-either (λ (a : Answer). length (encoded a) ≡ 16) (change_refusal p c) _ _ (length-numbers _ _ _ _) (length-numbers _ _ _ _)
+answer-length p undo = accept-either (λ (a : Answer). length (encoded a) ≡ 16) (undo_refusal p) _ _ (length-numbers _ _ _ _) (length-numbers _ _ _ _)
+answer-length p (look check_image) = length-numbers _ _ _ _
+answer-length p (look (find_file name)) = length-numbers _ _ _ _
+answer-length p (look (read_file name offset buffer)) =
     let r : ReadAnswer = read p.image name offset buffer in
     length-append (numbers r.number r.count 0 0) r.buffer ∙ rw (length-numbers, read_length p.image name offset buffer)
-answer-length p (look (readAttributesOf name buffer)) =
-    let r : ReadAnswer = readAttributes p.image name buffer in
+answer-length p (look (read_attributes_of name buffer)) =
+    let r : ReadAnswer = read_attributes p.image name buffer in
     length-append (numbers r.number r.count 0 0) r.buffer ∙ rw (length-numbers, attributes-length p.image name buffer)
-answer-length p (look (getSettingsIn directory serial which buffer)) =
-    let g : GetAnswer = getIn p.image directory serial which buffer in
+answer-length p (look (get_settings_in directory serial which buffer)) =
+    let g : GetAnswer = get_in p.image directory serial which buffer in
     length-append (numbers g.number g.revision g.size 0) g.buffer ∙ rw (length-numbers, get-length p.image directory serial which buffer)
-answer-length p (look (lookAt name i)) =
-    let b : List ℕ = lookInPlace p.image name i in
+answer-length p (look (look_at name i)) =
+    let b : List ℕ = look_in_place p.image name i in
     let h : length b ≤ 512 = look-short p.image name i in
-    let x : Extent = extentOf p.image name i in
+    let x : Extent = extent_of p.image name i in
     length-append (numbers x.start x.size 0 0) (b ++ zeros (512 - length b)) ∙ rw (length-numbers, length-append, length-zeros) (omega arith)
-answer-length p (look (showVolume buffer)) =
-    let a : VolumeAnswer = volumeInfo p.image buffer in
-    length-append (volumeHead a) a.buffer ∙ rw (length-volumeHead, volume-length p.image buffer)
-answer-length p (look (showEntry name start buffer)) =
-    let a : EntryAnswer = nextEntry p.image name start buffer in
-    length-append (entryHead a) a.buffer ∙ rw (length-entryHead, entry_length p.image buffer name start)
+answer-length p (look (show_volume buffer)) =
+    let a : VolumeAnswer = volume_info p.image buffer in
+    length-append (volume_head a) a.buffer ∙ rw (length-volume_head, volume-length p.image buffer)
+answer-length p (look (show_entry name start buffer)) =
+    let a : EntryAnswer = next_entry p.image name start buffer in
+    length-append (entry_head a) a.buffer ∙ rw (length-entry_head, entry_length p.image buffer name start)
 
-reply-length : (i : ItemKind) (r : (itemKindOf i).Reply) → length (encodedReply i r) ≡ 16
-unfolding encodedReply
+reply-length : (i : ItemKind) (r : (item_kind_of i).Reply) → length (encoded_reply i r) ≡ 16
+unfolding encoded_reply
 reply-length list r = length-numbers _ _ _ _
-reply-length journalInfo r = length-numbers _ _ _ _
-reply-length undoTo r = length-numbers _ _ _ _
+reply-length journal_info r = length-numbers _ _ _ _
+reply-length undo_to r = length-numbers _ _ _ _
 
-pub item-length : (p : State) (c : KindCall itemKinds) → length (encodedItem (answer_of p c)) ≡ itemRoom c
-unfolding encodedItem answer_of itemRoom
+pub item-length : (p : State) (c : KindCall item_kinds) → length (encoded_item (answer_of p c)) ≡ item_room c
+unfolding encoded_item answer_of item_room
 item-length p (call c) = answer-length p c
-item-length p (further c) = reply-length c.0 ((itemKindOf c.0).reply p c.1)
+item-length p (further c) = reply-length c.0 ((item_kind_of c.0).reply p c.1)
 
 -- the answers of read and look in place, as the code writes them
 pub read-encoded : (s buffer : List ℕ) (a : ReadAnswer) → length s ≡ 16 + length buffer → a.buffer ≡ buffer
@@ -106,41 +106,41 @@ shown-encoded s bytes start h k =
 
 -- number and count of a read do not depend on the buffer
 module _ (f : Filled) (b : List ℕ) where
-  pub number-alone : (readAnswer f []).number ≡ (readAnswer f b).number
+  pub number-alone : (read_answer f []).number ≡ (read_answer f b).number
   number-alone = elim f [ Bytes count ↦ refl | Refused number ↦ refl ]
 
-  pub count-alone : (readAnswer f []).count ≡ (readAnswer f b).count
+  pub count-alone : (read_answer f []).count ≡ (read_answer f b).count
   count-alone = elim f [ Bytes count ↦ refl | Refused number ↦ refl ]
 
-  pub buffer-alone : (readAnswer f b).buffer ≡ b
+  pub buffer-alone : (read_answer f b).buffer ≡ b
   buffer-alone = elim f [ Bytes count ↦ refl | Refused number ↦ refl ]
 
 -- what read_into left in the part, and the numbers before it
-pub read-answered : (s b : List ℕ) (a : ReadAnswer) (f : Filled) → readAnswer f b ≡ a → length s ≡ 16 + length a.buffer
-    → splice (splice s 16 b) 0 (numbers (readAnswer f []).number (readAnswer f []).count 0 0) ≡ encoded (filled a)
+pub read-answered : (s b : List ℕ) (a : ReadAnswer) (f : Filled) → read_answer f b ≡ a → length s ≡ 16 + length a.buffer
+    → splice (splice s 16 b) 0 (numbers (read_answer f []).number (read_answer f []).count 0 0) ≡ encoded (filled a)
 read-answered s b a f e h =
     let l : length b ≡ length a.buffer = ap length (sym (buffer-alone f b)) ∙ ap (λ (x : ReadAnswer). length x.buffer) e in
-    rw (number-alone f b, count-alone f b) (read-encoded s b (readAnswer f b) (omega arith) (buffer-alone f b)) ∙ ap (λ (x : ReadAnswer). encoded (filled x)) e
+    rw (number-alone f b, count-alone f b) (read-encoded s b (read_answer f b) (omega arith) (buffer-alone f b)) ∙ ap (λ (x : ReadAnswer). encoded (filled x)) e
 
 -- an item's buffer keeps its length, and no more is filled
 module _ (image s : List ℕ) (at : ℕ) where
-  pub filled-length : length (filledAt image s at).buffer ≡ length (dataAt s at)
-  unfolding filledAt
-  filled-length = go (eqb (opAt s at) 13)
+  pub filled-length : length (filled_at image s at).buffer ≡ length (data_at s at)
+  unfolding filled_at
+  filled-length = go (eqb (op_at s at) 13)
     where
-      go : (t : Bool) → length (cond t (readAttributes image (name_at s at) (dataAt s at)) (read image (name_at s at) (be64 s (at + 9)) (dataAt s at))).buffer ≡ length (dataAt s at)
-      go true = attributes-length image (name_at s at) (dataAt s at)
-      go false = read_length image (name_at s at) (be64 s (at + 9)) (dataAt s at)
+      go : (t : Bool) → length (cond t (read_attributes image (name_at s at) (data_at s at)) (read image (name_at s at) (be64 s (at + 9)) (data_at s at))).buffer ≡ length (data_at s at)
+      go true = attributes-length image (name_at s at) (data_at s at)
+      go false = read_length image (name_at s at) (be64 s (at + 9)) (data_at s at)
 
-  filled-count : (filledAt image s at).count ≤ length (dataAt s at)
-  unfolding filledAt
-  filled-count = go (eqb (opAt s at) 13)
+  filled-count : (filled_at image s at).count ≤ length (data_at s at)
+  unfolding filled_at
+  filled-count = go (eqb (op_at s at) 13)
     where
-      go : (t : Bool) → (cond t (readAttributes image (name_at s at) (dataAt s at)) (read image (name_at s at) (be64 s (at + 9)) (dataAt s at))).count ≤ length (dataAt s at)
-      go true = attributes-count image (name_at s at) (dataAt s at)
-      go false = read_count image (name_at s at) (be64 s (at + 9)) (dataAt s at)
+      go : (t : Bool) → (cond t (read_attributes image (name_at s at) (data_at s at)) (read image (name_at s at) (be64 s (at + 9)) (data_at s at))).count ≤ length (data_at s at)
+      go true = attributes-count image (name_at s at) (data_at s at)
+      go false = read_count image (name_at s at) (be64 s (at + 9)) (data_at s at)
 
-  pub read_small : (b : List ℕ) (f : Filled) → readAnswer f b ≡ filledAt image s at → (readAnswer f []).count ≤ length (dataAt s at)
+  pub read_small : (b : List ℕ) (f : Filled) → read_answer f b ≡ filled_at image s at → (read_answer f []).count ≤ length (data_at s at)
   read_small b f e = omega (arith, count-alone f b, ap (λ (a : ReadAnswer). a.count) e, filled-count)
 
 zeros-are : (k : ℕ) → replicate k 0 ≡ zeros k
@@ -156,24 +156,24 @@ pub shown-written : (s t bytes x y : List ℕ) (start : ℕ) → length s ≡ 52
 shown-written s t bytes x y start h g d e f l =
     let z : y ≡ zeros (length y) = whole y (length (part (put_mid 16 (16 + length bytes - 16) t x) (16 + length bytes) (528 - (16 + length bytes)))) f in
     let m : length y ≡ 512 - length bytes = omega arith in
-    putMid-splice (put_mid 16 (16 + length bytes - 16) t x) (16 + length bytes) (528 - (16 + length bytes)) y l
-    ∙ ap (λ (r : List ℕ). splice r (16 + length bytes) y) (putMid-splice t 16 (16 + length bytes - 16) x (ap length e ∙ omega arith))
+    put_mid-splice (put_mid 16 (16 + length bytes - 16) t x) (16 + length bytes) (528 - (16 + length bytes)) y l
+    ∙ ap (λ (r : List ℕ). splice r (16 + length bytes) y) (put_mid-splice t 16 (16 + length bytes - 16) x (ap length e ∙ omega arith))
     ∙ rw (z, m, d, e) (shown-encoded s bytes start h g)
   where
     whole : (y : List ℕ) (k : ℕ) → y ≡ replicate k 0 → y ≡ zeros (length y)
     whole y k f = f ∙ zeros-are k ∙ ap zeros (sym (ap length f ∙ length-replicate {A = ℕ} k 0))
 
-pub read-written : (s b t : List ℕ) (a : ReadAnswer) (size : ℕ) (f : Filled) (n₁ n₂ n₃ n₄ : ℕ) → readAnswer f b ≡ a
+pub read-written : (s b t : List ℕ) (a : ReadAnswer) (size : ℕ) (f : Filled) (n₁ n₂ n₃ n₄ : ℕ) → read_answer f b ≡ a
     → length a.buffer ≡ size → length s ≡ 16 + size → length b ≡ 16 + size - 16
-    → (n₁ ≡ (readAnswer f []).number) × (n₂ ≡ (readAnswer f []).count) × (n₃ ≡ 0) × (n₄ ≡ 0)
+    → (n₁ ≡ (read_answer f []).number) × (n₂ ≡ (read_answer f []).count) × (n₃ ≡ 0) × (n₄ ≡ 0)
     → t ≡ splice (put_mid 16 (16 + size - 16) s b) 0 (numbers n₁ n₂ n₃ n₄) → t ≡ encoded (filled a)
 read-written s b t a size f n₁ n₂ n₃ n₄ e l h k n d =
-    d ∙ rw (n.0, n.1, n.2, n.3) (rw (putMid-splice s 16 (16 + size - 16) b k) (read-answered s b a f e (h ∙ omega arith)))
+    d ∙ rw (n.0, n.1, n.2, n.3) (rw (put_mid-splice s 16 (16 + size - 16) b k) (read-answered s b a f e (h ∙ omega arith)))
 
 -- look in place by its numbers: the part that begins there
-module _ (s name : List ℕ) (i start size : ℕ) (starts : start ≡ (extentOf s name i).start) (sizes : size ≡ (extentOf s name i).size) where
-  shown-part : part s start (start + size - start) ≡ lookInPlace s name i
-  unfolding lookInPlace
+module _ (s name : List ℕ) (i start size : ℕ) (starts : start ≡ (extent_of s name i).start) (sizes : size ≡ (extent_of s name i).size) where
+  shown-part : part s start (start + size - start) ≡ look_in_place s name i
+  unfolding look_in_place
   shown-part = let e : start + size - start ≡ size = omega arith in rw (e, starts, sizes)
 
   pub shown-short : length (part s start (start + size - start)) ≤ 512
@@ -183,8 +183,8 @@ module _ (s name : List ℕ) (i start size : ℕ) (starts : start ≡ (extentOf 
   shown-small = omega (arith, starts, extent-small s name i)
 
   pub shown-answer : shown (record { start = start; size = length (part s start (start + size - start)) }) (part s start (start + size - start))
-      ≡ lookAnswer s (lookAt name i)
-  unfolding lookAnswer
+      ≡ look_answer s (look_at name i)
+  unfolding look_answer
   shown-answer = rw (shown-part, length-look s name i, starts)
 
 -- numbers in groups of four, one after the other
@@ -204,23 +204,23 @@ four-groups s a b c d h ea eb ec ed =
 -- the numbers before the buffer that a look has left
 headed : (s b ys h : List ℕ) (k m : ℕ) → length s ≡ m + length b → length b ≡ k → length h ≡ m → ys ≡ h → put_mid 0 m (put_mid m k s b) ys ≡ h ++ b
 headed s b ys h k m l lb lh e =
-    lent (put_mid m k s b) 0 m ys h e lh ∙ ap (λ (x : List ℕ). splice x 0 h) (putMid-splice s m k b lb) ∙ splice-back s h b m l lh
+    lent (put_mid m k s b) 0 m ys h e lh ∙ ap (λ (x : List ℕ). splice x 0 h) (put_mid-splice s m k b lb) ∙ splice-back s h b m l lh
 
-pub described-written : (s b ys : List ℕ) (k : ℕ) (v : VolumeInfo) (a : VolumeAnswer) → volumeAnswer v b ≡ a → length s ≡ 32 + length b → length b ≡ k
-    → ys ≡ volumeHead (volumeAnswer v []) → put_mid 0 32 (put_mid 32 k s b) ys ≡ encoded (described a)
-unfolding encoded volumeHead
+pub described-written : (s b ys : List ℕ) (k : ℕ) (v : VolumeInfo) (a : VolumeAnswer) → volume_answer v b ≡ a → length s ≡ 32 + length b → length b ≡ k
+    → ys ≡ volume_head (volume_answer v []) → put_mid 0 32 (put_mid 32 k s b) ys ≡ encoded (described a)
+unfolding encoded volume_head
 described-written s b ys k v a e l lb w =
-    headed s b ys (volumeHead (volumeAnswer v [])) k 32 l lb (length-volumeHead (volumeAnswer v [])) w ∙ ap (λ (x : VolumeAnswer). encoded (described x)) e
+    headed s b ys (volume_head (volume_answer v [])) k 32 l lb (length-volume_head (volume_answer v [])) w ∙ ap (λ (x : VolumeAnswer). encoded (described x)) e
 
-pub entered-written : (s b ys : List ℕ) (k : ℕ) (v : EntryInfo) (a : EntryAnswer) → entryAnswer v b ≡ a → length s ≡ 64 + length b → length b ≡ k
-    → ys ≡ entryHead (entryAnswer v []) → put_mid 0 64 (put_mid 64 k s b) ys ≡ encoded (entered a)
-unfolding encoded entryHead
+pub entered-written : (s b ys : List ℕ) (k : ℕ) (v : EntryInfo) (a : EntryAnswer) → entry_answer v b ≡ a → length s ≡ 64 + length b → length b ≡ k
+    → ys ≡ entry_head (entry_answer v []) → put_mid 0 64 (put_mid 64 k s b) ys ≡ encoded (entered a)
+unfolding encoded entry_head
 entered-written s b ys k v a e l lb w =
-    headed s b ys (entryHead (entryAnswer v [])) k 64 l lb (length-entryHead (entryAnswer v [])) w ∙ ap (λ (x : EntryAnswer). encoded (entered x)) e
+    headed s b ys (entry_head (entry_answer v [])) k 64 l lb (length-entry_head (entry_answer v [])) w ∙ ap (λ (x : EntryAnswer). encoded (entered x)) e
 
-pub got-written : (s b : List ℕ) (k number revision size : ℕ) (a : Answer) → got (gotAnswer number revision size b) ≡ a → length s ≡ 16 + length b → length b ≡ k
+pub got-written : (s b : List ℕ) (k number revision size : ℕ) (a : Answer) → got (got_answer number revision size b) ≡ a → length s ≡ 16 + length b → length b ≡ k
     → splice (put_mid 16 k s b) 0 (numbers number revision size 0) ≡ encoded a
 unfolding encoded
 got-written s b k number revision size a e l lb =
-    ap (λ (x : List ℕ). splice x 0 (numbers number revision size 0)) (putMid-splice s 16 k b lb)
+    ap (λ (x : List ℕ). splice x 0 (numbers number revision size 0)) (put_mid-splice s 16 k b lb)
     ∙ splice-back s (numbers number revision size 0) b 16 l (length-numbers number revision size 0) ∙ ap encoded e

@@ -11,7 +11,7 @@ use lib.ListN.{length, get_or, drop, length-append, length-drop}
 use lib.Dec.{eqb, leb}
 use Rattle.layout.specs.Lists.{within, every}
 use Rattle.layout.specs.Bytes.{be32, part}
-use Rattle.store.specs.Settings.{maxSetting, maxRevisions, maxNumber, Revision, Found, broken, held, before, recordsIn, follow, numbersOk, numbered, revisions, latestAfter, latest, added}
+use Rattle.store.specs.Settings.{max_setting, max_revisions, max_number, Revision, Found, broken, held, before, records_in, follow, numbers_ok, numbered, revisions, latest_after, latest, added}
 use Rattle.store.specs.Get.{stands, data_of}
 use Rattle.store.specs.Claims.{Fits, Small}
 use Rattle.store.proofs.Laws.Form.{Short, short-each, fits-of, small_of}
@@ -48,19 +48,19 @@ pub held-before : (r : Revision) (x : Found) (rs : List Revision) → before r x
 held-before r broken rs q = absurd (not-broken rs q)
 held-before r (held more) rs q = (more, refl, sym (held_same (r ∷ more) rs q))
 
-pub held-numbered : (x : Found) (rs : List Revision) → numbered x ≡ held rs → (x ≡ held rs) × (numbersOk rs ≡ true)
+pub held-numbered : (x : Found) (rs : List Revision) → numbered x ≡ held rs → (x ≡ held rs) × (numbers_ok rs ≡ true)
 held-numbered broken rs q = absurd (not-broken rs q)
 held-numbered (held qs) rs q =
-    let w = held-cond (numbersOk qs) (held qs) rs q in
-    (w.1, subst (λ (y : List Revision). numbersOk y ≡ true) (held_same qs rs w.1) w.0)
+    let w = held-cond (numbers_ok qs) (held qs) rs q in
+    (w.1, subst (λ (y : List Revision). numbers_ok y ≡ true) (held_same qs rs w.1) w.0)
 
-pub read_some : (fuel : ℕ) (xs : List ℕ) (rs : List Revision) → recordsIn fuel xs ≡ held rs → (length rs ≤ fuel) × Short rs
-unfolding recordsIn
+pub read_some : (fuel : ℕ) (xs : List ℕ) (rs : List Revision) → records_in fuel xs ≡ held rs → (length rs ≤ fuel) × Short rs
+unfolding records_in
 read_some zero xs rs q = ⊎_elim (λ z. rw z.0 (omega arith, λ r i. absurd i)) (λ z. absurd (not-broken rs z)) (held_none (eqb (length xs) 0) broken rs q)
 read_some (suc fuel) xs rs q = ⊎_elim (λ z. rw z.0 (omega arith, λ r i. absurd i)) (λ z.
-    let w = held-cond (leb (get_or xs 0 0) maxSetting && leb (5 + get_or xs 0 0) (length xs)) _ rs z in
-    let s = leb-true (get_or xs 0 0) maxSetting (and_split (leb (get_or xs 0 0) maxSetting) _ w.0).0 in
-    let b = held-before (record { number = be32 xs 1; bytes = part xs 5 (get_or xs 0 0) }) (recordsIn fuel (drop (5 + get_or xs 0 0) xs)) rs w.1 in
+    let w = held-cond (leb (get_or xs 0 0) max_setting && leb (5 + get_or xs 0 0) (length xs)) _ rs z in
+    let s = leb-true (get_or xs 0 0) max_setting (and_split (leb (get_or xs 0 0) max_setting) _ w.0).0 in
+    let b = held-before (record { number = be32 xs 1; bytes = part xs 5 (get_or xs 0 0) }) (records_in fuel (drop (5 + get_or xs 0 0) xs)) rs w.1 in
     let ih = read_some fuel (drop (5 + get_or xs 0 0) xs) b.0 b.1 in
     let l = length-take-most (get_or xs 0 0) (drop 5 xs) in
     rw b.2 (let h = ih.0 in omega arith, λ r i. ⊎_elim (λ e. rw e (omega arith)) (λ j. ih.1 r j) i)) (held_none (eqb (length xs) 0) _ rs q)
@@ -69,8 +69,8 @@ pub read_fits : (c : List ℕ) (rs : List Revision) → revisions c ≡ held rs 
 unfolding revisions
 read_fits c rs q =
     let a = held-cond (eqb (get_or c 0 0) 1 && (within 5 (length c) (be32 c 1) && every (λ x. eqb x 0) (drop (be32 c 1) c))) _ rs q in
-    let b = held-numbered (recordsIn maxRevisions (part c 5 (be32 c 1 - 5))) rs a.1 in
-    let d = read_some maxRevisions (part c 5 (be32 c 1 - 5)) rs b.0 in
+    let b = held-numbered (records_in max_revisions (part c 5 (be32 c 1 - 5))) rs a.1 in
+    let d = read_some max_revisions (part c 5 (be32 c 1 - 5)) rs b.0 in
     fits-of rs d.0 d.1 b.1
 
 -- NUMBERS that follow one another from the one after `last` on
@@ -120,7 +120,7 @@ module _ (x : ℕ) where
       let n = eqb-true y.number (suc last) a.0 in
       rw (ne_eqb y.number x (λ z. omega arith)) (data-last rs y.number r a.1 (omega arith) q)
 
-latest-is : (rs : List Revision) (last : ℕ) → follow last rs ≡ true → latestAfter last rs ≡ last + length rs
+latest-is : (rs : List Revision) (last : ℕ) → follow last rs ≡ true → latest_after last rs ≡ last + length rs
 latest-is [] last f = omega arith
 latest-is (r ∷ rs) last f =
     let a = and_split (eqb r.number (suc last)) _ f in
@@ -152,13 +152,13 @@ snoc-follow (x ∷ rs) last r f q =
     let n = eqb-true x.number (suc last) a.0 in
     and-join a.0 (snoc-follow rs x.number r a.1 (omega arith))
 
-pub latest-snoc : (rs : List Revision) (last : ℕ) (r : Revision) → latestAfter last (rs ++ (r ∷ [])) ≡ r.number
+pub latest-snoc : (rs : List Revision) (last : ℕ) (r : Revision) → latest_after last (rs ++ (r ∷ [])) ≡ r.number
 latest-snoc [] last r = refl
 latest-snoc (x ∷ rs) last r = latest-snoc rs x.number r
 
-numbers_of : (rs : List Revision) (last : ℕ) → follow last rs ≡ true → 1 ≤ length rs → numbersOk rs ≡ true
-numbers_of [] last f h = absurd (omega arith)
-numbers_of (r ∷ rs) last f h =
+numbers-of : (rs : List Revision) (last : ℕ) → follow last rs ≡ true → 1 ≤ length rs → numbers_ok rs ≡ true
+numbers-of [] last f h = absurd (omega arith)
+numbers-of (r ∷ rs) last f h =
     let a = and_split (eqb r.number (suc last)) _ f in
     let n = eqb-true r.number (suc last) a.0 in
     and-join (le-leb 1 r.number (omega arith)) a.1
@@ -217,15 +217,15 @@ module _ (rs : List Revision) (bytes : List ℕ) (S : Stored rs) where
 
   pub added-latest : latest (added rs bytes) ≡ suc (latest rs)
   unfolding latest
-  added-latest = ap (latestAfter 0) added_is ∙ latest-snoc left 0 new
+  added-latest = ap (latest_after 0) added_is ∙ latest-snoc left 0 new
 
   pub added-fits : length bytes ≤ 200 → Fits (added rs bytes)
   added-fits short =
       fits-of (added rs bytes) (omega (arith, added-length, S.few))
       (rw added_is (λ r i. ⊎_elim (λ j. S.short r (in_rest (length rs - 15) rs r j)) (λ j. ⊎_elim (λ e. rw e short) (λ x. absurd x) j) (in-append r left (new ∷ []) i)))
-      (numbers_of (added rs bytes) (S.last + (length rs - 15)) added-follows (omega (arith, added-length)))
+      (numbers-of (added rs bytes) (S.last + (length rs - 15)) added-follows (omega (arith, added-length)))
 
-  pub added-small : latest rs < maxNumber → Small (added rs bytes)
+  pub added-small : latest rs < max_number → Small (added rs bytes)
   added-small room =
       small_of (added rs bytes) (λ r i. let h = all-low (added rs bytes) (S.last + (length rs - 15)) added-follows r i in omega (arith, added-length, S.latest-last))
 

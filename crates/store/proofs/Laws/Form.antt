@@ -11,7 +11,7 @@ use lib.Dec.{eqb, leb}
 use lib.Seq.{take_at, drop_at, drop-drop}
 use Rattle.layout.specs.Lists.{every, joined}
 use Rattle.layout.specs.Bytes.{be32, bytes4, zeros, part}
-use Rattle.store.specs.Settings.{maxSetting, maxRevisions, maxNumber, Revision, recordBytes, wholeFile, encoded, held, recordsIn, numbersOk, revisions}
+use Rattle.store.specs.Settings.{max_setting, max_revisions, max_number, Revision, record_bytes, whole_file, encoded, held, records_in, numbers_ok, revisions}
 use Rattle.store.specs.Claims.{Fits, Small}
 use Rattle.layout.proofs.Laws.Bytes.{length-zeros, be32-at}
 use Rattle.layout.proofs.Laws.Tests.{within-join}
@@ -25,57 +25,57 @@ abbrev pub Low : List Revision → Type 0
 Low rs = (r : Revision) → In r rs → r.number < 0x100000000
 
 pub short-each : (rs : List Revision) → Fits rs → Short rs
-short-each rs F r i = leb-true (length r.bytes) maxSetting (every_in (λ q. leb (length q.bytes) maxSetting) rs r F.short i)
+short-each rs F r i = leb-true (length r.bytes) max_setting (every_in (λ q. leb (length q.bytes) max_setting) rs r F.short i)
 
-pub fits-of : (rs : List Revision) → length rs ≤ 16 → Short rs → numbersOk rs ≡ true → Fits rs
-fits-of rs few short numbers = record { few = few; short = in-every (λ q. leb (length q.bytes) maxSetting) rs (λ r i. le-leb (length r.bytes) maxSetting (short r i)); numbers = numbers }
+pub fits-of : (rs : List Revision) → length rs ≤ 16 → Short rs → numbers_ok rs ≡ true → Fits rs
+fits-of rs few short numbers = record { few = few; short = in-every (λ q. leb (length q.bytes) max_setting) rs (λ r i. le-leb (length r.bytes) max_setting (short r i)); numbers = numbers }
 
 low-each : (rs : List Revision) → Small rs → Low rs
-low-each rs small r i = let h = leb-true r.number maxNumber (every_in (λ q. leb q.number maxNumber) rs r small i) in omega arith
+low-each rs small r i = let h = leb-true r.number max_number (every_in (λ q. leb q.number max_number) rs r small i) in omega arith
 
 pub small_of : (rs : List Revision) → Low rs → Small rs
-small_of rs low = in-every (λ q. leb q.number maxNumber) rs (λ r i. le-leb r.number maxNumber (let h = low r i in omega arith))
+small_of rs low = in-every (λ q. leb q.number max_number) rs (λ r i. le-leb r.number max_number (let h = low r i in omega arith))
 
 -- WRITTEN AND READ BACK
 module _ (r : Revision) (rest : List ℕ) where
   abbrev xs : List ℕ
-  xs = recordBytes r ++ rest
+  xs = record_bytes r ++ rest
 
   record-first : get_or xs 0 0 ≡ length r.bytes
-  unfolding recordBytes
+  unfolding record_bytes
   record-first = refl
 
   record-number : r.number < 0x100000000 → be32 xs 1 ≡ r.number
-  unfolding recordBytes bytes4
+  unfolding record_bytes bytes4
   record-number h = be32-at xs 1 r.number (r.bytes ++ rest) refl h
 
   record-bytes : part xs 5 (length r.bytes) ≡ r.bytes
-  unfolding recordBytes bytes4
+  unfolding record_bytes bytes4
   record-bytes = take_at r.bytes rest (length r.bytes) refl
 
   record-rest : drop (5 + length r.bytes) xs ≡ rest
-  unfolding recordBytes bytes4
+  unfolding record_bytes bytes4
   record-rest = sym (drop-drop (length r.bytes) 5 xs) ∙ drop_at r.bytes rest (length r.bytes) refl
 
   record-length : length xs ≡ 5 + length r.bytes + length rest
-  unfolding recordBytes bytes4
+  unfolding record_bytes bytes4
   record-length = let l = length-append r.bytes rest in omega arith
 
-pub records-back : (rs : List Revision) (fuel : ℕ) → length rs ≤ fuel → Short rs → Low rs → recordsIn fuel (joined recordBytes rs) ≡ held rs
-unfolding recordsIn
+pub records-back : (rs : List Revision) (fuel : ℕ) → length rs ≤ fuel → Short rs → Low rs → records_in fuel (joined record_bytes rs) ≡ held rs
+unfolding records_in
 records-back [] zero h short small = refl
 records-back [] (suc fuel) h short small = refl
 records-back (r ∷ rs) zero h short small = absurd (omega arith)
 records-back (r ∷ rs) (suc fuel) h short small =
-    let rest : List ℕ = joined recordBytes rs in
+    let rest : List ℕ = joined record_bytes rs in
     let l = record-length r rest in
     let s = short r (inl refl) in
     let more = records-back rs fuel (omega arith) (λ q i. short q (inr i)) (λ q i. small q (inr i)) in
     rw (
-      ne_eqb (length (recordBytes r ++ rest)) 0 (λ z. omega arith),
+      ne_eqb (length (record_bytes r ++ rest)) 0 (λ z. omega arith),
       record-first r rest,
-      le-leb (length r.bytes) maxSetting s,
-      le-leb (5 + length r.bytes) (length (recordBytes r ++ rest)) (omega arith),
+      le-leb (length r.bytes) max_setting s,
+      le-leb (5 + length r.bytes) (length (record_bytes r ++ rest)) (omega arith),
       record-rest r rest,
       more,
       record-number r rest (small r (inl refl)),
@@ -87,17 +87,17 @@ unfolding zeros
 zeros-zero zero = refl
 zeros-zero (suc k) = zeros-zero k
 
-pub body-length : (rs : List Revision) → Short rs → length (joined recordBytes rs) ≤ 205 * length rs
+pub body-length : (rs : List Revision) → Short rs → length (joined record_bytes rs) ≤ 205 * length rs
 body-length [] short = omega arith
 body-length (r ∷ rs) short =
-    let l = record-length r (joined recordBytes rs) in
+    let l = record-length r (joined record_bytes rs) in
     let s = short r (inl refl) in
     let more = body-length rs (λ q i. short q (inr i)) in
     omega arith
 
 module _ (rs : List Revision) (size : ℕ) (F : Fits rs) (small : Small rs) where
   abbrev body : List ℕ
-  body = joined recordBytes rs
+  body = joined record_bytes rs
 
   abbrev c : List ℕ
   c = encoded rs size
@@ -105,17 +105,17 @@ module _ (rs : List Revision) (size : ℕ) (F : Fits rs) (small : Small rs) wher
   body-few : length body ≤ 3280
   body-few = let f = F.few in let b = body-length rs (short-each rs F) in omega arith
 
-  whole_length : length (wholeFile rs) ≡ 5 + length body
-  unfolding wholeFile bytes4
+  whole_length : length (whole_file rs) ≡ 5 + length body
+  unfolding whole_file bytes4
   whole_length = omega arith
 
-  pub encoded-length : length c ≡ length (wholeFile rs) + (size - length (wholeFile rs))
+  pub encoded-length : length c ≡ length (whole_file rs) + (size - length (whole_file rs))
   unfolding encoded
-  encoded-length = length-append (wholeFile rs) _ ∙ ap (λ (x : ℕ). length (wholeFile rs) + x) (length-zeros _)
+  encoded-length = length-append (whole_file rs) _ ∙ ap (λ (x : ℕ). length (whole_file rs) + x) (length-zeros _)
 
-  c-is : (rest : List ℕ) × (c ≡ 1 ∷ (bytes4 (5 + length body) ++ (body ++ rest))) × (rest ≡ zeros (size - length (wholeFile rs)))
-  unfolding encoded wholeFile bytes4
-  c-is = (zeros (size - length (wholeFile rs)), refl, refl)
+  c-is : (rest : List ℕ) × (c ≡ 1 ∷ (bytes4 (5 + length body) ++ (body ++ rest))) × (rest ≡ zeros (size - length (whole_file rs)))
+  unfolding encoded whole_file bytes4
+  c-is = (zeros (size - length (whole_file rs)), refl, refl)
 
   c-size : be32 c 1 ≡ 5 + length body
   unfolding bytes4
@@ -140,5 +140,5 @@ module _ (rs : List Revision) (size : ℕ) (F : Fits rs) (small : Small rs) wher
       let l = encoded-length in
       let w = whole_length in
       let m : 5 + length body - 5 ≡ length body = omega arith in
-      let z : every (λ x. eqb x 0) c-is.0 ≡ true = rw c-is.2 (zeros-zero (size - length (wholeFile rs))) in
-      rw (c-size, c-first, within-join 5 (length c) (5 + length body) (omega arith) (omega arith), c-zeros, z, m, c-body, records-back rs maxRevisions F.few (short-each rs F) (low-each rs small), F.numbers)
+      let z : every (λ x. eqb x 0) c-is.0 ≡ true = rw c-is.2 (zeros-zero (size - length (whole_file rs))) in
+      rw (c-size, c-first, within-join 5 (length c) (5 + length body) (omega arith) (omega arith), c-zeros, z, m, c-body, records-back rs max_revisions F.few (short-each rs F) (low-each rs small), F.numbers)

@@ -7,14 +7,14 @@ use mathlib.Core.Logic.{inl}
 use lib.ListN.{length}
 use lib.Dec.{eqb}
 use Rattle.layout.specs.Lists.{has}
-use Rattle.layout.specs.Geometry.{blockCount}
-use Rattle.layout.specs.Directory.{isFile}
+use Rattle.layout.specs.Geometry.{block_count}
+use Rattle.layout.specs.Directory.{is_file}
 use Rattle.layout.specs.Check.{check}
 use Rattle.layout.specs.Paths.{entry_of}
-use Rattle.volume.specs.Create.{createRefusal, createImage, createNamed, place}
-use Rattle.volume.specs.Write.{writeNamed}
+use Rattle.volume.specs.Create.{create_refusal, create_image, create_named, place}
+use Rattle.volume.specs.Write.{write_named}
 use Rattle.volume.specs.Change as volume
-use Rattle.store.specs.Put.{pathOf, opened, entry_at, rewritten, putImage, putNamed, putRefusal}
+use Rattle.store.specs.Put.{path_of, opened, entry_at, rewritten, put_image, put_named, put_refusal}
 use Rattle.store.specs.Change.{Change, plain, put_in, refusal, after, named}
 use Rattle.volume.proofs.Laws.Framed as frames
 use Rattle.volume.proofs.Laws.Effects.{create-entry}
@@ -25,42 +25,42 @@ use Rattle.layout.proofs.Laws.Sound.{sound}
 
 pub record Framed (s : List ℕ) (c : Change) : Type 0 where
   pub agree : Agree s (after s c) (named s c)
-  pub inside : (b : ℕ) → has eqb b (named s c) ≡ true → b < blockCount s
+  pub inside : (b : ℕ) → has eqb b (named s c) ≡ true → b < block_count s
   -- there is a named block
   pub one : ℕ
   pub listed : has eqb one (named s c) ≡ true
 
-module _ (s directory serial : List ℕ) (time : ℕ) (bytes : List ℕ) (ok : check s ≡ 0) (r : putRefusal s directory serial time bytes ≡ 0) where
+module _ (s directory serial : List ℕ) (time : ℕ) (bytes : List ℕ) (ok : check s ≡ 0) (r : put_refusal s directory serial time bytes ≡ 0) where
   abbrev t : List ℕ
   t = opened s directory serial time
 
   abbrev path : List ℕ
-  path = pathOf directory serial
+  path = path_of directory serial
 
   abbrev whole : List ℕ
   whole = rewritten s directory serial time bytes
 
-  module _ (c : createRefusal s path 0x60 0 ≡ 0) where
-    made-agree : Agree s (createImage s path 0x60 0 0 0 0 time) (place s path / 512 ∷ [])
-    unfolding volume.after volume.named createNamed
+  module _ (c : create_refusal s path 0x60 0 ≡ 0) where
+    made-agree : Agree s (create_image s path 0x60 0 0 0 0 time) (place s path / 512 ∷ [])
+    unfolding volume.after volume.named create_named
     made-agree = (frames.create-framed s (sound s ok) path 0x60 0 0 0 0 time c).agree
 
-    made : Agree s (createImage s path 0x60 0 0 0 0 time) (entry_of isFile (createImage s path 0x60 0 0 0 0 time) path / 512 ∷ [])
+    made : Agree s (create_image s path 0x60 0 0 0 0 time) (entry_of is_file (create_image s path 0x60 0 0 0 0 time) path / 512 ∷ [])
     made = rw (create-entry s path ok 0x60 0 0 0 0 time c) made-agree
 
   -- making the file changes its entry's block alone
-  pub opened-agree : Agree s t (entry_of isFile t path / 512 ∷ [])
-  opened-agree = by-opened s directory serial time bytes ok r (λ x. Agree s x (entry_of isFile x path / 512 ∷ [])) (λ q. agree_refl s _) (λ q c. made c)
+  pub opened-agree : Agree s t (entry_of is_file t path / 512 ∷ [])
+  opened-agree = by-opened s directory serial time bytes ok r (λ x. Agree s x (entry_of is_file x path / 512 ∷ [])) (λ q. agree_refl s _) (λ q c. made c)
 
   F : frames.Framed t (volume.write path 0 whole time)
   F = frames.write-framed t (sound t (opened-sound s directory serial time bytes ok r)) path 0 whole time (put-given s directory serial time bytes ok r)
 
-  first-named : (x : ℕ) → In x (entry_of isFile t path / 512 ∷ []) → In x (writeNamed t (entry_of isFile t path) 0 (length whole))
-  unfolding writeNamed
-  first-named = in-single (entry_of isFile t path / 512) (writeNamed t (entry_of isFile t path) 0 (length whole)) (inl refl)
+  first-named : (x : ℕ) → In x (entry_of is_file t path / 512 ∷ []) → In x (write_named t (entry_of is_file t path) 0 (length whole))
+  unfolding write_named
+  first-named = in-single (entry_of is_file t path / 512) (write_named t (entry_of is_file t path) 0 (length whole)) (inl refl)
 
   put-framed : Framed s (put_in directory serial time bytes)
-  unfolding after named putImage putNamed entry_at volume.after volume.named
+  unfolding after named put_image put_named entry_at volume.after volume.named
   put-framed =
       record {
         agree = agree_then opened-agree F.agree first-named (λ x i. i);

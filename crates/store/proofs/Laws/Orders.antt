@@ -7,10 +7,10 @@ use Rattle.layout.specs.Directory.{size_of}
 use Rattle.layout.specs.Check.{check}
 use Rattle.volume.specs.Change as changes
 use Rattle.volume.specs.Views as views
-use Rattle.volume.specs.Views.{File, Maybe, nothing, just, fileOf, fileAt, SameFiles}
-use Rattle.store.specs.Put.{pathOf, opened, entry_at, rewritten, putImage, putRefusal}
+use Rattle.volume.specs.Views.{File, Maybe, nothing, just, file_of, file_at, SameFiles}
+use Rattle.store.specs.Put.{path_of, opened, entry_at, rewritten, put_image, put_refusal}
 use Rattle.store.specs.Change.{Change, plain, put_in, refusal, after, subject, further}
-use Rattle.store.specs.Views.{lengthIn, openedIn, writeIn, made, madeFolder, takes, gives, givesFolder}
+use Rattle.store.specs.Views.{length_in, opened_in, write_in, made, made_folder, takes, gives, gives_folder}
 use Rattle.volume.proofs.Laws.Views.{not-nothing, file-shown}
 use Rattle.volume.proofs.Laws.Effects.{content-length}
 use Rattle.volume.proofs.Laws.Orders as volume
@@ -25,39 +25,39 @@ action c =
     record {
       path = subject c;
       tos = further c;
-      makes = λ m. (made c m.0, madeFolder c m.1);
+      makes = λ m. (made c m.0, made_folder c m.1);
       takes = λ m. takes c m.0;
-      gives = λ m. gives c m.0 + givesFolder c m.1;
+      gives = λ m. gives c m.0 + gives_folder c m.1;
     }
 
-module _ (s directory serial : List ℕ) (time : ℕ) (bytes : List ℕ) (ok : check s ≡ 0) (r : putRefusal s directory serial time bytes ≡ 0) where
+module _ (s directory serial : List ℕ) (time : ℕ) (bytes : List ℕ) (ok : check s ≡ 0) (r : put_refusal s directory serial time bytes ≡ 0) where
   abbrev t : List ℕ
   t = opened s directory serial time
 
   abbrev path : List ℕ
-  path = pathOf directory serial
+  path = path_of directory serial
 
   abbrev was : Maybe File
-  was = fileAt s (pathOf directory serial)
+  was = file_at s (path_of directory serial)
 
-  opened_view : fileAt t path ≡ openedIn directory serial time was
+  opened_view : file_at t path ≡ opened_in directory serial time was
   unfolding changes.after views.subject
-  opened_view = by-opened s directory serial time bytes ok r (λ x. fileAt x path ≡ openedIn directory serial time was)
+  opened_view = by-opened s directory serial time bytes ok r (λ x. file_at x path ≡ opened_in directory serial time was)
       (λ q. rw (there-shown s directory serial (put-serial s directory serial time bytes ok r) q))
       (λ q c. (created s directory serial time bytes ok r c).own ∙ rw (absent-shown s directory serial (put-serial s directory serial time bytes ok r) q))
 
-  size-view : size_of t (entry_at s directory serial time) ≡ lengthIn (openedIn directory serial time was)
-  unfolding entry_at fileOf
+  size-view : size_of t (entry_at s directory serial time) ≡ length_in (opened_in directory serial time was)
+  unfolding entry_at file_of
   size-view =
       let q = opened-accepted s directory serial time bytes ok r in
-      sym (content-length t path (opened-sound s directory serial time bytes ok r) q) ∙ sym (ap lengthIn (file-shown t path q)) ∙ ap lengthIn opened_view
+      sym (content-length t path (opened-sound s directory serial time bytes ok r) q) ∙ sym (ap length_in (file-shown t path q)) ∙ ap length_in opened_view
 
-  whole-view : changes.write path 0 (rewritten s directory serial time bytes) time ≡ writeIn directory serial time bytes was
+  whole-view : changes.write path 0 (rewritten s directory serial time bytes) time ≡ write_in directory serial time bytes was
   unfolding rewritten
   whole-view = rw (size-view, stored-view s directory serial (put-serial s directory serial time bytes ok r))
 
-  pub put-own : fileAt (putImage s directory serial time bytes) path ≡ made (put_in directory serial time bytes) was
-  unfolding changes.after views.subject putImage entry_at made
+  pub put-own : file_at (put_image s directory serial time bytes) path ≡ made (put_in directory serial time bytes) was
+  unfolding changes.after views.subject put_image entry_at made
   put-own = rw ((put-effect s directory serial time bytes ok r).own, whole-view, opened_view)
 
   -- after a put there is a file
@@ -66,8 +66,8 @@ module _ (s directory serial : List ℕ) (time : ℕ) (bytes : List ℕ) (ok : c
   put_some nothing q = not-nothing _ q
   put_some (just f) q = not-nothing _ q
 
-  put-done : Done (action (put_in directory serial time bytes)) s (putImage s directory serial time bytes)
-  unfolding shown changes.after views.subject views.gives putImage entry_at subject further madeFolder takes gives givesFolder
+  put-done : Done (action (put_in directory serial time bytes)) s (put_image s directory serial time bytes)
+  unfolding shown changes.after views.subject views.gives put_image entry_at subject further made_folder takes gives gives_folder
   put-done =
       let W = put-effect s directory serial time bytes ok r in
       record {
@@ -83,7 +83,7 @@ module _ (s directory serial : List ℕ) (time : ℕ) (bytes : List ℕ) (ok : c
       }
 
 pub done : (s : List ℕ) (c : Change) → check s ≡ 0 → refusal s c ≡ 0 → Done (action c) s (after s c)
-unfolding refusal after subject further made madeFolder takes gives givesFolder
+unfolding refusal after subject further made made_folder takes gives gives_folder
 done s (plain c) ok r = volume.done s c ok r
 done s (put_in directory serial time bytes) ok r = put-done s directory serial time bytes ok r
 

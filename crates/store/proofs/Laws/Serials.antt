@@ -8,54 +8,54 @@ use native.Mathlib.Omega.{arith}
 use borrow.Author.Tests.{eqb-true, ne_eqb, leb-true, le-leb}
 use lib.ListN.{length}
 use lib.Dec.{eqb, leb}
-use Rattle.layout.specs.Limits.{maxName, maxLevels}
+use Rattle.layout.specs.Limits.{max_name, max_levels}
 use Rattle.layout.specs.Lists.{within, every}
 use Rattle.layout.specs.Refusals.{require}
-use Rattle.layout.specs.Directory.{isFile, slash, nameByte, goodName, content}
+use Rattle.layout.specs.Directory.{is_file, slash, name_byte, good_name, content}
 use Rattle.layout.specs.Check.{check}
-use Rattle.layout.specs.Looks.{isRootPath}
-use Rattle.layout.specs.Paths.{longer, cut, parts, pathOk, leading, shallow, pathSlot, entry_of, fileRefusal}
-use Rattle.volume.specs.Views.{File, Maybe, nothing, just, fileOf, fileAt}
-use Rattle.store.specs.Settings.{maxSetting, held, revisions}
-use Rattle.store.specs.Put.{serialByte, serialOk, directoryOk, front, pathOf, addressRefusal, isThere, stored}
-use Rattle.store.specs.Get.{Which, getRefusal, getIn}
-use Rattle.store.specs.Views.{storedIn}
+use Rattle.layout.specs.Looks.{is_root_path}
+use Rattle.layout.specs.Paths.{longer, cut, parts, path_ok, leading, shallow, path_slot, entry_of, file_refusal}
+use Rattle.volume.specs.Views.{File, Maybe, nothing, just, file_of, file_at}
+use Rattle.store.specs.Settings.{max_setting, held, revisions}
+use Rattle.store.specs.Put.{serial_byte, serial_ok, directory_ok, front, path_of, address_refusal, is_there, stored}
+use Rattle.store.specs.Get.{Which, get_refusal, get_in}
+use Rattle.store.specs.Views.{stored_in}
 use Rattle.store.specs.Walks.Addresses.{Addressed}
 use Rattle.layout.proofs.Walks.Paths.{cut-some}
 use Rattle.layout.proofs.Laws.Tests.{and_split, and-join, or_split, within-split, within-join, require-zero, true-or-false, true-not-false}
 use Rattle.volume.proofs.Laws.Views.{file-shown, none-shown}
 
 -- a byte of a serial number
-module _ (x : ℕ) (h : serialByte x ≡ true) where
+module _ (x : ℕ) (h : serial_byte x ≡ true) where
   pub high : 0x30 ≤ x
   high = ⊎_elim (λ a. (within-split 0x30 0x39 x a).0)
       (λ b. ⊎_elim (λ a. let w = (within-split 0x41 0x5A x a).0 in omega arith) (λ a. let w = (within-split 0x61 0x7A x a).0 in omega arith) (or_split (within 0x41 0x5A x) _ b)) (or_split (within 0x30 0x39 x) _ h)
 
-  byte-good : nameByte x ≡ true
+  byte-good : name_byte x ≡ true
   byte-good = let g = high in rw (ne_eqb x 0 (λ q. omega arith), ne_eqb x slash (λ q. omega arith))
 
-bytes_good : (xs : List ℕ) → every serialByte xs ≡ true → every nameByte xs ≡ true
+bytes_good : (xs : List ℕ) → every serial_byte xs ≡ true → every name_byte xs ≡ true
 bytes_good [] h = refl
-bytes_good (x ∷ xs) h = let a = and_split (serialByte x) _ h in and-join (byte-good x a.0) (bytes_good xs a.1)
+bytes_good (x ∷ xs) h = let a = and_split (serial_byte x) _ h in and-join (byte-good x a.0) (bytes_good xs a.1)
 
-one-part : (xs : List ℕ) → every serialByte xs ≡ true → cut xs ≡ xs ∷ []
+one-part : (xs : List ℕ) → every serial_byte xs ≡ true → cut xs ≡ xs ∷ []
 unfolding cut
 one-part [] h = refl
 one-part (x ∷ xs) h =
-    let a = and_split (serialByte x) _ h in
+    let a = and_split (serial_byte x) _ h in
     let g = high x a.0 in
     rw (ne_eqb x slash (λ q. omega arith), one-part xs a.1)
 
-pub serial-letters : (serial : List ℕ) → serialOk serial ≡ true → every serialByte serial ≡ true
-unfolding serialOk
+pub serial-letters : (serial : List ℕ) → serial_ok serial ≡ true → every serial_byte serial ≡ true
+unfolding serial_ok
 serial-letters serial ok = (and_split (within 1 16 (length serial)) _ ok).1
 
-root-parts : (serial : List ℕ) → every serialByte serial ≡ true → parts (slash ∷ serial) ≡ serial ∷ []
+root-parts : (serial : List ℕ) → every serial_byte serial ≡ true → parts (slash ∷ serial) ≡ serial ∷ []
 unfolding parts
 root-parts serial h = one-part serial h
 
-pub parts-good : (path : List ℕ) → pathOk path ≡ true → every goodName (parts path) ≡ true
-unfolding pathOk
+pub parts-good : (path : List ℕ) → path_ok path ≡ true → every good_name (parts path) ≡ true
+unfolding path_ok
 parts-good path ok = (and_split (leb 1 (length (parts path))) _ ok).1
 
 -- bytes cut at each `/`, with a `/` between
@@ -85,9 +85,9 @@ module _ (p : List ℕ) where
   leading-snoc (q ∷ []) = refl
   leading-snoc (q ∷ r ∷ ps) = ap (λ (l : List (List ℕ)). q ∷ l) (leading-snoc (r ∷ ps))
 
-  snoc-good : (ps : List (List ℕ)) → every goodName ps ≡ true → goodName p ≡ true → every goodName (ps ++ (p ∷ [])) ≡ true
+  snoc-good : (ps : List (List ℕ)) → every good_name ps ≡ true → good_name p ≡ true → every good_name (ps ++ (p ∷ [])) ≡ true
   snoc-good [] h g = and-join g refl
-  snoc-good (q ∷ ps) h g = let a = and_split (goodName q) _ h in and-join a.0 (snoc-good ps a.1 g)
+  snoc-good (q ∷ ps) h g = let a = and_split (good_name q) _ h in and-join a.0 (snoc-good ps a.1 g)
 
   snoc-some : (ps : List (List ℕ)) → leb 1 (length (ps ++ (p ∷ []))) ≡ true
   snoc-some [] = refl
@@ -95,49 +95,49 @@ module _ (p : List ℕ) where
 
 -- the directories of a directory's path, none of the root's
 abbrev pub ways : List ℕ → List (List ℕ)
-ways directory = cond (isRootPath directory) [] (parts directory)
+ways directory = cond (is_root_path directory) [] (parts directory)
 
-module _ (directory : List ℕ) (ok : directoryOk directory ≡ true) where
-  pub below-path : isRootPath directory ≡ false → pathOk directory ≡ true
-  unfolding directoryOk
+module _ (directory : List ℕ) (ok : directory_ok directory ≡ true) where
+  pub below-path : is_root_path directory ≡ false → path_ok directory ≡ true
+  unfolding directory_ok
   below-path q = rw q at ok
 
-  pub below-some : isRootPath directory ≡ false → 1 ≤ length (parts directory)
-  unfolding pathOk
+  pub below-some : is_root_path directory ≡ false → 1 ≤ length (parts directory)
+  unfolding path_ok
   below-some q = leb-true 1 (length (parts directory)) (and_split (leb 1 (length (parts directory))) _ (below-path q)).0
 
-  ways-good : every goodName (ways directory) ≡ true
-  ways-good = go (isRootPath directory) refl
+  ways-good : every good_name (ways directory) ≡ true
+  ways-good = go (is_root_path directory) refl
     where
-      go : (t : Bool) → isRootPath directory ≡ t → every goodName (cond t [] (parts directory)) ≡ true
+      go : (t : Bool) → is_root_path directory ≡ t → every good_name (cond t [] (parts directory)) ≡ true
       go true q = refl
       go false q = parts-good directory (below-path q)
 
-  module _ (serial : List ℕ) (ok' : serialOk serial ≡ true) where
-    pub path-parts : parts (pathOf directory serial) ≡ ways directory ++ (serial ∷ [])
-    unfolding pathOf front
-    path-parts = go (isRootPath directory) refl
+  module _ (serial : List ℕ) (ok' : serial_ok serial ≡ true) where
+    pub path-parts : parts (path_of directory serial) ≡ ways directory ++ (serial ∷ [])
+    unfolding path_of front
+    path-parts = go (is_root_path directory) refl
       where
-        go : (t : Bool) → isRootPath directory ≡ t → parts (cond t [] directory ++ (slash ∷ serial)) ≡ cond t [] (parts directory) ++ (serial ∷ [])
+        go : (t : Bool) → is_root_path directory ≡ t → parts (cond t [] directory ++ (slash ∷ serial)) ≡ cond t [] (parts directory) ++ (serial ∷ [])
         go true q = root-parts serial (serial-letters serial ok')
         go false q = parts_below directory serial (below-some q) ∙ ap (λ (l : List (List ℕ)). parts directory ++ l) (one-part serial (serial-letters serial ok'))
 
-    pub path-leading : leading (parts (pathOf directory serial)) ≡ ways directory
+    pub path-leading : leading (parts (path_of directory serial)) ≡ ways directory
     path-leading = ap leading path-parts ∙ leading-snoc serial (ways directory)
 
 -- what an address is asked
-pub addressed : (directory serial : List ℕ) (fits : Bool) → addressRefusal directory serial fits ≡ 0 → Addressed directory serial × (fits ≡ true)
-unfolding addressRefusal
+pub addressed : (directory serial : List ℕ) (fits : Bool) → address_refusal directory serial fits ≡ 0 → Addressed directory serial × (fits ≡ true)
+unfolding address_refusal
 addressed directory serial fits r =
-    let a = require-zero (directoryOk directory && (serialOk serial && fits)) 21 _ r in
-    let b = and_split (directoryOk directory) _ a.0 in
-    let c = and_split (serialOk serial) _ b.1 in
-    let d = require-zero (shallow (leading (parts (pathOf directory serial)))) 16 _ a.1 in
+    let a = require-zero (directory_ok directory && (serial_ok serial && fits)) 21 _ r in
+    let b = and_split (directory_ok directory) _ a.0 in
+    let c = and_split (serial_ok serial) _ b.1 in
+    let d = require-zero (shallow (leading (parts (path_of directory serial)))) 16 _ a.1 in
     (record { folder = b.0; named = c.0; flat = d.0 }, c.1)
 
-pub address-not-ten : (directory serial : List ℕ) (fits : Bool) → addressRefusal directory serial fits ≡ 10 → ⊥
-unfolding addressRefusal
-address-not-ten directory serial fits r = go (directoryOk directory && (serialOk serial && fits)) (shallow (leading (parts (pathOf directory serial)))) r
+pub address-not-ten : (directory serial : List ℕ) (fits : Bool) → address_refusal directory serial fits ≡ 10 → ⊥
+unfolding address_refusal
+address-not-ten directory serial fits r = go (directory_ok directory && (serial_ok serial && fits)) (shallow (leading (parts (path_of directory serial)))) r
   where
     go : (a b : Bool) → require a 22 (require b 17 0) ≡ 10 → ⊥
     go true true q = omega arith
@@ -145,77 +145,77 @@ address-not-ten directory serial fits r = go (directoryOk directory && (serialOk
     go false b q = omega arith
 
 module _ (directory serial : List ℕ) (ok : Addressed directory serial) where
-  pub address-right : (fits : Bool) → fits ≡ true → addressRefusal directory serial fits ≡ 0
-  unfolding addressRefusal
+  pub address-right : (fits : Bool) → fits ≡ true → address_refusal directory serial fits ≡ 0
+  unfolding address_refusal
   address-right fits f = rw (ok.folder, ok.named, f, ok.flat)
 
-  serial-good : goodName serial ≡ true
-  unfolding goodName serialOk
+  serial-good : good_name serial ≡ true
+  unfolding good_name serial_ok
   serial-good =
       let w = within-split 1 16 (length serial) (and_split (within 1 16 (length serial)) _ ok.named).0 in
-      and-join (within-join 1 maxName (length serial) w.0 (let h = w.1 in omega arith)) (bytes_good serial (serial-letters serial ok.named))
+      and-join (within-join 1 max_name (length serial) w.0 (let h = w.1 in omega arith)) (bytes_good serial (serial-letters serial ok.named))
 
-  pub serial-path : pathOk (pathOf directory serial) ≡ true
-  unfolding pathOk
+  pub serial-path : path_ok (path_of directory serial) ≡ true
+  unfolding path_ok
   serial-path = rw (path-parts directory ok.folder serial ok.named) (and-join (snoc-some serial (ways directory)) (snoc-good serial (ways directory) (ways-good directory ok.folder) serial-good))
 
-  pub serial-shallow : shallow (leading (parts (pathOf directory serial))) ≡ true
+  pub serial-shallow : shallow (leading (parts (path_of directory serial))) ≡ true
   serial-shallow = ok.flat
 
   pub ways-few : length (ways directory) ≤ 8
   unfolding shallow
-  ways-few = let e = path-leading directory ok.folder serial ok.named in leb-true (length (ways directory)) maxLevels (rw e at ok.flat)
+  ways-few = let e = path-leading directory ok.folder serial ok.named in leb-true (length (ways directory)) max_levels (rw e at ok.flat)
 
 -- WHAT THE STORE READS
-abbrev pub isIn : Maybe File → Bool
-isIn nothing = false
-isIn (just f) = true
+abbrev pub is_in : Maybe File → Bool
+is_in nothing = false
+is_in (just f) = true
 
 module _ (s directory serial : List ℕ) (ok : Addressed directory serial) where
-  pub there-accepted : isThere s directory serial ≡ true → fileRefusal s (pathOf directory serial) ≡ 0
-  unfolding isThere fileRefusal
+  pub there-accepted : is_there s directory serial ≡ true → file_refusal s (path_of directory serial) ≡ 0
+  unfolding is_there file_refusal
   there-accepted t = rw (serial-path directory serial ok, serial-shallow directory serial ok, t)
 
-  pub there-shown : isThere s directory serial ≡ true → fileAt s (pathOf directory serial) ≡ just (fileOf s (entry_of isFile s (pathOf directory serial)))
-  there-shown t = file-shown s (pathOf directory serial) (there-accepted t)
+  pub there-shown : is_there s directory serial ≡ true → file_at s (path_of directory serial) ≡ just (file_of s (entry_of is_file s (path_of directory serial)))
+  there-shown t = file-shown s (path_of directory serial) (there-accepted t)
 
-  pub absent-shown : isThere s directory serial ≡ false → fileAt s (pathOf directory serial) ≡ nothing
-  unfolding isThere
-  absent-shown f = none-shown s (pathOf directory serial) (eqb-true _ _ (not-false (eqb (pathSlot isFile s (pathOf directory serial)) 0) f))
+  pub absent-shown : is_there s directory serial ≡ false → file_at s (path_of directory serial) ≡ nothing
+  unfolding is_there
+  absent-shown f = none-shown s (path_of directory serial) (eqb-true _ _ (not-false (eqb (path_slot is_file s (path_of directory serial)) 0) f))
     where
       not-false : (b : Bool) → not b ≡ false → b ≡ true
       not-false true q = refl
       not-false false q = absurd (true-not-false refl q)
 
-  pub there-view : isThere s directory serial ≡ isIn (fileAt s (pathOf directory serial))
-  there-view = go (true-or-false (isThere s directory serial))
+  pub there-view : is_there s directory serial ≡ is_in (file_at s (path_of directory serial))
+  there-view = go (true-or-false (is_there s directory serial))
     where
-      go : (isThere s directory serial ≡ true) ⊎ (isThere s directory serial ≡ false) → isThere s directory serial ≡ isIn (fileAt s (pathOf directory serial))
-      go (inl t) = t ∙ ap isIn (sym (there-shown t))
-      go (inr f) = f ∙ ap isIn (sym (absent-shown f))
+      go : (is_there s directory serial ≡ true) ⊎ (is_there s directory serial ≡ false) → is_there s directory serial ≡ is_in (file_at s (path_of directory serial))
+      go (inl t) = t ∙ ap is_in (sym (there-shown t))
+      go (inr f) = f ∙ ap is_in (sym (absent-shown f))
 
-  pub stored-view : stored s directory serial ≡ storedIn (fileAt s (pathOf directory serial))
-  unfolding stored fileOf
-  stored-view = go (true-or-false (isThere s directory serial))
+  pub stored-view : stored s directory serial ≡ stored_in (file_at s (path_of directory serial))
+  unfolding stored file_of
+  stored-view = go (true-or-false (is_there s directory serial))
     where
-      go : (isThere s directory serial ≡ true) ⊎ (isThere s directory serial ≡ false) → stored s directory serial ≡ storedIn (fileAt s (pathOf directory serial))
-      go (inl t) = ap (λ (w : Bool). cond w (revisions (content s (entry_of isFile s (pathOf directory serial)))) (held [])) t ∙ ap storedIn (sym (there-shown t))
-      go (inr f) = ap (λ (w : Bool). cond w (revisions (content s (entry_of isFile s (pathOf directory serial)))) (held [])) f ∙ ap storedIn (sym (absent-shown f))
+      go : (is_there s directory serial ≡ true) ⊎ (is_there s directory serial ≡ false) → stored s directory serial ≡ stored_in (file_at s (path_of directory serial))
+      go (inl t) = ap (λ (w : Bool). cond w (revisions (content s (entry_of is_file s (path_of directory serial)))) (held [])) t ∙ ap stored_in (sym (there-shown t))
+      go (inr f) = ap (λ (w : Bool). cond w (revisions (content s (entry_of is_file s (path_of directory serial)))) (held [])) f ∙ ap stored_in (sym (absent-shown f))
 
 -- an answer is told by the check and what the path shows
-pub answer-same : (s s' directory serial : List ℕ) → check s' ≡ check s → fileAt s' (pathOf directory serial) ≡ fileAt s (pathOf directory serial) → (which : Which) (buffer : List ℕ)
-    → getIn s' directory serial which buffer ≡ getIn s directory serial which buffer
-unfolding getIn getRefusal
-answer-same s s' directory serial c q which buffer = go (addressRefusal directory serial (leb maxSetting (length buffer))) refl
+pub answer-same : (s s' directory serial : List ℕ) → check s' ≡ check s → file_at s' (path_of directory serial) ≡ file_at s (path_of directory serial) → (which : Which) (buffer : List ℕ)
+    → get_in s' directory serial which buffer ≡ get_in s directory serial which buffer
+unfolding get_in get_refusal
+answer-same s s' directory serial c q which buffer = go (address_refusal directory serial (leb max_setting (length buffer))) refl
   where
-    go : (k : ℕ) → addressRefusal directory serial (leb maxSetting (length buffer)) ≡ k → getIn s' directory serial which buffer ≡ getIn s directory serial which buffer
+    go : (k : ℕ) → address_refusal directory serial (leb max_setting (length buffer)) ≡ k → get_in s' directory serial which buffer ≡ get_in s directory serial which buffer
     go zero z =
         let ok = (addressed directory serial _ z).0 in
-        let a : isThere s' directory serial ≡ isThere s directory serial = there-view s' directory serial ok ∙ ap isIn q ∙ sym (there-view s directory serial ok) in
-        let b : stored s' directory serial ≡ stored s directory serial = stored-view s' directory serial ok ∙ ap storedIn q ∙ sym (stored-view s directory serial ok) in
+        let a : is_there s' directory serial ≡ is_there s directory serial = there-view s' directory serial ok ∙ ap is_in q ∙ sym (there-view s directory serial ok) in
+        let b : stored s' directory serial ≡ stored s directory serial = stored-view s' directory serial ok ∙ ap stored_in q ∙ sym (stored-view s directory serial ok) in
         rw (c, a, b)
     go (suc k) bad = by-check (check s) refl
       where
-        by-check : (j : ℕ) → check s ≡ j → getIn s' directory serial which buffer ≡ getIn s directory serial which buffer
+        by-check : (j : ℕ) → check s ≡ j → get_in s' directory serial which buffer ≡ get_in s directory serial which buffer
         by-check zero z = rw (c, z, bad)
         by-check (suc j) z = rw (c, z)

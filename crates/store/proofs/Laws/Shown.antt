@@ -8,10 +8,10 @@ use Rattle.layout.specs.Check.{check}
 use Rattle.layout.specs.Looks.{lookup}
 use Rattle.volume.specs.Change as changes
 use Rattle.volume.specs.Views as views
-use Rattle.volume.specs.Views.{File, Maybe, nothing, just, fileAt, folderAt, flagsIn, folderFlagsIn, NoNewFlags, origin_of}
-use Rattle.store.specs.Put.{pathOf, opened, entry_at, rewritten, putImage, putRefusal}
-use Rattle.store.specs.Change.{Change, plain, put_in, clearFlags, refusal, after, subject, further, subjects}
-use Rattle.store.specs.Views.{made, madeFolder, takes, gives, givesFolder}
+use Rattle.volume.specs.Views.{File, Maybe, nothing, just, file_at, folder_at, flags_in, folder_flags_in, NoNewFlags, origin_of}
+use Rattle.store.specs.Put.{path_of, opened, entry_at, rewritten, put_image, put_refusal}
+use Rattle.store.specs.Change.{Change, plain, put_in, clear_flags, refusal, after, subject, further, subjects}
+use Rattle.store.specs.Views.{made, made_folder, takes, gives, gives_folder}
 use Rattle.volume.proofs.Laws.Content.{write-untouched}
 use Rattle.volume.proofs.Laws.Acts.{others-untouched}
 use Rattle.volume.proofs.Laws.Shown.{lookup-kept}
@@ -23,34 +23,34 @@ use Rattle.layout.proofs.Laws.Lists.{In}
 use Rattle.layout.proofs.Laws.Names.{same_or_not}
 
 module _ (s : List ℕ) (c : Change) (ok : check s ≡ 0) (r : refusal s c ≡ 0) where
-  pub own : fileAt (after s c) (subject c) ≡ made c (fileAt s (subject c))
+  pub own : file_at (after s c) (subject c) ≡ made c (file_at s (subject c))
   unfolding shown
   own = ap (λ (m : Shown). m.0) (done s c ok r).own
 
-  pub folder : folderAt (after s c) (subject c) ≡ madeFolder c (folderAt s (subject c))
+  pub folder : folder_at (after s c) (subject c) ≡ made_folder c (folder_at s (subject c))
   unfolding shown
   folder = ap (λ (m : Shown). m.1) (done s c ok r).own
 
-  pub others : (other : List ℕ) → (In other (subjects c) → ⊥) → fileAt (after s c) other ≡ fileAt s other
+  pub others : (other : List ℕ) → (In other (subjects c) → ⊥) → file_at (after s c) other ≡ file_at s other
   unfolding shown
   others other ne = ap (λ (m : Shown). m.0) ((done s c ok r).others other ne)
 
-  pub folders : (other : List ℕ) → (In other (subjects c) → ⊥) → folderAt (after s c) other ≡ folderAt s other
+  pub folders : (other : List ℕ) → (In other (subjects c) → ⊥) → folder_at (after s c) other ≡ folder_at s other
   unfolding shown
   folders other ne = ap (λ (m : Shown). m.1) ((done s c ok r).others other ne)
 
-  pub used : be32 (after s c) 20 + (gives c (fileAt s (subject c)) + givesFolder c (folderAt s (subject c))) ≡ be32 s 20 + takes c (fileAt s (subject c))
+  pub used : be32 (after s c) 20 + (gives c (file_at s (subject c)) + gives_folder c (folder_at s (subject c))) ≡ be32 s 20 + takes c (file_at s (subject c))
   unfolding shown
   used = (done s c ok r).used
 
 -- of the file that a put's path shows
 put-flags : (directory serial : List ℕ) (time : ℕ) (bytes : List ℕ) (m : Maybe File)
-    → (flagsIn (made (put_in directory serial time bytes) m) ≡ zeros 4) ⊎ (flagsIn (made (put_in directory serial time bytes) m) ≡ flagsIn m)
+    → (flags_in (made (put_in directory serial time bytes) m) ≡ zeros 4) ⊎ (flags_in (made (put_in directory serial time bytes) m) ≡ flags_in m)
 unfolding made views.made bytes4 zeros
 put-flags directory serial time bytes nothing = inl refl
 put-flags directory serial time bytes (just f) = inr refl
 
-put-stay : (directory serial : List ℕ) (time : ℕ) (bytes : List ℕ) (g : File) → flagsIn (made (put_in directory serial time bytes) (just g)) ≡ g.flags
+put-stay : (directory serial : List ℕ) (time : ℕ) (bytes : List ℕ) (g : File) → flags_in (made (put_in directory serial time bytes) (just g)) ≡ g.flags
 unfolding made views.made
 put-stay directory serial time bytes g = refl
 
@@ -58,15 +58,15 @@ put-stay directory serial time bytes g = refl
 plain-lookup : (s : List ℕ) (c : changes.Change) → check s ≡ 0 → changes.refusal s c ≡ 0 → (other : List ℕ) → (In other (views.subjects c) → ⊥) → lookup (changes.after s c) other ≡ lookup s other
 plain-lookup s c ok r other ne = lookup-kept s (changes.after s c) other ok (volume.change-sound s ok c r) (others-untouched s c other ok r ne)
 
-module _ (s directory serial : List ℕ) (time : ℕ) (bytes : List ℕ) (ok : check s ≡ 0) (r : putRefusal s directory serial time bytes ≡ 0) where
+module _ (s directory serial : List ℕ) (time : ℕ) (bytes : List ℕ) (ok : check s ≡ 0) (r : put_refusal s directory serial time bytes ≡ 0) where
   abbrev t : List ℕ
   t = opened s directory serial time
 
   abbrev path : List ℕ
-  path = pathOf directory serial
+  path = path_of directory serial
 
   abbrev s' : List ℕ
-  s' = putImage s directory serial time bytes
+  s' = put_image s directory serial time bytes
 
   -- as of the create and of the write
   opened-lookup : (other : List ℕ) → other ≢ path → lookup t other ≡ lookup s other
@@ -74,28 +74,28 @@ module _ (s directory serial : List ℕ) (time : ℕ) (bytes : List ℕ) (ok : c
   opened-lookup other ne = by-opened s directory serial time bytes ok r (λ x. lookup x other ≡ lookup s other) (λ q. refl) (λ q c. plain-lookup s (changes.create path 0x60 0 0 0 0 time) ok c other (λ i. ⊎_elim ne (λ x. x) i))
 
   put-lookup : (other : List ℕ) → other ≢ path → lookup s' other ≡ lookup s other
-  unfolding putImage entry_at
+  unfolding put_image entry_at
   put-lookup other ne =
       let ok' = opened-sound s directory serial time bytes ok r in
       lookup-kept t s' other ok' (put-sound s directory serial time bytes ok r)
       (λ good. write-untouched t path other ok' good ne 0 (rewritten s directory serial time bytes) time (put-given s directory serial time bytes ok r)) ∙ opened-lookup other ne
 
-  put-flags-at : (other : List ℕ) → (other ≡ path) ⊎ (other ≢ path) → (flagsIn (fileAt s' other) ≡ zeros 4) ⊎ (flagsIn (fileAt s' other) ≡ flagsIn (fileAt s other))
-  put-flags-at other (inl e) = rw (e, put-own s directory serial time bytes ok r) (put-flags directory serial time bytes (fileAt s path))
-  put-flags-at other (inr ne) = inr (ap flagsIn (put-others s directory serial time bytes ok r other ne))
+  put-flags-at : (other : List ℕ) → (other ≡ path) ⊎ (other ≢ path) → (flags_in (file_at s' other) ≡ zeros 4) ⊎ (flags_in (file_at s' other) ≡ flags_in (file_at s other))
+  put-flags-at other (inl e) = rw (e, put-own s directory serial time bytes ok r) (put-flags directory serial time bytes (file_at s path))
+  put-flags-at other (inr ne) = inr (ap flags_in (put-others s directory serial time bytes ok r other ne))
 
   put-no-new : NoNewFlags s s' (λ other. other)
-  put-no-new = record { files = λ other. put-flags-at other (same_or_not other path); folders = λ other. inr (ap folderFlagsIn (put-folders s directory serial time bytes ok r other)) }
+  put-no-new = record { files = λ other. put-flags-at other (same_or_not other path); folders = λ other. inr (ap folder_flags_in (put-folders s directory serial time bytes ok r other)) }
 
-  put-flags-stay : (other : List ℕ) (f g : File) → fileAt s other ≡ just g → fileAt s' other ≡ just f → f.flags ≡ g.flags
+  put-flags-stay : (other : List ℕ) (f g : File) → file_at s other ≡ just g → file_at s' other ≡ just f → f.flags ≡ g.flags
   put-flags-stay other f g was now = go (same_or_not other path)
     where
       go : (other ≡ path) ⊎ (other ≢ path) → f.flags ≡ g.flags
       go (inl e) =
-          let q : fileAt s path ≡ just g = rw e at was in
-          let p : fileAt s' path ≡ just f = rw e at now in
-          ap flagsIn (sym p ∙ put-own s directory serial time bytes ok r ∙ ap (made (put_in directory serial time bytes)) q) ∙ put-stay directory serial time bytes g
-      go (inr ne) = ap flagsIn (sym now ∙ put-others s directory serial time bytes ok r other ne ∙ was)
+          let q : file_at s path ≡ just g = rw e at was in
+          let p : file_at s' path ≡ just f = rw e at now in
+          ap flags_in (sym p ∙ put-own s directory serial time bytes ok r ∙ ap (made (put_in directory serial time bytes)) q) ∙ put-stay directory serial time bytes g
+      go (inr ne) = ap flags_in (sym now ∙ put-others s directory serial time bytes ok r other ne ∙ was)
 
 pub others-lookup : (s : List ℕ) (c : Change) → check s ≡ 0 → refusal s c ≡ 0 → (other : List ℕ) → (In other (subjects c) → ⊥) → lookup (after s c) other ≡ lookup s other
 unfolding refusal after subject further
@@ -108,7 +108,7 @@ no-new-flags s (plain c) ok r = volume.no-new-flags s ok c r
 no-new-flags s (put_in directory serial time bytes) ok r = put-no-new s directory serial time bytes ok r
 
 pub flags-stay : (s : List ℕ) (c : Change) → check s ≡ 0 → refusal s c ≡ 0
-    → (path : List ℕ) (f g : File) → fileAt s path ≡ just g → fileAt (after s c) path ≡ just f → c ≢ clearFlags path → f.flags ≡ g.flags
+    → (path : List ℕ) (f g : File) → file_at s path ≡ just g → file_at (after s c) path ≡ just f → c ≢ clear_flags path → f.flags ≡ g.flags
 unfolding refusal after
 flags-stay s (plain c) ok r path f g was now ne = volume.flags-stay s ok c r path f g was now (λ z. ne (ap plain z))
 flags-stay s (put_in directory serial time bytes) ok r path f g was now ne = put-flags-stay s directory serial time bytes ok r path f g was now

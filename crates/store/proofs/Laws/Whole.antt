@@ -11,7 +11,7 @@ use lib.Dec.{eqb, leb}
 use lib.Seq.{drop-drop, get_or-drop, get_or-take}
 use Rattle.layout.specs.Lists.{within, every, joined}
 use Rattle.layout.specs.Bytes.{be32, bytes4, zeros, part}
-use Rattle.store.specs.Settings.{maxSetting, maxRevisions, Revision, recordBytes, wholeFile, encoded, broken, held, recordsIn, revisions}
+use Rattle.store.specs.Settings.{max_setting, max_revisions, Revision, record_bytes, whole_file, encoded, broken, held, records_in, revisions}
 use Rattle.store.specs.Claims.{Bytes}
 use Rattle.store.proofs.Laws.Added.{not-broken, held-cond, held_none, held-before, held-numbered}
 use Rattle.layout.proofs.Laws.Tests.{and_split, within-split, lt-or-ge}
@@ -41,8 +41,8 @@ pub bytes_drop : (n : ℕ) (xs : List ℕ) → Bytes xs → Bytes (drop n xs)
 bytes_drop n xs small i = rw get_or-drop (small (n + i))
 
 one-back : (xs : List ℕ) → Bytes xs → 5 + get_or xs 0 0 ≤ length xs
-    → recordBytes (record { number = be32 xs 1; bytes = part xs 5 (get_or xs 0 0) }) ++ drop (5 + get_or xs 0 0) xs ≡ xs
-unfolding recordBytes
+    → record_bytes (record { number = be32 xs 1; bytes = part xs 5 (get_or xs 0 0) }) ++ drop (5 + get_or xs 0 0) xs ≡ xs
+unfolding record_bytes
 one-back xs small h =
     let k : ℕ = get_or xs 0 0 in
     let l : length (part xs 5 (get_or xs 0 0)) ≡ get_or xs 0 0 = simp (length-take, length-drop) (omega arith) in
@@ -53,17 +53,17 @@ no_length : (xs : List ℕ) → length xs ≡ 0 → xs ≡ []
 no_length [] q = refl
 no_length (x ∷ xs) q = absurd (omega arith)
 
-pub records-whole : (fuel : ℕ) (xs : List ℕ) (rs : List Revision) → Bytes xs → recordsIn fuel xs ≡ held rs → joined recordBytes rs ≡ xs
-unfolding recordsIn
+pub records-whole : (fuel : ℕ) (xs : List ℕ) (rs : List Revision) → Bytes xs → records_in fuel xs ≡ held rs → joined record_bytes rs ≡ xs
+unfolding records_in
 records-whole zero xs rs small q =
-    ⊎_elim (λ z. ap (joined recordBytes) z.0 ∙ sym (no_length xs (eqb-true _ _ z.1))) (λ z. absurd (not-broken rs z)) (held_none (eqb (length xs) 0) broken rs q)
+    ⊎_elim (λ z. ap (joined record_bytes) z.0 ∙ sym (no_length xs (eqb-true _ _ z.1))) (λ z. absurd (not-broken rs z)) (held_none (eqb (length xs) 0) broken rs q)
 records-whole (suc fuel) xs rs small q =
-    ⊎_elim (λ z. ap (joined recordBytes) z.0 ∙ sym (no_length xs (eqb-true _ _ z.1))) (λ z.
-    let w = held-cond (leb (get_or xs 0 0) maxSetting && leb (5 + get_or xs 0 0) (length xs)) _ rs z in
-    let s = leb-true (5 + get_or xs 0 0) (length xs) (and_split (leb (get_or xs 0 0) maxSetting) _ w.0).1 in
-    let b = held-before (record { number = be32 xs 1; bytes = part xs 5 (get_or xs 0 0) }) (recordsIn fuel (drop (5 + get_or xs 0 0) xs)) rs w.1 in
+    ⊎_elim (λ z. ap (joined record_bytes) z.0 ∙ sym (no_length xs (eqb-true _ _ z.1))) (λ z.
+    let w = held-cond (leb (get_or xs 0 0) max_setting && leb (5 + get_or xs 0 0) (length xs)) _ rs z in
+    let s = leb-true (5 + get_or xs 0 0) (length xs) (and_split (leb (get_or xs 0 0) max_setting) _ w.0).1 in
+    let b = held-before (record { number = be32 xs 1; bytes = part xs 5 (get_or xs 0 0) }) (records_in fuel (drop (5 + get_or xs 0 0) xs)) rs w.1 in
     let ih = records-whole fuel (drop (5 + get_or xs 0 0) xs) b.0 (bytes_drop (5 + get_or xs 0 0) xs small) b.1 in
-    ap (joined recordBytes) b.2 ∙ ap (λ (ys : List ℕ). recordBytes (record { number = be32 xs 1; bytes = part xs 5 (get_or xs 0 0) }) ++ ys) ih ∙ one-back xs small s)
+    ap (joined record_bytes) b.2 ∙ ap (λ (ys : List ℕ). record_bytes (record { number = be32 xs 1; bytes = part xs 5 (get_or xs 0 0) }) ++ ys) ih ∙ one-back xs small s)
     (held_none (eqb (length xs) 0) _ rs q)
 
 pub bytes_take : (n : ℕ) (xs : List ℕ) → Bytes xs → Bytes (take n xs)
@@ -87,7 +87,7 @@ module _ (c : List ℕ) (rs : List Revision) (small : Bytes c) (q : revisions c 
     least : 5 ≤ size
     most : size ≤ length c
     ended : every (λ x. eqb x 0) (drop size c) ≡ true
-    read : recordsIn maxRevisions (part c 5 (size - 5)) ≡ held rs
+    read : records_in max_revisions (part c 5 (size - 5)) ≡ held rs
 
   tested : Tested
   unfolding revisions
@@ -96,19 +96,19 @@ module _ (c : List ℕ) (rs : List Revision) (small : Bytes c) (q : revisions c 
       let b = and_split (eqb (get_or c 0 0) 1) _ a.0 in
       let d = and_split (within 5 (length c) (be32 c 1)) _ b.1 in
       let w = within-split 5 (length c) (be32 c 1) d.0 in
-      record { first = eqb-true _ _ b.0; least = w.0; most = w.1; ended = d.1; read = (held-numbered (recordsIn maxRevisions (part c 5 (be32 c 1 - 5))) rs a.1).0 }
+      record { first = eqb-true _ _ b.0; least = w.0; most = w.1; ended = d.1; read = (held-numbered (records_in max_revisions (part c 5 (be32 c 1 - 5))) rs a.1).0 }
 
-  body_is : joined recordBytes rs ≡ take (size - 5) tail
-  body_is = records-whole maxRevisions (part c 5 (size - 5)) rs (bytes_take (size - 5) (drop 5 c) (bytes_drop 5 c small)) tested.read
+  body_is : joined record_bytes rs ≡ take (size - 5) tail
+  body_is = records-whole max_revisions (part c 5 (size - 5)) rs (bytes_take (size - 5) (drop 5 c) (bytes_drop 5 c small)) tested.read
 
-  body-long : 5 + length (joined recordBytes rs) ≡ size
+  body-long : 5 + length (joined record_bytes rs) ≡ size
   body-long = let T = tested in let l = T.least in let m = T.most in rw body_is (simp (length-take, length-drop) (omega arith))
 
-  whole_long : length (wholeFile rs) ≡ size
-  unfolding wholeFile bytes4
+  whole_long : length (whole_file rs) ≡ size
+  unfolding whole_file bytes4
   whole_long = let b = body-long in omega arith
 
-  end_is : zeros (length c - length (wholeFile rs)) ≡ drop (size - 5) tail
+  end_is : zeros (length c - length (whole_file rs)) ≡ drop (size - 5) tail
   end_is =
       let T = tested in
       let l = T.least in
@@ -116,13 +116,13 @@ module _ (c : List ℕ) (rs : List Revision) (small : Bytes c) (q : revisions c 
       let d : drop (size - 5) tail ≡ drop size c = drop-drop (size - 5) 5 c ∙ ap (λ (k : ℕ). drop k c) m in
       rw (whole_long, d) (ap zeros (sym (length-drop size c)) ∙ sym (all-zeros (drop size c) T.ended))
 
-  started : wholeFile rs ++ drop (size - 5) tail ≡ c
-  unfolding wholeFile
+  started : whole_file rs ++ drop (size - 5) tail ≡ c
+  unfolding whole_file
   started =
       let T = tested in
       let l = T.least in
       let m = T.most in
-      rw (body-long, append_assoc (bytes4 size) (joined recordBytes rs) (drop (size - 5) tail), body_is, take-append-drop (size - 5) tail)
+      rw (body-long, append_assoc (bytes4 size) (joined record_bytes rs) (drop (size - 5) tail), body_is, take-append-drop (size - 5) tail)
       (ap (λ (x : ℕ). x ∷ (bytes4 size ++ tail)) (sym T.first) ∙ five c small (omega arith))
 
   pub written-again : encoded rs (length c) ≡ c

@@ -9,23 +9,23 @@ use lib.ListN.{length, get_or, drop}
 use lib.Dec.{eqb, leb}
 use Rattle.layout.specs.Lists.{within, every}
 use Rattle.layout.specs.Refusals.{require}
-use Rattle.layout.specs.Geometry.{blockCount}
-use Rattle.layout.specs.Table.{next, freeBlocks}
+use Rattle.layout.specs.Geometry.{block_count}
+use Rattle.layout.specs.Table.{next, free_blocks}
 use Rattle.layout.specs.Bytes.{be32}
-use Rattle.layout.specs.Directory.{isFile, content}
+use Rattle.layout.specs.Directory.{is_file, content}
 use Rattle.layout.specs.Check.{check}
-use Rattle.layout.specs.Paths.{fileRefusal}
+use Rattle.layout.specs.Paths.{file_refusal}
 use Rattle.layout.specs.Walks.Looks.{Located}
 use Rattle.layout.specs.Walks.Slots as slots
-use Rattle.volume.specs.Create.{placeRefusal}
-use Rattle.volume.specs.Write.{writeAt, writeNamed, writeAtRefusal}
+use Rattle.volume.specs.Create.{place_refusal}
+use Rattle.volume.specs.Write.{write_at, write_named, write_at_refusal}
 use Rattle.volume.specs.Walks.Places.{Searched}
 use Rattle.volume.specs.Walks.Targets.{Standing}
-use Rattle.store.specs.Settings.{maxSetting, Revision, Found, broken, held, revisions, latest}
-use Rattle.store.specs.Put.{pathOf, isThere, putImage, putNamed, putRevision, formRefusal, putRefusal}
-use Rattle.store.specs.Walks.Puts.{held_at, rewrittenAt, moreRefusal, firstRefusal, Weighed, PutTarget, PutPrepared}
+use Rattle.store.specs.Settings.{max_setting, Revision, Found, broken, held, revisions, latest}
+use Rattle.store.specs.Put.{path_of, is_there, put_image, put_named, put_revision, form_refusal, put_refusal}
+use Rattle.store.specs.Walks.Puts.{held_at, rewritten_at, more_refusal, first_refusal, Weighed, PutTarget, PutPrepared}
 use Rattle.store.specs.Walks.Addresses.{Addressed}
-use Rattle.layout.proofs.Laws.Tests.{and_split, within-split, firstOf-zero, firstOf-refused, true-not-false}
+use Rattle.layout.proofs.Laws.Tests.{and_split, within-split, first_of-zero, first_of-refused, true-not-false}
 use Rattle.layout.proofs.Laws.Sound.{sound}
 use Rattle.layout.proofs.Laws.Owners.{free-count}
 use Rattle.volume.proofs.Laws.Effects.{content-length}
@@ -36,38 +36,38 @@ use Rattle.store.proofs.Walks.Refusals.{there-refusal, there-opened, there-entry
 
 -- the refusal of a put to a file, by what was found out of it
 module _ {s : List ℕ} {e : ℕ} {bytes : List ℕ} {number size : ℕ} (W : Weighed s e bytes number size) where
-  pub more-refused : (number ≡ 0 → ⊥) → number ≡ moreRefusal s e bytes
-  unfolding moreRefusal
-  more-refused h = sym (rw (← W.number_is) (firstOf-refused number (writeAtRefusal s e 0 (length (rewrittenAt s e bytes))) h))
+  pub more-refused : (number ≡ 0 → ⊥) → number ≡ more_refusal s e bytes
+  unfolding more_refusal
+  more-refused h = sym (rw (← W.number_is) (first_of-refused number (write_at_refusal s e 0 (length (rewritten_at s e bytes))) h))
 
-  pub more-written : number ≡ 0 → (w : ℕ) → w ≡ writeAtRefusal s e 0 size → w ≡ moreRefusal s e bytes
-  unfolding moreRefusal
+  pub more-written : number ≡ 0 → (w : ℕ) → w ≡ write_at_refusal s e 0 size → w ≡ more_refusal s e bytes
+  unfolding more_refusal
   more-written z w q = q ∙ sym (rw (← W.number_is, z, W.size_is z))
 
   -- of an accepted one
-  pub more-weighed : moreRefusal s e bytes ≡ 0 → (number ≡ 0) × (writeAtRefusal s e 0 size ≡ 0)
-  unfolding moreRefusal
+  pub more-weighed : more_refusal s e bytes ≡ 0 → (number ≡ 0) × (write_at_refusal s e 0 size ≡ 0)
+  unfolding more_refusal
   more-weighed r =
-      let a = firstOf-zero (formRefusal (revisions (content s e))) _ r in
+      let a = first_of-zero (form_refusal (revisions (content s e))) _ r in
       let z : number ≡ 0 = W.number_is ∙ a.0 in
-      (z, ap (writeAtRefusal s e 0) (W.size_is z) ∙ a.1)
+      (z, ap (write_at_refusal s e 0) (W.size_is z) ∙ a.1)
 
 -- the place of a first put, by the place found and the free blocks
-module _ (s path : List ℕ) (ok : check s ≡ 0) {n h slot b : ℕ} (S : Searched s path (placeRefusal s path) n h slot b) where
-  pub first-refused : (n ≡ 0 → ⊥) → (r h' slot' b' : ℕ) → r ≡ n → Searched s path (firstRefusal s path) r h' slot' b'
-  unfolding firstRefusal
+module _ (s path : List ℕ) (ok : check s ≡ 0) {n h slot b : ℕ} (S : Searched s path (place_refusal s path) n h slot b) where
+  pub first-refused : (n ≡ 0 → ⊥) → (r h' slot' b' : ℕ) → r ≡ n → Searched s path (first_refusal s path) r h' slot' b'
+  unfolding first_refusal
   first-refused ne r h' slot' b' q =
-      record { number_is = q ∙ sym (rw (← S.number_is) (firstOf-refused n (require (leb 1 (length (freeBlocks (next s) (blockCount s)))) 14 0) ne)); vacant = λ z. absurd (ne (sym q ∙ z)) }
+      record { number_is = q ∙ sym (rw (← S.number_is) (first_of-refused n (require (leb 1 (length (free_blocks (next s) (block_count s)))) 14 0) ne)); vacant = λ z. absurd (ne (sym q ∙ z)) }
 
   module _ (z : n ≡ 0) (free : ℕ) (f : free ≡ be32 s 24) where
-    by-free : firstRefusal s path ≡ require (leb 1 free) 14 0
-    unfolding firstRefusal
+    by-free : first_refusal s path ≡ require (leb 1 free) 14 0
+    unfolding first_refusal
     by-free = rw (← S.number_is, z, free-count s (sound s ok), ← f)
 
-    pub first-none : free < 1 → (r h' slot' b' : ℕ) → r ≡ 14 → Searched s path (firstRefusal s path) r h' slot' b'
+    pub first-none : free < 1 → (r h' slot' b' : ℕ) → r ≡ 14 → Searched s path (first_refusal s path) r h' slot' b'
     first-none few r h' slot' b' q = record { number_is = q ∙ sym (by-free ∙ rw (lt-leb 1 free few)); vacant = λ y. absurd (omega arith) }
 
-    pub first-place : 1 ≤ free → Searched s path (firstRefusal s path) 0 h slot b
+    pub first-place : 1 ≤ free → Searched s path (first_refusal s path) 0 h slot b
     first-place some = record { number_is = sym (by-free ∙ rw (le-leb 1 free some)); vacant = λ y. S.vacant z }
 
 -- a file of the form has bytes
@@ -79,20 +79,20 @@ held-long c rs q =
     let w = within-split 5 (length c) (be32 c 1) (and_split (within 5 (length c) (be32 c 1)) _ b.1).0 in
     omega (arith, w.0, w.1)
 
-form-long : (c : List ℕ) → formRefusal (revisions c) ≡ 0 → 5 ≤ length c
+form-long : (c : List ℕ) → form_refusal (revisions c) ≡ 0 → 5 ≤ length c
 form-long c z = go (revisions c) refl z
   where
-    go : (x : Found) → revisions c ≡ x → formRefusal x ≡ 0 → 5 ≤ length c
+    go : (x : Found) → revisions c ≡ x → form_refusal x ≡ 0 → 5 ≤ length c
     go broken q y = absurd (omega arith)
     go (held rs) q y = held-long c rs q
 
 module _ (s directory serial : List ℕ) (time : ℕ) (bytes : List ℕ) where
-  pub prepared-refused : (number slot b first size blocks : ℕ) → number ≡ putRefusal s directory serial time bytes → (number ≡ 0 → ⊥) → PutPrepared s directory serial time bytes number slot b first size blocks
+  pub prepared-refused : (number slot b first size blocks : ℕ) → number ≡ put_refusal s directory serial time bytes → (number ≡ 0 → ⊥) → PutPrepared s directory serial time bytes number slot b first size blocks
   prepared-refused number slot b first size blocks q h = record { number_is = q; target = λ z. absurd (h z) }
 
-  module _ (right : Addressed directory serial) (short : length bytes ≤ maxSetting) (ok : check s ≡ 0) where
+  module _ (right : Addressed directory serial) (short : length bytes ≤ max_setting) (ok : check s ≡ 0) where
     -- there is no file
-    pub prepared-first : isThere s directory serial ≡ false → (number slot b first size blocks : ℕ) → Searched s (pathOf directory serial) (firstRefusal s (pathOf directory serial)) number first slot b → size ≡ 0
+    pub prepared-first : is_there s directory serial ≡ false → (number slot b first size blocks : ℕ) → Searched s (path_of directory serial) (first_refusal s (path_of directory serial)) number first slot b → size ≡ 0
         → PutPrepared s directory serial time bytes number slot b first size blocks
     prepared-first absent number slot b first size blocks S z =
         record {
@@ -101,18 +101,18 @@ module _ (s directory serial : List ℕ) (time : ℕ) (bytes : List ℕ) where
         }
 
     -- there is one
-    module _ (there : isThere s directory serial ≡ true) {slot b first size blocks : ℕ} (L : Located isFile s (pathOf directory serial) slot b first size blocks) where
-      pub there-more : putRefusal s directory serial time bytes ≡ moreRefusal s (slots.entry_at b slot) bytes
-      there-more = there-refusal s directory serial time bytes right short there ∙ ap (λ (x : ℕ). moreRefusal s x bytes) (sym L.place)
+    module _ (there : is_there s directory serial ≡ true) {slot b first size blocks : ℕ} (L : Located is_file s (path_of directory serial) slot b first size blocks) where
+      pub there-more : put_refusal s directory serial time bytes ≡ more_refusal s (slots.entry_at b slot) bytes
+      there-more = there-refusal s directory serial time bytes right short there ∙ ap (λ (x : ℕ). more_refusal s x bytes) (sym L.place)
 
-      some : moreRefusal s (slots.entry_at b slot) bytes ≡ 0 → 0 < size
-      unfolding moreRefusal
+      some : more_refusal s (slots.entry_at b slot) bytes ≡ 0 → 0 < size
+      unfolding more_refusal
       some r =
-          let f = (firstOf-zero (formRefusal (revisions (content s (slots.entry_at b slot)))) _ r).0 in
-          let l : length (content s (slots.entry_at b slot)) ≡ size = rw L.place (content-length s (pathOf directory serial) ok (there-accepted s directory serial right there)) ∙ sym L.bytes in
+          let f = (first_of-zero (form_refusal (revisions (content s (slots.entry_at b slot)))) _ r).0 in
+          let l : length (content s (slots.entry_at b slot)) ≡ size = rw L.place (content-length s (path_of directory serial) ok (there-accepted s directory serial right there)) ∙ sym L.bytes in
           omega (arith, form-long (content s (slots.entry_at b slot)) f, l)
 
-      pub prepared-more : (number : ℕ) → number ≡ 0 → 0 ≡ moreRefusal s (slots.entry_at b slot) bytes → PutPrepared s directory serial time bytes number slot b first size blocks
+      pub prepared-more : (number : ℕ) → number ≡ 0 → 0 ≡ more_refusal s (slots.entry_at b slot) bytes → PutPrepared s directory serial time bytes number slot b first size blocks
       prepared-more number z r =
           record {
             number_is = z ∙ r ∙ sym there-more;
@@ -121,47 +121,47 @@ module _ (s directory serial : List ℕ) (time : ℕ) (bytes : List ℕ) where
 
 -- AN ACCEPTED PUT, by the size that was found
 module _ {s directory serial : List ℕ} {slot b first size blocks : ℕ} (T : PutTarget s directory serial slot b first size blocks) where
-  pub target-absent : size ≡ 0 → isThere s directory serial ≡ false
-  target-absent z = go (isThere s directory serial) refl
+  pub target-absent : size ≡ 0 → is_there s directory serial ≡ false
+  target-absent z = go (is_there s directory serial) refl
     where
-      go : (x : Bool) → isThere s directory serial ≡ x → x ≡ false
+      go : (x : Bool) → is_there s directory serial ≡ x → x ≡ false
       go true q = absurd (omega (arith, (T.file q).1))
       go false q = refl
 
-  pub target-there : (size ≡ 0 → ⊥) → isThere s directory serial ≡ true
-  target-there h = go (isThere s directory serial) refl
+  pub target-there : (size ≡ 0 → ⊥) → is_there s directory serial ≡ true
+  target-there h = go (is_there s directory serial) refl
     where
-      go : (x : Bool) → isThere s directory serial ≡ x → x ≡ true
+      go : (x : Bool) → is_there s directory serial ≡ x → x ≡ true
       go true q = refl
       go false q = absurd (h (T.place q).1)
 
-  module _ (time : ℕ) (bytes : List ℕ) (ok : check s ≡ 0) (r : putRefusal s directory serial time bytes ≡ 0) (some : size ≡ 0 → ⊥) where
+  module _ (time : ℕ) (bytes : List ℕ) (ok : check s ≡ 0) (r : put_refusal s directory serial time bytes ≡ 0) (some : size ≡ 0 → ⊥) where
     right : Addressed directory serial
     right = put-serial s directory serial time bytes ok r
 
-    there : isThere s directory serial ≡ true
+    there : is_there s directory serial ≡ true
     there = target-there some
 
-    L : Located isFile s (pathOf directory serial) slot b first size blocks
+    L : Located is_file s (path_of directory serial) slot b first size blocks
     L = (T.file there).0
 
-    pub target-short : length bytes ≤ maxSetting
+    pub target-short : length bytes ≤ max_setting
     target-short = put-short s directory serial time bytes ok r
 
-    pub target-standing : Standing s (fileRefusal s) slot b first size blocks
-    target-standing = record { path = pathOf directory serial; accepted = there-accepted s directory serial right there; located = L }
+    pub target-standing : Standing s (file_refusal s) slot b first size blocks
+    target-standing = record { path = path_of directory serial; accepted = there-accepted s directory serial right there; located = L }
 
-    pub target-given : moreRefusal s (slots.entry_at b slot) bytes ≡ 0
+    pub target-given : more_refusal s (slots.entry_at b slot) bytes ≡ 0
     target-given = sym (there-more s directory serial time bytes right target-short ok there L) ∙ r
 
-    pub target-named : writeNamed s (slots.entry_at b slot) 0 (length (rewrittenAt s (slots.entry_at b slot) bytes)) ≡ putNamed s directory serial time bytes
-    unfolding putNamed
+    pub target-named : write_named s (slots.entry_at b slot) 0 (length (rewritten_at s (slots.entry_at b slot) bytes)) ≡ put_named s directory serial time bytes
+    unfolding put_named
     target-named = rw (L.place, there-rewritten s directory serial time bytes right target-short there, there-entry s directory serial time bytes right target-short there, there-opened s directory serial time bytes right target-short there)
 
-    pub target-image : writeAt s (slots.entry_at b slot) 0 (rewrittenAt s (slots.entry_at b slot) bytes) time ≡ putImage s directory serial time bytes
-    unfolding putImage
+    pub target-image : write_at s (slots.entry_at b slot) 0 (rewritten_at s (slots.entry_at b slot) bytes) time ≡ put_image s directory serial time bytes
+    unfolding put_image
     target-image = rw (L.place, there-rewritten s directory serial time bytes right target-short there, there-entry s directory serial time bytes right target-short there, there-opened s directory serial time bytes right target-short there)
 
-    pub target-revision : suc (latest (held_at s (slots.entry_at b slot))) ≡ putRevision s directory serial
-    unfolding putRevision
+    pub target-revision : suc (latest (held_at s (slots.entry_at b slot))) ≡ put_revision s directory serial
+    unfolding put_revision
     target-revision = rw (L.place, there-stored s directory serial time bytes right target-short there)

@@ -10,15 +10,15 @@ use borrow.Author.Tests.{le-ltb}
 use lib.ListN.{length}
 use lib.Dec.{eqb}
 use Rattle.layout.specs.Refusals.{require}
-use Rattle.layout.specs.Geometry.{blocksFor}
-use Rattle.layout.specs.Directory.{size_of, blocksOf, attributeSize, isFile, content, attributes}
+use Rattle.layout.specs.Geometry.{blocks_for}
+use Rattle.layout.specs.Directory.{size_of, blocks_of, attribute_size_of, is_file, content, attributes}
 use Rattle.layout.specs.Check.{check}
-use Rattle.layout.specs.Paths.{parts, pathOk, leading, shallow, pathSlot, entry_of, fileRefusal}
-use Rattle.layout.specs.Looks.{lookupRefusal, lookup, readRefusal, read, extentOf, lookInPlace, readAttributes}
-use Rattle.volume.specs.Views.{File, fileOf, fileAt}
+use Rattle.layout.specs.Paths.{parts, path_ok, leading, shallow, path_slot, entry_of, file_refusal}
+use Rattle.layout.specs.Looks.{lookup_refusal, lookup, read_refusal, read, extent_of, look_in_place, read_attributes}
+use Rattle.volume.specs.Views.{File, file_of, file_at}
 use Rattle.volume.proofs.Laws.Views.{file-shown, shown-accepted}
 use Rattle.volume.proofs.Laws.Effects.{content-length, attributes-blocks}
-use Rattle.volume.proofs.Laws.Shown.{fileIn}
+use Rattle.volume.proofs.Laws.Shown.{file_in}
 use Rattle.layout.proofs.Laws.Tests.{lt-or-ge}
 use Rattle.layout.proofs.Laws.Looks.{lookup-file, look-content}
 
@@ -31,64 +31,64 @@ refused-alike true true false false h k = refl
 refused-alike true true true u h k = absurd (h refl)
 refused-alike true true false true h k = absurd (k refl)
 
-module _ (s s' path : List ℕ) (ok : check s ≡ 0) (ok' : check s' ≡ 0) (shows : fileAt s path ≡ fileAt s' path) where
+module _ (s s' path : List ℕ) (ok : check s ≡ 0) (ok' : check s' ≡ 0) (shows : file_at s path ≡ file_at s' path) where
   abbrev e : ℕ
-  e = entry_of isFile s path
+  e = entry_of is_file s path
 
   abbrev e' : ℕ
-  e' = entry_of isFile s' path
+  e' = entry_of is_file s' path
 
   -- the file that both show
   record Both : Type 0 where
-    found : lookupRefusal s path ≡ 0
-    found' : lookupRefusal s' path ≡ 0
+    found : lookup_refusal s path ≡ 0
+    found' : lookup_refusal s' path ≡ 0
     bytes : content s e ≡ content s' e'
     size : size_of s e ≡ size_of s' e'
-    blocks : blocksOf s e ≡ blocksOf s' e'
+    blocks : blocks_of s e ≡ blocks_of s' e'
     attributes-same : attributes s e ≡ attributes s' e'
-    attribute-size : attributeSize s e ≡ attributeSize s' e'
+    attribute-size : attribute_size_of s e ≡ attribute_size_of s' e'
 
-  both : fileRefusal s path ≡ 0 → Both
-  unfolding lookupRefusal fileOf
+  both : file_refusal s path ≡ 0 → Both
+  unfolding lookup_refusal file_of
   both r =
       let r' = shown-accepted s' path _ (sym shows ∙ file-shown s path r) in
-      let q : fileOf s e ≡ fileOf s' e' = ap (fileIn (fileOf s e)) (sym (file-shown s path r) ∙ shows ∙ file-shown s' path r') in
+      let q : file_of s e ≡ file_of s' e' = ap (file_in (file_of s e)) (sym (file-shown s path r) ∙ shows ∙ file-shown s' path r') in
       let b : content s e ≡ content s' e' = ap (λ (f : File). f.bytes) q in
       let a : attributes s e ≡ attributes s' e' = ap (λ (f : File). f.attributes) q in
       let l : size_of s e ≡ size_of s' e' = sym (content-length s path ok r) ∙ ap length b ∙ content-length s' path ok' r' in
-      let o : lookupRefusal s path ≡ 0 = rw (ok, r) in
-      let o' : lookupRefusal s' path ≡ 0 = rw (ok', r') in
+      let o : lookup_refusal s path ≡ 0 = rw (ok, r) in
+      let o' : lookup_refusal s' path ≡ 0 = rw (ok', r') in
       record {
         found = o;
         found' = o';
         bytes = b;
         size = l;
-        blocks = (lookup-file s path o).blocks ∙ ap blocksFor l ∙ sym (lookup-file s' path o').blocks;
+        blocks = (lookup-file s path o).blocks ∙ ap blocks_for l ∙ sym (lookup-file s' path o').blocks;
         attributes-same = a;
         attribute-size = sym (attributes-blocks s path ok r) ∙ ap (λ (x : List ℕ). length x / 512) a ∙ attributes-blocks s' path ok' r';
       }
 
   -- the number with which both refuse
-  numbers : fileRefusal s path ≢ 0 → fileRefusal s' path ≢ 0 → fileRefusal s path ≡ fileRefusal s' path
-  unfolding fileRefusal
-  numbers n m = refused-alike (pathOk path) (shallow (leading (parts path))) (not (eqb (pathSlot isFile s path) 0)) (not (eqb (pathSlot isFile s' path) 0)) n m
+  numbers : file_refusal s path ≢ 0 → file_refusal s' path ≢ 0 → file_refusal s path ≡ file_refusal s' path
+  unfolding file_refusal
+  numbers n m = refused-alike (path_ok path) (shallow (leading (parts path))) (not (eqb (path_slot is_file s path) 0)) (not (eqb (path_slot is_file s' path) 0)) n m
 
   record Neither : Type 0 where
     number : ℕ
-    refused : lookupRefusal s path ≡ suc number
-    refused' : lookupRefusal s' path ≡ suc number
+    refused : lookup_refusal s path ≡ suc number
+    refused' : lookup_refusal s' path ≡ suc number
 
-  neither : (k : ℕ) → fileRefusal s path ≡ suc k → Neither
-  unfolding lookupRefusal
+  neither : (k : ℕ) → file_refusal s path ≡ suc k → Neither
+  unfolding lookup_refusal
   neither k r =
-      let n : fileRefusal s path ≢ 0 = λ z. suc-ne-zero k (sym r ∙ z) in
+      let n : file_refusal s path ≢ 0 = λ z. suc-ne-zero k (sym r ∙ z) in
       let q = numbers n (λ z. n (shown-accepted s path _ (shows ∙ file-shown s' path z))) in
       record { number = k; refused = rw (ok, r); refused' = rw (ok', sym q ∙ r) }
 
   either : Both ⊎ Neither
-  either = go (fileRefusal s path) refl
+  either = go (file_refusal s path) refl
     where
-      go : (k : ℕ) → fileRefusal s path ≡ k → Both ⊎ Neither
+      go : (k : ℕ) → file_refusal s path ≡ k → Both ⊎ Neither
       go zero r = inl (both r)
       go (suc k) r = inr (neither k r)
 
@@ -101,26 +101,26 @@ module _ (s s' path : List ℕ) (ok : check s ≡ 0) (ok' : check s' ≡ 0) (sho
       go (inr N) = (rw (N.refused, N.refused'), rw (N.refused, N.refused'), rw (N.refused, N.refused'))
 
   pub read_alike : (offset : ℕ) (buffer : List ℕ) → read s path offset buffer ≡ read s' path offset buffer
-  unfolding read readRefusal
+  unfolding read read_refusal
   read_alike offset buffer = go either
     where
       go : Both ⊎ Neither → read s path offset buffer ≡ read s' path offset buffer
       go (inl B) = rw (B.found, B.found', B.size, B.bytes)
       go (inr N) = rw (N.refused, N.refused')
 
-  pub attributes-alike : (buffer : List ℕ) → readAttributes s path buffer ≡ readAttributes s' path buffer
-  unfolding readAttributes
+  pub attributes-alike : (buffer : List ℕ) → read_attributes s path buffer ≡ read_attributes s' path buffer
+  unfolding read_attributes
   attributes-alike buffer = go either
     where
-      go : Both ⊎ Neither → readAttributes s path buffer ≡ readAttributes s' path buffer
+      go : Both ⊎ Neither → read_attributes s path buffer ≡ read_attributes s' path buffer
       go (inl B) = rw (B.found, B.found', B.attribute-size, B.attributes-same)
       go (inr N) = rw (N.refused, N.refused')
 
-  pub look-alike : (i : ℕ) → lookInPlace s path i ≡ lookInPlace s' path i
-  unfolding lookInPlace extentOf
-  look-alike i = go either (lt-or-ge i (blocksOf s e))
+  pub look-alike : (i : ℕ) → look_in_place s path i ≡ look_in_place s' path i
+  unfolding look_in_place extent_of
+  look-alike i = go either (lt-or-ge i (blocks_of s e))
     where
-      go : Both ⊎ Neither → (i < blocksOf s e) ⊎ (blocksOf s e ≤ i) → lookInPlace s path i ≡ lookInPlace s' path i
+      go : Both ⊎ Neither → (i < blocks_of s e) ⊎ (blocks_of s e ≤ i) → look_in_place s path i ≡ look_in_place s' path i
       go (inl B) (inl h) = look-content s path i B.found h ∙ rw (B.size, B.bytes) (sym (look-content s' path i B.found' (omega (arith, B.blocks))))
-      go (inl B) (inr h) = rw (B.found, B.found', B.blocks, le-ltb i (blocksOf s' e') (omega (arith, B.blocks)))
+      go (inl B) (inr h) = rw (B.found, B.found', B.blocks, le-ltb i (blocks_of s' e') (omega (arith, B.blocks)))
       go (inr N) w = rw (N.refused, N.refused')

@@ -6,14 +6,14 @@ use mathlib.Core.List.{List}
 use mathlib.Core.Logic.{inl, inr, ⊎_elim, ◌≢◌, ◌⊎◌}
 use native.Mathlib.Omega.{arith}
 use lib.ListN.{length}
-use Rattle.layout.specs.Limits.{maxLevels}
+use Rattle.layout.specs.Limits.{max_levels}
 use Rattle.layout.specs.Bytes.{be32, bytes4, part, splice, block}
-use Rattle.layout.specs.Directory.{slot_at, type_of, firstBlock, isFree, isFile, isDirectory, padded, name_of, goodName, directory, dirs, freeSlot}
-use Rattle.layout.specs.Check.{noAttributes, attributesOk, fileOk, slotOk, check}
-use Rattle.layout.specs.Paths.{parts, leading, lastPart, home}
-use Rattle.volume.specs.Entries.{entryBytes}
-use Rattle.volume.specs.Create.{createRefusal, createImage}
-use Rattle.volume.proofs.Laws.Entries.{entry-type, entry_first, entry-size, entry-blocks, entry-attribute, entry-attribute-size, entry_named, entry_length}
+use Rattle.layout.specs.Directory.{slot_at, type_of, first_block, is_free, is_file, is_directory, padded, name_of, good_name, directory, dirs, free_slot}
+use Rattle.layout.specs.Check.{no_attributes, attributes_ok, file_ok, slot_ok, check}
+use Rattle.layout.specs.Paths.{parts, leading, last_part, home}
+use Rattle.volume.specs.Entries.{entry_bytes}
+use Rattle.volume.specs.Create.{create_refusal, create_image}
+use Rattle.volume.proofs.Laws.Entries.{entry-type, entry_first, entry-size, entry-blocks, entry-attribute, entry-attribute-size, entry-named, entry_length}
 use Rattle.volume.proofs.Laws.Places.{create-given, path-name, place_is, place-home, place-free, place-new}
 use Rattle.layout.proofs.Laws.Bytes.{length-splice}
 use Rattle.layout.proofs.Laws.Tests.{is_false, within-split}
@@ -23,24 +23,24 @@ use Rattle.layout.proofs.Laws.Frames.{same_beside, Same, before-next}
 use Rattle.layout.proofs.Laws.Trees.{size_at}
 use Rattle.layout.proofs.Laws.Sound.{held_at, own_held, second-held, Sound, Entry, Owner, sound, check-zero}
 use Rattle.layout.proofs.Laws.Slots.{slot-entry, right-dir, entry-high, entry-low}
-use Rattle.layout.proofs.Laws.Owners.{blocksAt, file-held, none-held, none-second, entry-elsewhere, block-below, block-outside}
-use Rattle.layout.proofs.Laws.Visits.{dirBlocks}
+use Rattle.layout.proofs.Laws.Owners.{blocks_at, file-held, none-held, none-second, entry-elsewhere, block-below, block-outside}
+use Rattle.layout.proofs.Laws.Visits.{dir_blocks}
 use Rattle.layout.proofs.Laws.Changed.{OneSlot}
 use Rattle.layout.specs.Table.{next}
-use Rattle.layout.specs.Geometry.{blockCount, rootBlock}
+use Rattle.layout.specs.Geometry.{block_count, root_block}
 use Rattle.layout.proofs.Laws.Steps.{midway_start, midway-own, one-slot}
 
 -- a good name in a free slot k of a directory d of the tree, in which no slot has that name
 module _ (s : List ℕ) (S : Sound s) (d : ℕ × ℕ) (di : In d (dirs s)) (k : ℕ) (k₁ : 1 ≤ k) (k₂ : k < 4 * size_at s d.0 - 1) (free : type_of s (slot_at (directory s d.0) k) ≡ 0)
-    (name : List ℕ) (good : goodName name ≡ true)
+    (name : List ℕ) (good : good_name name ≡ true)
     (none : (j : ℕ) → 1 ≤ j → j < 4 * size_at s d.0 - 1 → type_of s (slot_at (directory s d.0) j) ≢ 0 → name ≢ name_of s (slot_at (directory s d.0) j))
-    (type user group permissions flags time : ℕ) (file : isFile type ≡ true)
+    (type user group permissions flags time : ℕ) (file : is_file type ≡ true)
   where
     abbrev e : ℕ
     e = slot_at (directory s d.0) k
 
     abbrev p : List ℕ
-    p = entryBytes type user group permissions 0 0 0 time flags name
+    p = entry_bytes type user group permissions 0 0 0 time flags name
 
     abbrev done : List ℕ
     done = splice s e p
@@ -64,11 +64,11 @@ module _ (s : List ℕ) (S : Sound s) (d : ℕ × ℕ) (di : In d (dirs s)) (k :
     done-type = entry-type name eighty type user group permissions 0 0 0 time flags s e fits
 
     field : part done (e + 48) 80 ≡ padded name
-    field = entry_named name eighty type user group permissions 0 0 0 time flags s e fits
+    field = entry-named name eighty type user group permissions 0 0 0 time flags s e fits
 
-    slot_ok : slotOk done e ≡ true
-    unfolding slotOk fileOk attributesOk noAttributes be32 bytes4
-    slot_ok =
+    slot-ok : slot_ok done e ≡ true
+    unfolding slot_ok file_ok attributes_ok no_attributes be32 bytes4
+    slot-ok =
         rw (
           name-ok name good done e field,
           done-type,
@@ -79,13 +79,13 @@ module _ (s : List ℕ) (S : Sound s) (d : ℕ × ℕ) (di : In d (dirs s)) (k :
           entry-attribute name eighty type user group permissions 0 0 0 time flags s e fits,
           entry-attribute-size name eighty type user group permissions 0 0 0 time flags s e fits,
         )
-        (or-true (isFree type))
+        (or-true (is_free type))
 
     no_self : (x : ℕ × ℕ) → In x (dirs s) → 512 * x.0 ≢ e
     no_self x i q = let z = (right-dir s S x i).1.self_type in let w : type_of s (512 * x.0) ≡ 0 = ap (type_of s) q ∙ free in omega arith
 
-    no-dir : isDirectory (type_of done e) ≡ false
-    no-dir = rw done-type (is_false (isDirectory type) (λ t. let a = within-split 0x20 0x5F type t in let b = within-split 0x60 0x9F type file in omega arith))
+    no-dir : is_directory (type_of done e) ≡ false
+    no-dir = rw done-type (is_false (is_directory type) (λ t. let a = within-split 0x20 0x5F type t in let b = within-split 0x60 0x9F type file in omega arith))
 
     held_none : held_at s e ≡ 0
     held_none = none-held s e mine.aligned (rw free)
@@ -105,35 +105,35 @@ module _ (s : List ℕ) (S : Sound s) (d : ℕ × ℕ) (di : In d (dirs s)) (k :
 
     pub created-sound : Sound done
     created-sound =
-        midway-own s S d di k k₁ k₂ s (firstBlock s e) (held_at s e) (midway_start s S e (inl mine) no_self) done (length-splice s e p (omega (arith, long, fits))) outside
-        (rw free) no-dir slot_ok (λ u j h g ne used q. none j h g used (sym (name-is name good done e field) ∙ q)) (λ pos. absurd (omega (arith, held_none))) held_new
+        midway-own s S d di k k₁ k₂ s (first_block s e) (held_at s e) (midway_start s S e (inl mine) no_self) done (length-splice s e p (omega (arith, long, fits))) outside
+        (rw free) no-dir slot-ok (λ u j h g ne used q. none j h g used (sym (name-is name good done e field) ∙ q)) (λ pos. absurd (omega (arith, held_none))) held_new
         second-new (λ pos. absurd (omega (arith, second_none)))
 
     -- every other entry stays, and every owner's blocks
     pub created-slot : OneSlot s (dirs s) done e
     created-slot =
-        one-slot s S d di k k₁ k₂ (firstBlock s) (held_at s) e s (firstBlock s e) (held_at s e) (midway_start s S e (inl mine) no_self) done (length-splice s e p (omega (arith, long, fits))) outside
+        one-slot s S d di k k₁ k₂ (first_block s) (held_at s) e s (first_block s e) (held_at s e) (midway_start s S e (inl mine) no_self) done (length-splice s e p (omega (arith, long, fits))) outside
 
-    pub created-no-dir : isDirectory (type_of done e) ≡ false
+    pub created-no-dir : is_directory (type_of done e) ≡ false
     created-no-dir = no-dir
 
     pub created-name : name_of done e ≡ name
     created-name = name-is name good done e field
 
-    module _ (a : ℕ) (A : Owner s a) (q : ℕ) (i : In q (blocksAt s a)) where
+    module _ (a : ℕ) (A : Owner s a) (q : ℕ) (i : In q (blocks_at s a)) where
       pub created-next : next done q ≡ next s q
-      created-next = before-next s done (blockCount s) (outside 0 (512 * rootBlock (blockCount s)) (inl (omega (arith, entry-low s S e mine)))) q (omega (arith, block-below s S a A q i))
+      created-next = before-next s done (block_count s) (outside 0 (512 * root_block (block_count s)) (inl (omega (arith, entry-low s S e mine)))) q (omega (arith, block-below s S a A q i))
 
       pub created-block : ((x : ℕ × ℕ) → In x (dirs s) → a ≢ 512 * x.0) → block done q ≡ block s q
       created-block apart =
           entry-elsewhere s S e mine s done refl (length-splice s e p (omega (arith, long, fits))) outside q (block-below s S a A q i)
-          (λ z. block-outside s S a A apart q i (subst (λ (y : ℕ). In y (dirBlocks s)) z mine.within-tree))
+          (λ z. block-outside s S a A apart q i (subst (λ (y : ℕ). In y (dir_blocks s)) z mine.within-tree))
 
-pub kept-create : (s path : List ℕ) (type user group permissions flags time : ℕ) → check s ≡ 0 → createRefusal s path type flags ≡ 0
-    → check (createImage s path type user group permissions flags time) ≡ 0
-unfolding createImage
+pub kept-create : (s path : List ℕ) (type user group permissions flags time : ℕ) → check s ≡ 0 → create_refusal s path type flags ≡ 0
+    → check (create_image s path type user group permissions flags time) ≡ 0
+unfolding create_image
 kept-create s path type user group permissions flags time c r =
     let G = create-given s path type flags r in
     let w = place-free s path G.placed in
-    rw (place_is s path G.placed) (check-zero _ (created-sound s (sound s c) (home s path, maxLevels - length (leading (parts path))) (place-home s path G.placed G.short)
-    (freeSlot s (directory s (home s path))) w.0 w.1 w.2 (lastPart (parts path)) (path-name path G.good) (place-new s path G.placed) type user group permissions flags time G.file))
+    rw (place_is s path G.placed) (check-zero _ (created-sound s (sound s c) (home s path, max_levels - length (leading (parts path))) (place-home s path G.placed G.short)
+    (free_slot s (directory s (home s path))) w.0 w.1 w.2 (last_part (parts path)) (path-name path G.good) (place-new s path G.placed) type user group permissions flags time G.file))

@@ -9,35 +9,35 @@ use native.Mathlib.Decide.{ℕ_discrete}
 use native.Mathlib.Omega.{arith}
 use lib.ListN.{length, get_or, take}
 use Rattle.layout.specs.Claims.{Inserted, Untouched}
-use Rattle.layout.specs.Limits.{maxLevels, maxDirectory}
+use Rattle.layout.specs.Limits.{max_levels, max_directory}
 use Rattle.layout.specs.Lists.{joined}
 use Rattle.layout.specs.Bytes.{be32, bytes4, bytes8, part, block, zeros, splice}
-use Rattle.layout.specs.Geometry.{blockCount, tableBlocks, rootBlock}
-use Rattle.layout.specs.Table.{next, chain, freeBlocks}
-use Rattle.layout.specs.Directory.{slot_at, type_of, firstBlock, size_of, blocksOf, isFree, isFile, isDirectory, padded, name_of, goodName, directory, dirs, freeSlot}
-use Rattle.layout.specs.Check.{noAttributes, fileOk, directoryEntryOk, slotOk, check}
-use Rattle.layout.specs.Paths.{parts, leading, lastPart, home}
-use Rattle.volume.specs.Entries.{entryBytes, directoryMade, grown, blocksNamed}
-use Rattle.volume.specs.Views.{folderOf}
-use Rattle.volume.specs.Directories.{createDirectoryRefusal, newDirectoryBlocks, createDirectoryImage}
-use Rattle.volume.proofs.Laws.Entries.{entry-type, entry_first, entry-size, entry-blocks, entry-attribute, entry-attribute-size, entry_named, entry_length}
+use Rattle.layout.specs.Geometry.{block_count, table_blocks, root_block}
+use Rattle.layout.specs.Table.{next, chain, free_blocks}
+use Rattle.layout.specs.Directory.{slot_at, type_of, first_block, size_of, blocks_of, is_free, is_file, is_directory, padded, name_of, good_name, directory, dirs, free_slot}
+use Rattle.layout.specs.Check.{no_attributes, file_ok, directory_entry_ok, slot_ok, check}
+use Rattle.layout.specs.Paths.{parts, leading, last_part, home}
+use Rattle.volume.specs.Entries.{entry_bytes, directory_made, grown, blocks_named}
+use Rattle.volume.specs.Views.{folder_of}
+use Rattle.volume.specs.Directories.{create_directory_refusal, new_directory_blocks, create_directory_image}
+use Rattle.volume.proofs.Laws.Entries.{entry-type, entry_first, entry-size, entry-blocks, entry-attribute, entry-attribute-size, entry-named, entry_length}
 use Rattle.volume.proofs.Laws.Places.{create-directory-given, path-levels, path-name, place_is, place-home, place-free, place-new}
 use Rattle.volume.proofs.Laws.Taken.{taken-many, taken-far, taken_none, taken-no-owner, taken-midway, taken-chain}
 use Rattle.volume.proofs.Laws.Data.{grown-zero}
-use Rattle.layout.proofs.Laws.Bytes.{part_same, length-splice, splice-first, be32-bytes4, get_d_part, getD-zeros}
+use Rattle.layout.proofs.Laws.Bytes.{part_same, length-splice, splice-first, be32-bytes4, get_d_part, get_d-zeros}
 use Rattle.layout.proofs.Laws.Tests.{lt-or-gt}
 use Rattle.layout.proofs.Laws.Names.{padded-length, name-is, name-ok}
-use Rattle.layout.proofs.Laws.Lists.{In, getD-in}
+use Rattle.layout.proofs.Laws.Lists.{In, get_d-in}
 use Rattle.layout.proofs.Laws.Frames.{Same, same_then, same_beside, same-below, same-inside, same-be32, before-next, Agree}
 use Rattle.layout.proofs.Laws.Counts.{occupied-most}
 use Rattle.layout.proofs.Laws.Entries.{same-type, same-field, same-name-field}
-use Rattle.layout.proofs.Laws.Chains.{nth, getD-chain, chain-agree, nth-agree, Chain, chain-differ}
-use Rattle.layout.proofs.Laws.Visits.{dirBlocks}
+use Rattle.layout.proofs.Laws.Chains.{nth, get_d-chain, chain-agree, nth-agree, Chain, chain-differ}
+use Rattle.layout.proofs.Laws.Visits.{dir_blocks}
 use Rattle.layout.proofs.Laws.Trees.{size_at, Directory}
 use Rattle.layout.proofs.Laws.Sound.{held_at, Sound, Entry, Owner, sound, check-zero}
 use Rattle.layout.proofs.Laws.Slots.{slot-entry, right-dir, entry-high, entry-low}
 use Rattle.layout.proofs.Laws.Files.{joined-block}
-use Rattle.layout.proofs.Laws.Owners.{blocksAt, Fresh, free-fresh, entry-beside, block-used}
+use Rattle.layout.proofs.Laws.Owners.{blocks_at, Fresh, free-fresh, entry-beside, block-used}
 use Rattle.layout.proofs.Laws.Steps.{over-same, Midway, bytes-step}
 use Rattle.layout.proofs.Laws.Empties.{Empty, OneMore, staying-more, last-slot, directory-made, made-dirs}
 use Rattle.layout.proofs.Laws.Changed.{OneSlot}
@@ -47,13 +47,13 @@ use Rattle.volume.proofs.Laws.Table.{grown-next, grown-used}
 
 -- a free slot k of the directory b₀ of the tree, a good name that none has there, d blocks free
 module _ (s : List ℕ) (S : Sound s) (b₀ j : ℕ) (i₀ : In (b₀, suc j) (dirs s)) (k : ℕ) (k₁ : 1 ≤ k) (k₂ : k < 4 * size_at s b₀ - 1) (free : type_of s (slot_at (directory s b₀) k) ≡ 0)
-    (name : List ℕ) (good : goodName name ≡ true)
+    (name : List ℕ) (good : good_name name ≡ true)
     (none : (i : ℕ) → 1 ≤ i → i < 4 * size_at s b₀ - 1 → type_of s (slot_at (directory s b₀) i) ≢ 0 → name ≢ name_of s (slot_at (directory s b₀) i))
-    (type user group permissions flags time : ℕ) (dir : isDirectory type ≡ true)
-    (d : ℕ) (d₁ : 1 ≤ d) (d₂ : d ≤ maxDirectory) (room : d ≤ length (freeBlocks (next s) (blockCount s)))
+    (type user group permissions flags time : ℕ) (dir : is_directory type ≡ true)
+    (d : ℕ) (d₁ : 1 ≤ d) (d₂ : d ≤ max_directory) (room : d ≤ length (free_blocks (next s) (block_count s)))
   where
     abbrev n : ℕ
-    n = blockCount s
+    n = block_count s
 
     abbrev e : ℕ
     e = slot_at (directory s b₀) k
@@ -62,7 +62,7 @@ module _ (s : List ℕ) (S : Sound s) (b₀ j : ℕ) (i₀ : In (b₀, suc j) (d
     mine = slot-entry s S (b₀, suc j) i₀ k (omega arith)
 
     abbrev new : List ℕ
-    new = take d (freeBlocks (next s) n)
+    new = take d (free_blocks (next s) n)
 
     F : Fresh n (next s) new
     F = free-fresh s S d
@@ -74,9 +74,9 @@ module _ (s : List ℕ) (S : Sound s) (b₀ j : ℕ) (i₀ : In (b₀, suc j) (d
     b₁ = get_or new 0 0
 
     first-in : In b₁ new
-    first-in = getD-in new 0 0 (omega (arith, many))
+    first-in = get_d-in new 0 0 (omega (arith, many))
 
-    far : (x : ℕ) → In x new → In x (dirBlocks s) → ⊥
+    far : (x : ℕ) → In x new → In x (dir_blocks s) → ⊥
     far = taken-far s S d d₁ room
 
     none₁ : Entry s (512 * b₁) → ⊥
@@ -92,23 +92,23 @@ module _ (s : List ℕ) (S : Sound s) (b₀ j : ℕ) (i₀ : In (b₀, suc j) (d
     larger = grown s n 0 new
 
     -- the blocks are taken, as the chain of the new self entry
-    I₁ : Midway s (dirs s) P (firstBlock s) (held_at s) (512 * b₁) larger b₁ d
+    I₁ : Midway s (dirs s) P (first_block s) (held_at s) (512 * b₁) larger b₁ d
     I₁ = taken-midway s S d d₁ room
 
     chained : chain (next larger) b₁ d ≡ new
     chained = taken-chain s S d d₁ room
 
     right₁ : Chain (next larger) n b₁ d
-    right₁ = rw (over-same (512 * b₁) b₁ (firstBlock s), over-same (512 * b₁) d (held_at s)) at (I₁.table.right (512 * b₁) (staying-more s S (512 * b₁) none₂).owner)
+    right₁ = rw (over-same (512 * b₁) b₁ (first_block s), over-same (512 * b₁) d (held_at s)) at (I₁.table.right (512 * b₁) (staying-more s S (512 * b₁) none₂).owner)
 
     abbrev B : ℕ → ℕ
     B x = nth (next larger) x b₁
 
     at_new : (x : ℕ) → x < d → get_or new x 0 ≡ B x
-    at_new x h = ap (λ (l : List ℕ). get_or l x 0) (sym chained) ∙ getD-chain (next larger) b₁ d x h
+    at_new x h = ap (λ (l : List ℕ). get_or l x 0) (sym chained) ∙ get_d-chain (next larger) b₁ d x h
 
     B-in : (x : ℕ) → x < d → In (B x) new
-    B-in x h = rw (at_new x h) at (getD-in new x 0 (omega (arith, many)))
+    B-in x h = rw (at_new x h) at (get_d-in new x 0 (omega (arith, many)))
 
     B-apart : (x y : ℕ) → x < d → y < d → x ≢ y → B x ≢ B y
     B-apart x y hx hy ne q = ⊎_elim
@@ -129,14 +129,14 @@ module _ (s : List ℕ) (S : Sound s) (b₀ j : ℕ) (i₀ : In (b₀, suc j) (d
         let J : List ℕ = joined (block larger) new in
         sym (get_d_part larger (512 * B x) 512 i g) ∙ ap (λ (l : ℕ). get_or (block larger l) i 0) (sym (at_new x h))
         ∙ ap (λ (l : List ℕ). get_or l i 0) (sym (joined-block larger new (λ y m. omega (arith, F.below y m, long-larger)) x (omega (arith, many))))
-        ∙ get_d_part J (512 * x) 512 i g ∙ ap (λ (l : List ℕ). get_or l (512 * x + i) 0) z ∙ getD-zeros (512 * length new) (512 * x + i)
+        ∙ get_d_part J (512 * x) 512 i g ∙ ap (λ (l : List ℕ). get_or l (512 * x + i) 0) z ∙ get_d-zeros (512 * length new) (512 * x + i)
 
     -- the self entry
     eighty : length (padded name) ≡ 80
     eighty = padded-length name good
 
     abbrev p₁ : List ℕ
-    p₁ = entryBytes 1 0 0 0 b₁ b₀ (length new) time 0 name
+    p₁ = entry_bytes 1 0 0 0 b₁ b₀ (length new) time 0 name
 
     long₁ : length p₁ ≡ 128
     long₁ = entry_length name eighty 1 0 0 0 b₁ b₀ (length new) time 0
@@ -150,9 +150,9 @@ module _ (s : List ℕ) (S : Sound s) (b₀ j : ℕ) (i₀ : In (b₀, suc j) (d
     fits₁ : 512 * b₁ + 128 ≤ length larger
     fits₁ = omega (arith, b₁-below, long-larger)
 
-    I₂ : Midway s (dirs s) P (firstBlock s) (held_at s) (512 * b₁) t₁ b₁ d
+    I₂ : Midway s (dirs s) P (first_block s) (held_at s) (512 * b₁) t₁ b₁ d
     I₂ =
-        bytes-step s S (dirs s) P (firstBlock s) (held_at s) (512 * b₁) (staying-more s S (512 * b₁) none₂) larger b₁ d I₁ b₁ (F.above b₁ first-in) b₁-below (far b₁ first-in) (512 * b₁) p₁ (omega arith) (omega (arith, long₁))
+        bytes-step s S (dirs s) P (first_block s) (held_at s) (512 * b₁) (staying-more s S (512 * b₁) none₂) larger b₁ d I₁ b₁ (F.above b₁ first-in) b₁-below (far b₁ first-in) (512 * b₁) p₁ (omega arith) (omega (arith, long₁))
 
     -- the end type
     abbrev last : ℕ
@@ -170,8 +170,8 @@ module _ (s : List ℕ) (S : Sound s) (b₀ j : ℕ) (i₀ : In (b₀, suc j) (d
     abbrev made : List ℕ
     made = splice t₁ last ends
 
-    made-is : directoryMade larger new b₀ time name ≡ made
-    unfolding directoryMade
+    made-is : directory_made larger new b₀ time name ≡ made
+    unfolding directory_made
     made-is = refl
 
     last-in : In (B (d - 1)) new
@@ -183,14 +183,14 @@ module _ (s : List ℕ) (S : Sound s) (b₀ j : ℕ) (i₀ : In (b₀, suc j) (d
     fits₂ : last + length ends ≤ length t₁
     fits₂ = omega (arith, last-is, F.below (B (d - 1)) last-in, I₂.len, S.whole, one_byte)
 
-    I₃ : Midway s (dirs s) P (firstBlock s) (held_at s) (512 * b₁) made b₁ d
+    I₃ : Midway s (dirs s) P (first_block s) (held_at s) (512 * b₁) made b₁ d
     I₃ =
-        bytes-step s S (dirs s) P (firstBlock s) (held_at s) (512 * b₁) (staying-more s S (512 * b₁) none₂) t₁ b₁ d I₂ (B (d - 1)) (F.above (B (d - 1)) last-in) (F.below (B (d - 1)) last-in)
+        bytes-step s S (dirs s) P (first_block s) (held_at s) (512 * b₁) (staying-more s S (512 * b₁) none₂) t₁ b₁ d I₂ (B (d - 1)) (F.above (B (d - 1)) last-in) (F.below (B (d - 1)) last-in)
         (far (B (d - 1)) last-in) last ends (omega (arith, last-is)) (omega (arith, last-is, one_byte))
 
     -- the slot
     abbrev p₂ : List ℕ
-    p₂ = entryBytes type user group permissions b₁ 0 d time flags name
+    p₂ = entry_bytes type user group permissions b₁ 0 d time flags name
 
     long₂ : length p₂ ≡ 128
     long₂ = entry_length name eighty type user group permissions b₁ 0 d time flags
@@ -211,11 +211,11 @@ module _ (s : List ℕ) (S : Sound s) (b₀ j : ℕ) (i₀ : In (b₀, suc j) (d
     beside : (x i w : ℕ) → x < d → i + w ≤ 512 → Same made t' (512 * B x + i) w
     beside x i w h g =
         outside (512 * B x + i) w (⊎_elim (λ q. inl (omega arith)) (λ q. inr (omega arith))
-        (entry-beside s S e mine (B x) (λ q. far (B x) (B-in x h) (subst (λ (y : ℕ). In y (dirBlocks s)) q mine.within-tree))))
+        (entry-beside s S e mine (B x) (λ q. far (B x) (B-in x h) (subst (λ (y : ℕ). In y (dir_blocks s)) q mine.within-tree))))
 
     -- the table's entries stay after the blocks are taken
     abbrev R : ℕ
-    R = 512 * rootBlock n
+    R = 512 * root_block n
 
     same₃ : Same larger t' 0 R
     same₃ =
@@ -224,7 +224,7 @@ module _ (s : List ℕ) (S : Sound s) (b₀ j : ℕ) (i₀ : In (b₀, suc j) (d
         same_then larger made t' 0 R (same_then larger t₁ made 0 R (same-below larger (512 * b₁) p₁ (omega (arith, long₁, fits₁)) 0 R (omega arith)) (same-below t₁ last ends fits₂ 0 R (omega (arith, last-is))))
         (outside 0 R (inl (omega (arith, entry-low s S e mine))))
 
-    pub made_table : (x : ℕ) → x < 128 * tableBlocks n → next t' x ≡ next larger x
+    pub made_table : (x : ℕ) → x < 128 * table_blocks n → next t' x ≡ next larger x
     made_table = before-next larger t' n same₃
 
     -- the self entry stays after it is written
@@ -255,7 +255,7 @@ module _ (s : List ℕ) (S : Sound s) (b₀ j : ℕ) (i₀ : In (b₀, suc j) (d
     self_type : type_of t' (512 * b₁) ≡ 1
     self_type = same-type t₁ t' (512 * b₁) len₁ fit-self self-same ∙ entry-type name eighty 1 0 0 0 b₁ b₀ (length new) time 0 larger (512 * b₁) fits₁
 
-    self-block : firstBlock t' (512 * b₁) ≡ b₁
+    self-block : first_block t' (512 * b₁) ≡ b₁
     self-block =
         same-field t₁ t' (512 * b₁) len₁ fit-self self-same 4 (omega arith) ∙ entry_first name eighty 1 0 0 0 b₁ b₀ (length new) time 0 larger (512 * b₁) fits₁
         ∙ be32-bytes4 b₁ (omega (arith, b₁-below, S.most))
@@ -270,7 +270,7 @@ module _ (s : List ℕ) (S : Sound s) (b₀ j : ℕ) (i₀ : In (b₀, suc j) (d
         ∙ be32-bytes4 (length new) (omega (arith, many)) ∙ many
 
     self-name : part t' (512 * b₁ + 48) 80 ≡ padded name
-    self-name = same-name-field t₁ t' (512 * b₁) len₁ fit-self self-same ∙ entry_named name eighty 1 0 0 0 b₁ b₀ (length new) time 0 larger (512 * b₁) fits₁
+    self-name = same-name-field t₁ t' (512 * b₁) len₁ fit-self self-same ∙ entry-named name eighty 1 0 0 0 b₁ b₀ (length new) time 0 larger (512 * b₁) fits₁
 
     -- its chain
     passed : (y : ℕ) → y < d → next t' (B y) ≡ next larger (B y)
@@ -352,19 +352,19 @@ module _ (s : List ℕ) (S : Sound s) (b₀ j : ℕ) (i₀ : In (b₀, suc j) (d
     e-type = entry-type name eighty type user group permissions b₁ 0 d time flags made e fits₃
 
     e-field : part t' (e + 48) 80 ≡ padded name
-    e-field = entry_named name eighty type user group permissions b₁ 0 d time flags made e fits₃
+    e-field = entry-named name eighty type user group permissions b₁ 0 d time flags made e fits₃
 
-    e-first : firstBlock t' e ≡ b₁
+    e-first : first_block t' e ≡ b₁
     e-first = entry_first name eighty type user group permissions b₁ 0 d time flags made e fits₃ ∙ be32-bytes4 b₁ (omega (arith, b₁-below, S.most))
 
-    e-blocks : blocksOf t' e ≡ d
+    e-blocks : blocks_of t' e ≡ d
     e-blocks = entry-blocks name eighty type user group permissions b₁ 0 d time flags made e fits₃ ∙ be32-bytes4 d (omega arith)
 
     e-size : size_of t' e ≡ 0
     e-size = entry-size name eighty type user group permissions b₁ 0 d time flags made e fits₃ ∙ be32-bytes4 0 (omega arith)
 
-    e-ok : slotOk t' e ≡ true
-    unfolding slotOk directoryEntryOk noAttributes
+    e-ok : slot_ok t' e ≡ true
+    unfolding slot_ok directory_entry_ok no_attributes
     e-ok =
         rw (
           name-ok name good t' e e-field,
@@ -374,7 +374,7 @@ module _ (s : List ℕ) (S : Sound s) (b₀ j : ℕ) (i₀ : In (b₀, suc j) (d
           entry-attribute name eighty type user group permissions b₁ 0 d time flags made e fits₃,
           entry-attribute-size name eighty type user group permissions b₁ 0 d time flags made e fits₃,
         )
-        (ap (λ (b : Bool). isFree type || b) (or-true (isFile type && fileOk t' e)) ∙ or-true (isFree type))
+        (ap (λ (b : Bool). is_free type || b) (or-true (is_file type && file_ok t' e)) ∙ or-true (is_free type))
 
     pub made-sound : Sound t'
     made-sound =
@@ -389,17 +389,17 @@ module _ (s : List ℕ) (S : Sound s) (b₀ j : ℕ) (i₀ : In (b₀, suc j) (d
 
     -- the files of all paths stay
     pub made-slot : OneSlot s (dirs s) t' e
-    made-slot = last-slot s S b₀ j i₀ k k₁ k₂ (dirs s) (λ x i. i) P (firstBlock s) (held_at s) (512 * b₁) made b₁ d I₃ t' len' outside
+    made-slot = last-slot s S b₀ j i₀ k k₁ k₂ (dirs s) (λ x i. i) P (first_block s) (held_at s) (512 * b₁) made b₁ d I₃ t' len' outside
 
     -- the table's entries and the blocks of every owner stay
-    made-values : (y : ℕ) → y < 128 * tableBlocks n → (In y new → ⊥) → next t' y ≡ next s y
+    made-values : (y : ℕ) → y < 128 * table_blocks n → (In y new → ⊥) → next t' y ≡ next s y
     made-values y h ne =
         made_table y h ∙ grown-next n S.least new s 0 y S.whole (omega (arith, S.least)) F.below F.above h ne (λ pos. absurd (omega arith))
 
-    not_taken : (a : ℕ) → Owner s a → (q : ℕ) → In q (blocksAt s a) → In q new → ⊥
+    not_taken : (a : ℕ) → Owner s a → (q : ℕ) → In q (blocks_at s a) → In q new → ⊥
     not_taken a A q i m = block-used s S a A q i (F.empty q m)
 
-    pub made-untouched : Agree s t' (e / 512 ∷ blocksNamed new) → (other : List ℕ) → Untouched s t' other
+    pub made-untouched : Agree s t' (e / 512 ∷ blocks_named new) → (other : List ℕ) → Untouched s t' other
     made-untouched G other =
         newcomer-untouched s t' S b₀ j i₀ k k₁ k₂ made-slot free (rw e-type dir) (rw e-first bare)
         (λ x h g ne used q. none x h g used (sym (name-is name good t' e e-field) ∙ q))
@@ -407,10 +407,10 @@ module _ (s : List ℕ) (S : Sound s) (b₀ j : ℕ) (i₀ : In (b₀, suc j) (d
         (λ a A p r apart. block-kept s S e mine new t' G F.below made-values a A apart (not_taken a A)) other
 
     -- what the new entry shows, and the blocks in use
-    pub made-dir : isDirectory (type_of t' e) ≡ true
+    pub made-dir : is_directory (type_of t' e) ≡ true
     made-dir = rw e-type dir
 
-    pub made-bare : Empty t' (firstBlock t' e)
+    pub made-bare : Empty t' (first_block t' e)
     made-bare = rw e-first bare
 
     pub made-name : name_of t' e ≡ name
@@ -420,8 +420,8 @@ module _ (s : List ℕ) (S : Sound s) (b₀ j : ℕ) (i₀ : In (b₀, suc j) (d
     made-part i w h =
         part_same p₂ t' i (e + i) w (same-inside made e p₂ (omega (arith, long₂, fits₃)) i w (omega (arith, long₂))) (omega (arith, long₂)) (omega (arith, fits₃, len'))
 
-    pub made-folder : folderOf t' e ≡ record { kind = type ∷ user ∷ group ∷ permissions ∷ []; created = bytes8 time; modified = bytes8 time; flags = bytes4 flags; size = d }
-    unfolding folderOf entryBytes bytes4 bytes8 zeros
+    pub made-folder : folder_of t' e ≡ record { kind = type ∷ user ∷ group ∷ permissions ∷ []; created = bytes8 time; modified = bytes8 time; flags = bytes4 flags; size = d }
+    unfolding folder_of entry_bytes bytes4 bytes8 zeros
     made-folder =
         let z : e + 0 ≡ e = omega arith in
         let q : part t' e 4 ≡ type ∷ user ∷ group ∷ permissions ∷ [] = rw z at (made-part 0 4 (omega arith)) in
@@ -442,17 +442,17 @@ module _ (s : List ℕ) (S : Sound s) (b₀ j : ℕ) (i₀ : In (b₀, suc j) (d
         ∙ same-be32 larger t₁ 0 28 20 (same-below larger (512 * b₁) p₁ (omega (arith, long₁, fits₁)) 0 28 (omega arith)) (omega arith) (omega arith)
         ∙ g ∙ ap (λ (x : ℕ). be32 s 20 + x) many
 
-    pub made-inserted : Inserted (firstBlock t' e, j) (dirs s) (dirs t')
+    pub made-inserted : Inserted (first_block t' e, j) (dirs s) (dirs t')
     made-inserted = rw e-first made-tree
 
-pub kept-create-directory : (s path : List ℕ) (type user group permissions flags time d : ℕ) → check s ≡ 0 → createDirectoryRefusal s path type flags d ≡ 0
-    → check (createDirectoryImage s path type user group permissions flags time d) ≡ 0
-unfolding createDirectoryImage newDirectoryBlocks directoryMade
+pub kept-create-directory : (s path : List ℕ) (type user group permissions flags time d : ℕ) → check s ≡ 0 → create_directory_refusal s path type flags d ≡ 0
+    → check (create_directory_image s path type user group permissions flags time d) ≡ 0
+unfolding create_directory_image new_directory_blocks directory_made
 kept-create-directory s path type user group permissions flags time d c r =
     let G = create-directory-given s path type flags d r in
     let l = path-levels path G.good G.deep in
     let w = place-free s path G.placed in
-    let home-in : In (home s path, suc (maxLevels - suc (length (leading (parts path))))) (dirs s) = rw l.1 (place-home s path G.placed l.0) in
-    rw (place_is s path G.placed) (check-zero _ (made-sound s (sound s c) (home s path) (maxLevels - suc (length (leading (parts path)))) home-in
-    (freeSlot s (directory s (home s path))) w.0 w.1 w.2 (lastPart (parts path)) (path-name path G.good) (place-new s path G.placed) type user group permissions flags time G.dir
+    let home-in : In (home s path, suc (max_levels - suc (length (leading (parts path))))) (dirs s) = rw l.1 (place-home s path G.placed l.0) in
+    rw (place_is s path G.placed) (check-zero _ (made-sound s (sound s c) (home s path) (max_levels - suc (length (leading (parts path)))) home-in
+    (free_slot s (directory s (home s path))) w.0 w.1 w.2 (last_part (parts path)) (path-name path G.good) (place-new s path G.placed) type user group permissions flags time G.dir
     d G.least G.most G.room))

@@ -6,7 +6,7 @@ use mathlib.Core.Logic.{◌⊎◌, inl, inr, ⊎_elim, ◌≢◌}
 use native.Mathlib.Omega.{arith}
 use lib.ListN.{length, get_or, take, drop, length-take}
 use Rattle.layout.specs.Bytes.{be32, splice}
-use Rattle.layout.specs.Geometry.{blockCount, tableBlocks, rootBlock}
+use Rattle.layout.specs.Geometry.{block_count, table_blocks, root_block}
 use Rattle.layout.specs.Table.{next, chain, occupied}
 use Rattle.volume.specs.Entries.{taken, grown}
 use Rattle.volume.specs.Write.{put}
@@ -18,17 +18,17 @@ use Rattle.layout.proofs.Laws.Tables.{table-pushed}
 use Rattle.layout.proofs.Laws.Counts.{occupied-most}
 use Rattle.layout.proofs.Laws.Tests.{lt-or-gt, lt-or-ge}
 use Rattle.layout.proofs.Laws.Bytes.{splice-nil}
-use Rattle.layout.proofs.Laws.Sound.{Sound, blocksOfAll}
+use Rattle.layout.proofs.Laws.Sound.{Sound, blocks_of_all}
 use Rattle.layout.proofs.Laws.Owners.{Fresh}
 use Rattle.layout.proofs.Laws.Steps.{over, over-same, over-other, Midway, Staying, kept_above, kept-used, dir-apart, bytes-step}
 
-abbrev firstNow : ℕ → ℕ → ℕ → ℕ
-firstNow zero b x = x
-firstNow (suc c) b x = b
+abbrev first_now : ℕ → ℕ → ℕ → ℕ
+first_now zero b x = x
+first_now (suc c) b x = b
 
 module _ (s : List ℕ) (S : Sound s) (ks : List (ℕ × ℕ)) (P : ℕ → Type 0) (f l : ℕ → ℕ) (k : ℕ) (St : Staying s ks P f l k) where
   abbrev n : ℕ
-  n = blockCount s
+  n = block_count s
 
   -- a block is taken
   module _ (t : List ℕ) (b c : ℕ) (I : Midway s ks P f l k t b c) (x : ℕ) (bs : List ℕ) (F : Fresh n (next t) (x ∷ bs)) (a : ℕ) (la : LastIs (next t) b c a) where
@@ -38,7 +38,7 @@ module _ (s : List ℕ) (S : Sound s) (ks : List (ℕ × ℕ)) (P : ℕ → Type
     whole : length t ≡ 512 * n
     whole = I.len ∙ S.whole
 
-    tx : tableBlocks n < x
+    tx : table_blocks n < x
     tx = F.above x (inl refl)
 
     xn : x < n
@@ -69,10 +69,10 @@ module _ (s : List ℕ) (S : Sound s) (ks : List (ℕ × ℕ)) (P : ℕ → Type
     last-in zero e pos = absurd (omega arith)
     last-in (suc c) e pos = (c, omega arith, e)
 
-    other : (y : ℕ) → y < 128 * tableBlocks n → y ≢ x → (0 < a → y ≢ a) → next t' y ≡ next t y
+    other : (y : ℕ) → y < 128 * table_blocks n → y ≢ x → (0 < a → y ≢ a) → next t' y ≡ next t y
     other = taken_next n S.least t a x whole an xn tx
 
-    front : (c : ℕ) → Chain (next t) n b c → LastIs (next t) b c a → (y : ℕ) → y < c → nth (next t') y (firstNow c b x) ≡ nth (next t) y b
+    front : (c : ℕ) → Chain (next t) n b c → LastIs (next t) b c a → (y : ℕ) → y < c → nth (next t') y (first_now c b x) ≡ nth (next t) y b
     front zero C e y h = absurd (omega arith)
     front (suc c) C e y h =
         nth-agree (next t) (next t') y b
@@ -80,22 +80,22 @@ module _ (s : List ℕ) (S : Sound s) (ks : List (ℕ × ℕ)) (P : ℕ → Type
         (λ q. chain-used (next t) n b (suc c) C S.least i (omega arith) (ap (next t) q ∙ zero-x))
         (λ pos q. chain-differ (next t) n b (suc c) C S.least i c (omega arith) (omega arith) (q ∙ e)))
 
-    end : (c : ℕ) → Chain (next t) n b c → LastIs (next t) b c a → nth (next t') c (firstNow c b x) ≡ x
+    end : (c : ℕ) → Chain (next t) n b c → LastIs (next t) b c a → nth (next t') c (first_now c b x) ≡ x
     end zero C e = refl
     end (suc c) C e =
         nth-suc (next t') c b ∙ ap (next t') (front (suc c) C e c (omega arith) ∙ sym e)
         ∙ taken-link n S.least t a x whole an xn tx (omega (arith, xn, S.most)) (omega (arith, C.above c (omega arith)))
 
-    away : (q : ℕ) → In q (blocksOfAll s ks) → q ≢ x
+    away : (q : ℕ) → In q (blocks_of_all s ks) → q ≢ x
     away q i e = kept-used s S ks P f l k St q i (sym (I.values q i) ∙ ap (next t) e ∙ zero-x)
 
-    keeps : (i w : ℕ) → (i + w ≤ 20) ⊎ (28 ≤ i) → (i + w ≤ 512) ⊎ ((512 * rootBlock n ≤ i) × ((i + w ≤ 512 * x) ⊎ (512 * x + 512 ≤ i))) → Same t t' i w
+    keeps : (i w : ℕ) → (i + w ≤ 20) ⊎ (28 ≤ i) → (i + w ≤ 512) ⊎ ((512 * root_block n ≤ i) × ((i + w ≤ 512 * x) ⊎ (512 * x + 512 ≤ i))) → Same t t' i w
     keeps = taken-same n S.least t a x whole an xn tx
 
     more : be32 t 20 + 1 ≡ occupied (next t') n
     more = omega (arith, I.used, taken-occupied n S.least t a x whole an xn tx zero-x used-a S.most)
 
-    taken_step : Midway s ks P f l k t' (firstNow c b x) (suc c)
+    taken_step : Midway s ks P f l k t' (first_now c b x) (suc c)
     taken_step =
         record {
           len = taken-length n S.least t a x whole an xn ∙ sym S.whole;
@@ -108,21 +108,21 @@ module _ (s : List ℕ) (S : Sound s) (ks : List (ℕ × ℕ)) (P : ℕ → Type
           values = λ q i.
               other q (omega (arith, (kept_above s S ks P f l k St q i).1)) (away q i)
               (λ pos e. let r = last-in c la pos in dir-apart s S ks P f l k St t b c I q i r.0 r.1 (e ∙ r.2)) ∙ I.values q i;
-          table = table-pushed n P (next t) (over k b f) (over k c l) I.table S.least k St.owner (next t') (over k (firstNow c b x) f) (over k (suc c) l)
-              (λ j h ne. over-other k (firstNow c b x) f j ne ∙ sym (over-other k b f j ne)) (λ j h ne. over-other k (suc c) l j ne ∙ sym (over-other k c l j ne))
+          table = table-pushed n P (next t) (over k b f) (over k c l) I.table S.least k St.owner (next t') (over k (first_now c b x) f) (over k (suc c) l)
+              (λ j h ne. over-other k (first_now c b x) f j ne ∙ sym (over-other k b f j ne)) (λ j h ne. over-other k (suc c) l j ne ∙ sym (over-other k c l j ne))
               x tx xn zero-x (taken-first n S.least t a x whole an xn tx zero-x used-a S.most) (over-same k (suc c) l ∙ ap suc (sym (over-same k c l)))
-              (λ y h. rw (over-same k (firstNow c b x) f, over-same k b f) (front c mine la y (omega (arith, over-same k c l))))
-              (rw (over-same k (firstNow c b x) f, over-same k c l) (end c mine la))
+              (λ y h. rw (over-same k (first_now c b x) f, over-same k b f) (front c mine la y (omega (arith, over-same k c l))))
+              (rw (over-same k (first_now c b x) f, over-same k c l) (end c mine la))
               (λ y h ne away. other y h ne (λ pos e. let r = last-in c la pos in away r.0 (omega (arith, over-same k c l)) (e ∙ r.2 ∙ ap (nth (next t) r.0) (sym (over-same k b f)))));
           used = taken-used n S.least t a x whole an xn (omega (arith, more, occupied-most (next t') n, S.most)) ∙ more;
           free = taken-left n S.least t a x whole an xn (omega (arith, S.most)) ∙ ap (λ (z : ℕ). n - z) more;
         }
 
-    taken-last : LastIs (next t') (firstNow c b x) (suc c) x
+    taken-last : LastIs (next t') (first_now c b x) (suc c) x
     taken-last = sym (end c mine la)
 
-    taken-chain : chain (next t') (firstNow c b x) (suc c) ≡ chain (next t) b c ++ (x ∷ [])
-    taken-chain = chain_snoc (next t) (next t') b (firstNow c b x) c x (front c mine la) (end c mine la)
+    taken-chain : chain (next t') (first_now c b x) (suc c) ≡ chain (next t) b c ++ (x ∷ [])
+    taken-chain = chain_snoc (next t) (next t') b (first_now c b x) c x (front c mine la) (end c mine la)
 
     taken-fresh : Fresh n (next t') bs
     taken-fresh =
@@ -142,7 +142,7 @@ module _ (s : List ℕ) (S : Sound s) (ks : List (ℕ × ℕ)) (P : ℕ → Type
   unfolding grown
   grown-steps [] t b c a I la F = let e : c + 0 ≡ c = omega arith in rw e (b, I, sym (append-nil (chain (next t) b c)))
   grown-steps (x ∷ bs) t b c a I la F =
-      let r = grown-steps bs (taken t n a x) (firstNow c b x) (suc c) x (taken_step t b c I x bs F a la) (taken-last t b c I x bs F a la) (taken-fresh t b c I x bs F a la) in
+      let r = grown-steps bs (taken t n a x) (first_now c b x) (suc c) x (taken_step t b c I x bs F a la) (taken-last t b c I x bs F a la) (taken-fresh t b c I x bs F a la) in
       let e : c + suc (length bs) ≡ suc c + length bs = omega arith in
       rw e (r.0, r.1, r.2 ∙ ap (λ (q : List ℕ). q ++ bs) (taken-chain t b c I x bs F a la) ∙ append_assoc (chain (next t) b c) (x ∷ []) bs)
 
@@ -159,7 +159,7 @@ module _ (s : List ℕ) (S : Sound s) (ks : List (ℕ × ℕ)) (P : ℕ → Type
 
   -- data is put into blocks that are none of the directories'
   pub put-steps : (bs : List ℕ) (t : List ℕ) (b c offset : ℕ) (bytes : List ℕ) → Midway s ks P f l k t b c
-      → ((q : ℕ) → In q bs → (tableBlocks n < q) × (q < n) × (In q (blocksOfAll s ks) → ⊥)) → Midway s ks P f l k (put t bs offset bytes) b c
+      → ((q : ℕ) → In q bs → (table_blocks n < q) × (q < n) × (In q (blocks_of_all s ks) → ⊥)) → Midway s ks P f l k (put t bs offset bytes) b c
   unfolding put
   put-steps [] t b c offset bytes I g = I
   put-steps (q ∷ bs) t b c offset bytes I g =

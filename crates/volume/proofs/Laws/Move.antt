@@ -11,31 +11,31 @@ use borrow.Author.Tests.{eq-eqb, ne_eqb}
 use lib.ListN.{length, get_or, take, length-append, get_or-append}
 use lib.Dec.{eqb}
 use Rattle.layout.specs.Bytes.{be32, part, splice, zeros, block}
-use Rattle.layout.specs.Geometry.{blockCount, tableBlocks, rootBlock}
+use Rattle.layout.specs.Geometry.{block_count, table_blocks, root_block}
 use Rattle.layout.specs.Table.{next, occupied}
-use Rattle.layout.specs.Directory.{slot_at, type_of, firstBlock, size_of, blocksOf, attributeBlock, attributeSize, isFile, isDirectory, padded, name_of, nameOk, goodName, directory, dirs, fileBlocks, content, attributeBlocks, attributes}
-use Rattle.layout.specs.Check.{noAttributes, attributesOk, fileOk, slotOk}
+use Rattle.layout.specs.Directory.{slot_at, type_of, first_block, size_of, blocks_of, attribute_block_of, attribute_size_of, is_file, is_directory, padded, name_of, name_ok, good_name, directory, dirs, file_blocks, content, attribute_blocks, attributes}
+use Rattle.layout.specs.Check.{no_attributes, attributes_ok, file_ok, slot_ok}
 use Rattle.volume.specs.Entries.{released}
-use Rattle.volume.specs.Delete.{allBlocks, deleteAt}
+use Rattle.volume.specs.Delete.{all_blocks, delete_at}
 use Rattle.volume.specs.Move.{renamed}
-use Rattle.volume.specs.Views.{fileOf}
+use Rattle.volume.specs.Views.{file_of}
 use Rattle.volume.proofs.Laws.Delete.{zeroed-length, zeroed-outside, deleted-sound, deleted-below, deleted-slot, deleted-type, deleted-next, deleted-block}
 use Rattle.volume.proofs.Laws.Frame.{released-agree}
 use Rattle.volume.proofs.Laws.Unchanged.{slot-agree}
 use Rattle.layout.proofs.Laws.Tests.{and_split, and-join}
-use Rattle.layout.proofs.Laws.Bytes.{length_part, get_d_part, getD-zeros, length-zeros, length-splice, getD-splice-inside, part_same, part-middle, be32-same}
+use Rattle.layout.proofs.Laws.Bytes.{length_part, get_d_part, get_d-zeros, length-zeros, length-splice, get_d-splice-inside, part_same, part-middle, be32-same}
 use Rattle.layout.proofs.Laws.Lists.{In, joined_same, in-single}
 use Rattle.layout.proofs.Laws.Names.{padded-length, name-is, name-ok}
 use Rattle.layout.proofs.Laws.Frames.{Same, same_then, same_beside, same-inner, before-next, before-occupied, before-header, Agree, agree_then, agree-block}
 use Rattle.layout.proofs.Laws.Entries.{same-type}
 use Rattle.layout.proofs.Laws.Chains.{nth, chain-agree, chain-in}
 use Rattle.layout.proofs.Laws.Tables.{Table, table_same, table_of}
-use Rattle.layout.proofs.Laws.Visits.{dirBlocks}
+use Rattle.layout.proofs.Laws.Visits.{dir_blocks}
 use Rattle.layout.proofs.Laws.Trees.{size_at, block-above}
 use Rattle.layout.proofs.Laws.Sound.{held_at, own_held, second-held, second-first, second-owner, Sound, Entry, Owner, owner-map}
-use Rattle.layout.proofs.Laws.Slots.{slot-entry, slot_ok, entry-high, entry-low, entries-apart}
-use Rattle.layout.proofs.Laws.Owners.{blocksAt, held-at, file-no-dir, file-slot-ok, slot-ok-file, none-held, none-second, owner-stays, second, file-below, file-blocks, second-blocks, file-no-self, second-no-self, block-below, block-outside}
-use Rattle.layout.proofs.Laws.Changed.{OneSlot, kept, tree-stays, dirBlocks-same, sound-again}
+use Rattle.layout.proofs.Laws.Slots.{slot-entry, slot-ok, entry-high, entry-low, entries-apart}
+use Rattle.layout.proofs.Laws.Owners.{blocks_at, held-at, file-no-dir, file-slot-ok, slot-ok-file, none-held, none-second, owner-stays, second, file-below, file-blocks, second-blocks, file-no-self, second-no-self, block-below, block-outside}
+use Rattle.layout.proofs.Laws.Changed.{OneSlot, kept, tree-stays, dir_blocks-same, sound-again}
 use Rattle.layout.proofs.Laws.Others.{owner-blocks}
 
 -- TWO OWNERS CHANGE PLACES in a table of chains
@@ -86,20 +86,20 @@ same_back : (s t u : List ℕ) (a w : ℕ) → Same s t a w → Same s u a w →
 same_back s t u a w p q i h = q i h ∙ sym (p i h)
 
 zeros-at : (t : List ℕ) (e : ℕ) → e + 128 ≤ length t → (i : ℕ) → i < 128 → get_or (splice t e (zeros 128)) (e + i) 0 ≡ 0
-zeros-at t e fit i h = getD-splice-inside t e (zeros 128) (omega (arith, length-zeros 128)) i (omega (arith, length-zeros 128)) ∙ getD-zeros 128 i
+zeros-at t e fit i h = get_d-splice-inside t e (zeros 128) (omega (arith, length-zeros 128)) i (omega (arith, length-zeros 128)) ∙ get_d-zeros 128 i
 
 -- a file, in slot k of the directory d
 module _ (s : List ℕ) (S : Sound s) (d : ℕ × ℕ) (di : In d (dirs s)) (k : ℕ) (k₁ : 1 ≤ k) (k₂ : k < 4 * size_at s d.0 - 1)
-    (file : isFile (type_of s (slot_at (directory s d.0) k)) ≡ true)
+    (file : is_file (type_of s (slot_at (directory s d.0) k)) ≡ true)
   where
     abbrev n : ℕ
-    n = blockCount s
+    n = block_count s
 
     abbrev e : ℕ
     e = slot_at (directory s d.0) k
 
     abbrev s₁ : List ℕ
-    s₁ = deleteAt s e
+    s₁ = delete_at s e
 
     E : Entry s e
     E = slot-entry s S d di k (omega arith)
@@ -111,17 +111,17 @@ module _ (s : List ℕ) (S : Sound s) (d : ℕ × ℕ) (di : In d (dirs s)) (k :
     O : OneSlot s (dirs s) s₁ e
     O = deleted-slot s S d di k k₁ k₂ file
 
-    was-file : isDirectory (type_of s e) ≡ false
+    was-file : is_directory (type_of s e) ≡ false
     was-file = file-no-dir (type_of s e) file
 
     zero-type : type_of s₁ e ≡ 0
     zero-type = deleted-type s S d di k k₁ k₂ file
 
-    now-none : isDirectory (type_of s₁ e) ≡ false
+    now-none : is_directory (type_of s₁ e) ≡ false
     now-none = rw zero-type
 
-    same_blocks : dirBlocks s₁ ≡ dirBlocks s
-    same_blocks = dirBlocks-same s s₁ O.len (kept s s₁ S d di k k₁ k₂ O was-file now-none)
+    same_blocks : dir_blocks s₁ ≡ dir_blocks s
+    same_blocks = dir_blocks-same s s₁ O.len (kept s s₁ S d di k k₁ k₂ O was-file now-none)
 
     same-dirs : dirs s₁ ≡ dirs s
     same-dirs = tree-stays s s₁ S d di k k₁ k₂ O was-file now-none
@@ -146,7 +146,7 @@ module _ (s : List ℕ) (S : Sound s) (d : ℕ × ℕ) (di : In d (dirs s)) (k :
 
     -- the slot j of the directory c is free then, and no slot of c has the name
     module _ (c : ℕ × ℕ) (ci : In c (dirs s₁)) (j : ℕ) (j₁ : 1 ≤ j) (j₂ : j < 4 * size_at s₁ c.0 - 1) (free : type_of s₁ (slot_at (directory s₁ c.0) j) ≡ 0)
-        (name : List ℕ) (good : goodName name ≡ true)
+        (name : List ℕ) (good : good_name name ≡ true)
         (none : (x : ℕ) → 1 ≤ x → x < 4 * size_at s₁ c.0 - 1 → type_of s₁ (slot_at (directory s₁ c.0) x) ≢ 0 → name ≢ name_of s₁ (slot_at (directory s₁ c.0) x))
       where
         abbrev e' : ℕ
@@ -189,10 +189,10 @@ module _ (s : List ℕ) (S : Sound s) (d : ℕ × ℕ) (di : In d (dirs s)) (k :
             (same_beside half e' p fits a w (⊎_elim (λ x. inl x) (λ x. inr (omega (arith, long))) g))
 
         -- the table and the header stay
-        before : Same s done 0 (512 * rootBlock n)
-        before = outside 0 (512 * rootBlock n) (inl (omega (arith, entry-low s S e E))) (inl (omega (arith, entry-low s S e' F)))
+        before : Same s done 0 (512 * root_block n)
+        before = outside 0 (512 * root_block n) (inl (omega (arith, entry-low s S e E))) (inl (omega (arith, entry-low s S e' F)))
 
-        pub moved-next : (x : ℕ) → x < 128 * tableBlocks n → next done x ≡ next s x
+        pub moved-next : (x : ℕ) → x < 128 * table_blocks n → next done x ≡ next s x
         moved-next = before-next s done n before
 
         pub moved-used : be32 done 20 ≡ be32 s 20
@@ -205,7 +205,7 @@ module _ (s : List ℕ) (S : Sound s) (d : ℕ × ℕ) (di : In d (dirs s)) (k :
             (in-single (e / 512) (e / 512 ∷ e' / 512 ∷ []) (inl refl)) (in-single (e' / 512) (e / 512 ∷ e' / 512 ∷ []) (inr (inl refl)))
 
         -- a block that no directory has
-        block-stays : (q : ℕ) → (In q (dirBlocks s) → ⊥) → block done q ≡ block s q
+        block-stays : (q : ℕ) → (In q (dir_blocks s) → ⊥) → block done q ≡ block s q
         block-stays q out = agree-block q moved-agree λ m. ⊎_elim
             (λ z. out (rw z E.within-tree))
             (λ r. ⊎_elim (λ z. out (rw z F.within-tree)) (λ x. x) r) m
@@ -215,7 +215,7 @@ module _ (s : List ℕ) (S : Sound s) (d : ℕ × ℕ) (di : In d (dirs s)) (k :
         unfolding renamed
         byte i h =
             let l = length_part s e 48 (omega (arith, fit)) in
-            getD-splice-inside half e' p fits i (omega (arith, long)) ∙ get_or-append (part s e 48) (padded name) 0 i (omega arith) ∙ get_d_part s e 48 i h
+            get_d-splice-inside half e' p fits i (omega (arith, long)) ∙ get_or-append (part s e 48) (padded name) 0 i (omega arith) ∙ get_d_part s e 48 i h
 
         inner : (a w : ℕ) → a + w ≤ 48 → (i : ℕ) → i < w → get_or done (e' + a + i) 0 ≡ get_or s (e + a + i) 0
         inner a w h i l =
@@ -239,43 +239,43 @@ module _ (s : List ℕ) (S : Sound s) (d : ℕ × ℕ) (di : In d (dirs s)) (k :
             let m : part p 48 80 ≡ padded name = subst (λ (w : ℕ). part p 48 w ≡ padded name) eighty
             (subst (λ (ys : List ℕ). part (part s e 48 ++ ys) 48 (length (padded name)) ≡ padded name) (append-nil (padded name)) (part-middle (part s e 48) (padded name) [] 48 l)) in
             part_same p done 48 (e' + 48) 80
-            (λ i h. let x : e' + 48 + i ≡ e' + (48 + i) = omega arith in rw x (getD-splice-inside half e' p fits (48 + i) (omega (arith, long))))
+            (λ i h. let x : e' + 48 + i ≡ e' + (48 + i) = omega arith in rw x (get_d-splice-inside half e' p fits (48 + i) (omega (arith, long))))
             (omega (arith, long)) (omega (arith, fit', moved_length)) ∙ m
 
         pub moved-name : name_of done e' ≡ name
         moved-name = name-is name good done e' named-field
 
-        pub moved-file : isFile (type_of done e') ≡ true
+        pub moved-file : is_file (type_of done e') ≡ true
         moved-file = rw moved-type file
 
-        pub moved-no-dir : isDirectory (type_of done e') ≡ false
+        pub moved-no-dir : is_directory (type_of done e') ≡ false
         moved-no-dir = file-no-dir (type_of done e') moved-file
 
-        moved_ok : slotOk done e' ≡ true
-        unfolding fileOk attributesOk noAttributes
+        moved_ok : slot_ok done e' ≡ true
+        unfolding file_ok attributes_ok no_attributes
         moved_ok =
             slot-ok-file done e' moved-file (and-join (name-ok name good done e' named-field)
             (rw (field 32 (omega arith), field 36 (omega arith), field 12 (omega arith), field 8 (omega arith), field 4 (omega arith))
-            (and_split (nameOk s e) _ (file-slot-ok s e file (slot_ok s S d di k k₁ k₂))).1))
+            (and_split (name_ok s e) _ (file-slot-ok s e file (slot-ok s S d di k k₁ k₂))).1))
 
         -- every other slot is as the delete left it
-        freed-fit : e + 128 ≤ length (released s n (allBlocks s e))
-        freed-fit = omega (arith, fit, (released-agree n S.least (allBlocks s e) s S.whole (deleted-below s S d di k k₁ k₂ file)).size)
+        freed-fit : e + 128 ≤ length (released s n (all_blocks s e))
+        freed-fit = omega (arith, fit, (released-agree n S.least (all_blocks s e) s S.whole (deleted-below s S d di k k₁ k₂ file)).size)
 
         zeroed-both : e ≢ e' → Same s₁ done e 128
-        unfolding deleteAt
+        unfolding delete_at
         zeroed-both ne =
-            same_back half s₁ done e 128 (λ i h. zeros-at (released s n (allBlocks s e)) e freed-fit i h ∙ sym (zeros-at s e fit i h))
+            same_back half s₁ done e 128 (λ i h. zeros-at (released s n (all_blocks s e)) e freed-fit i h ∙ sym (zeros-at s e fit i h))
             (same_beside half e' p fits e 128 (⊎_elim (λ x. inl x) (λ x. inr (omega (arith, long))) (entries-apart s S e e' E F ne)))
 
         pub moved-slot : OneSlot s₁ (dirs s₁) done e'
         moved-slot =
             record {
               len = moved_length ∙ sym O.len;
-              head = same_back s s₁ done 0 20 O.head (same-inner s done 0 (512 * rootBlock n) 0 20 before (omega arith) (omega arith));
-              tail = same_back s s₁ done 28 4 O.tail (same-inner s done 0 (512 * rootBlock n) 28 4 before (omega arith) (omega arith));
+              head = same_back s s₁ done 0 20 O.head (same-inner s done 0 (512 * root_block n) 0 20 before (omega arith) (omega arith));
+              tail = same_back s s₁ done 28 4 O.tail (same-inner s done 0 (512 * root_block n) 28 4 before (omega arith) (omega arith));
               slots = λ a A ne. slot-at a (entry-back a A) ne (ℕ_discrete a e);
-              values = λ q i. let m : In q (dirBlocks s) = rw same_blocks at i in
+              values = λ q i. let m : In q (dir_blocks s) = rw same_blocks at i in
                   moved-next q (omega (arith, (block-above s n S.tree S.least q m).1)) ∙ sym (O.values q m);
             }
           where
@@ -285,7 +285,7 @@ module _ (s : List ℕ) (S : Sound s) (d : ℕ × ℕ) (di : In d (dirs s)) (k :
 
         -- THE CHAINS: those of the old slot are now those of the new one
         abbrev Holds : ℕ → ℕ → Type 0
-        Holds a b = (held_at done a ≡ held_at s b) × (0 < held_at s b → firstBlock done a ≡ firstBlock s b)
+        Holds a b = (held_at done a ≡ held_at s b) × (0 < held_at s b → first_block done a ≡ first_block s b)
 
         own_new : Holds e' e
         own_new = (rw (own_held done e' F.aligned, own_held s e E.aligned, moved-type, field 12 (omega arith)), λ pos. field 4 (omega arith))
@@ -324,7 +324,7 @@ module _ (s : List ℕ) (S : Sound s) (d : ℕ × ℕ) (di : In d (dirs s)) (k :
 
         -- of all other owners they stay
         module _ (a : ℕ) (A : Owner s a) (p₁ : a ≢ e) (p₂ : a ≢ e + 28) where
-          stayed : (held_at s₁ a ≡ held_at s a) × (firstBlock s₁ a ≡ firstBlock s a)
+          stayed : (held_at s₁ a ≡ held_at s a) × (first_block s₁ a ≡ first_block s a)
           stayed = owner-stays s s₁ (dirs s) e O.len (entry-high s S) O.slots a A p₁ p₂
 
           held-still : a ≢ e' → a ≢ e' + 28 → Holds a a
@@ -342,16 +342,16 @@ module _ (s : List ℕ) (S : Sound s) (d : ℕ × ℕ) (di : In d (dirs s)) (k :
             (λ a q₁ q₂. swapped e e' (λ x y. x ≢ e + 28 → x ≢ e' + 28 → Owner s x → Holds x y)
             (λ r₁ r₂ A. own_old (ℕ_discrete e e')) (λ r₁ r₂ A. own_new) (λ x p₁ p₂ r₁ r₂ A. held-still x A p₁ r₁ p₂ r₂) a q₁ q₂)
 
-        moved-table : Table n (Owner s₁) (next done) (firstBlock done) (held_at done)
+        moved-table : Table n (Owner s₁) (next done) (first_block done) (held_at done)
         moved-table =
-            table_of n (Owner s) (Owner s₁) (next done) (firstBlock done) (held_at done) owner-back owner-on
-            (table_same n (Owner s) (next s) (λ a. firstBlock s (swap e e' (swap (e + 28) (e' + 28) a))) (λ a. held_at s (swap e e' (swap (e + 28) (e' + 28) a)))
-            (table-swapped (e + 28) (e' + 28) n (Owner s) (next s) (λ a. firstBlock s (swap e e' a)) (λ a. held_at s (swap e e' a)) (second-owner s (dirs s) e E) (second-owner s (dirs s) e' F)
-            (table-swapped e e' n (Owner s) (next s) (firstBlock s) (held_at s) (inl E) (inl F) S.table))
-            S.least (next done) (firstBlock done) (held_at done) moved-next (λ a A. (both-held a A).0) (λ a A pos. (both-held a A).1 pos))
+            table_of n (Owner s) (Owner s₁) (next done) (first_block done) (held_at done) owner-back owner-on
+            (table_same n (Owner s) (next s) (λ a. first_block s (swap e e' (swap (e + 28) (e' + 28) a))) (λ a. held_at s (swap e e' (swap (e + 28) (e' + 28) a)))
+            (table-swapped (e + 28) (e' + 28) n (Owner s) (next s) (λ a. first_block s (swap e e' a)) (λ a. held_at s (swap e e' a)) (second-owner s (dirs s) e E) (second-owner s (dirs s) e' F)
+            (table-swapped e e' n (Owner s) (next s) (first_block s) (held_at s) (inl E) (inl F) S.table))
+            S.least (next done) (first_block done) (held_at done) moved-next (λ a A. (both-held a A).0) (λ a A pos. (both-held a A).1 pos))
 
-        in_use : be32 done 20 ≡ occupied (next done) n
-        in_use = moved-used ∙ S.used-is ∙ sym (before-occupied s done n before)
+        in-use : be32 done 20 ≡ occupied (next done) n
+        in-use = moved-used ∙ S.used-is ∙ sym (before-occupied s done n before)
 
         not-in-use : be32 done 24 ≡ n - occupied (next done) n
         not-in-use = before-header s done n before 24 (omega arith) ∙ S.free-is ∙ ap (λ (x : ℕ). n - x) (sym (before-occupied s done n before))
@@ -359,12 +359,12 @@ module _ (s : List ℕ) (S : Sound s) (d : ℕ × ℕ) (di : In d (dirs s)) (k :
         pub moved-sound : Sound done
         moved-sound =
             sound-again s₁ done S₁ c ci j j₁ j₂ moved-slot (rw free) moved-no-dir moved_ok (λ u x h g ne used q. none x h g used (sym moved-name ∙ q))
-            (subst (λ (l : ℕ). Table (l / 512) (Owner s₁) (next done) (firstBlock done) (held_at done)) (sym O.len) moved-table)
-            (subst (λ (l : ℕ). be32 done 20 ≡ occupied (next done) (l / 512)) (sym O.len) in_use)
+            (subst (λ (l : ℕ). Table (l / 512) (Owner s₁) (next done) (first_block done) (held_at done)) (sym O.len) moved-table)
+            (subst (λ (l : ℕ). be32 done 20 ≡ occupied (next done) (l / 512)) (sym O.len) in-use)
             (subst (λ (l : ℕ). be32 done 24 ≡ l / 512 - occupied (next done) (l / 512)) (sym O.len) not-in-use)
 
         -- every other owner's blocks are as the delete left them
-        module _ (a : ℕ) (A : Owner s₁ a) (q₁ : a ≢ e') (q₂ : a ≢ e' + 28) (apart : (x : ℕ × ℕ) → In x (dirs s₁) → a ≢ 512 * x.0) (q : ℕ) (i : In q (blocksAt s₁ a)) where
+        module _ (a : ℕ) (A : Owner s₁ a) (q₁ : a ≢ e') (q₂ : a ≢ e' + 28) (apart : (x : ℕ × ℕ) → In x (dirs s₁) → a ≢ 512 * x.0) (q : ℕ) (i : In q (blocks_at s₁ a)) where
           apart-here : (x : ℕ × ℕ) → In x (dirs s) → a ≢ 512 * x.0
           apart-here x m = apart x (rw same-dirs m)
 
@@ -379,7 +379,7 @@ module _ (s : List ℕ) (S : Sound s) (d : ℕ × ℕ) (di : In d (dirs s)) (k :
               let h : held_at s₁ a ≡ 0 = ap (held_at s₁) z ∙ none-second s₁ e E.aligned (rw zero-type) in
               omega (arith, (held-at s₁ S₁ a A q i).1)
 
-          held-here : In q (blocksAt s a)
+          held-here : In q (blocks_at s a)
           held-here =
               let w = stayed a (owner-back a A) not_own not-second in
               rw (owner-blocks s s₁ a w.0 w.1 (deleted-next s S d di k k₁ k₂ file a (owner-back a A) not_own not-second apart-here)) at i
@@ -395,40 +395,40 @@ module _ (s : List ℕ) (S : Sound s) (d : ℕ × ℕ) (di : In d (dirs s)) (k :
               ∙ sym (deleted-block s S d di k k₁ k₂ file a (owner-back a A) not_own not-second apart-here q held-here)
 
         -- THE FILE: its blocks, bytes, attributes and other fields are what they were
-        own_in : (q : ℕ) → In q (fileBlocks s e) → In q (blocksAt s e)
+        own_in : (q : ℕ) → In q (file_blocks s e) → In q (blocks_at s e)
         own_in q i = rw (file-blocks s S e E file) i
 
-        second-in : (q : ℕ) → In q (attributeBlocks s e) → In q (blocksAt s (e + 28))
+        second-in : (q : ℕ) → In q (attribute_blocks s e) → In q (blocks_at s (e + 28))
         second-in q i = rw (second-blocks s S e E file) i
 
-        pub moved-blocks : fileBlocks done e' ≡ fileBlocks s e
-        unfolding fileBlocks
+        pub moved-blocks : file_blocks done e' ≡ file_blocks s e
+        unfolding file_blocks
         moved-blocks =
-            rw (field 4 (omega arith), field 12 (omega arith)) (chain-agree (next s) (next done) (firstBlock s e) (blocksOf s e)
-            (λ y h. moved-next (nth (next s) y (firstBlock s e))
-            (omega (arith, file-below s S e E file (nth (next s) y (firstBlock s e)) (chain-in (next s) (firstBlock s e) (blocksOf s e) (nth (next s) y (firstBlock s e)) y h refl)))))
+            rw (field 4 (omega arith), field 12 (omega arith)) (chain-agree (next s) (next done) (first_block s e) (blocks_of s e)
+            (λ y h. moved-next (nth (next s) y (first_block s e))
+            (omega (arith, file-below s S e E file (nth (next s) y (first_block s e)) (chain-in (next s) (first_block s e) (blocks_of s e) (nth (next s) y (first_block s e)) y h refl)))))
 
-        pub moved-second : attributeBlocks done e' ≡ attributeBlocks s e
-        unfolding attributeBlocks
+        pub moved-second : attribute_blocks done e' ≡ attribute_blocks s e
+        unfolding attribute_blocks
         moved-second =
-            rw (field 32 (omega arith), field 36 (omega arith)) (chain-agree (next s) (next done) (attributeBlock s e) (attributeSize s e)
-            (λ y h. moved-next (nth (next s) y (attributeBlock s e))
-            (omega (arith, block-below s S (e + 28) (second s S e E file) (nth (next s) y (attributeBlock s e)) (second-in (nth (next s) y (attributeBlock s e)) (chain-in (next s) (attributeBlock s e) (attributeSize s e) (nth (next s) y (attributeBlock s e)) y h refl))))))
+            rw (field 32 (omega arith), field 36 (omega arith)) (chain-agree (next s) (next done) (attribute_block_of s e) (attribute_size_of s e)
+            (λ y h. moved-next (nth (next s) y (attribute_block_of s e))
+            (omega (arith, block-below s S (e + 28) (second s S e E file) (nth (next s) y (attribute_block_of s e)) (second-in (nth (next s) y (attribute_block_of s e)) (chain-in (next s) (attribute_block_of s e) (attribute_size_of s e) (nth (next s) y (attribute_block_of s e)) y h refl))))))
 
         moved-content : content done e' ≡ content s e
         unfolding content
         moved-content =
-            rw (field 8 (omega arith), moved-blocks) (ap (take (size_of s e)) (joined_same (block s) (block done) (fileBlocks s e)
+            rw (field 8 (omega arith), moved-blocks) (ap (take (size_of s e)) (joined_same (block s) (block done) (file_blocks s e)
             (λ q i. block-stays q (block-outside s S e (inl E) (file-no-self s S e E file) q (own_in q i)))))
 
         moved-attributes : attributes done e' ≡ attributes s e
         unfolding attributes
         moved-attributes =
-            rw moved-second (joined_same (block s) (block done) (attributeBlocks s e)
+            rw moved-second (joined_same (block s) (block done) (attribute_blocks s e)
             (λ q i. block-stays q (block-outside s S (e + 28) (second s S e E file) (second-no-self s S e E file) q (second-in q i))))
 
-        pub moved_view : fileOf done e' ≡ fileOf s e
-        unfolding fileOf
+        pub moved_view : file_of done e' ≡ file_of s e
+        unfolding file_of
         moved_view =
             let x : e' + 0 ≡ e' = omega arith in
             let y : e + 0 ≡ e = omega arith in

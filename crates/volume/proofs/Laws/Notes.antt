@@ -13,56 +13,56 @@ use Rattle.layout.specs.Table.{next}
 use Rattle.layout.proofs.Laws.Tests.{lt-or-ge, true-or-false}
 use Rattle.layout.proofs.Laws.Lists.{interval-from, select-same}
 use Rattle.volume.specs.Entries.{taken}
-use Rattle.volume.specs.Search.{firstFrom, lowestFree, Full, Noted, Exact, Renoted, Takeable, notedFull, searched}
+use Rattle.volume.specs.Search.{first_from, lowest_free, Full, Noted, Exact, Renoted, Takeable, noted_full, searched}
 use Rattle.volume.specs.Walks.Searches.{First}
 use Rattle.volume.proofs.Laws.Table.{taken-zeros}
 
 -- the lowest number from a on that passes
 module _ (p : ℕ → Bool) (n : ℕ) where
-  pub first-none : (a : ℕ) → n ≤ a → firstFrom p a n ≡ n
+  pub first-none : (a : ℕ) → n ≤ a → first_from p a n ≡ n
   first-none a h = let e : n - a ≡ 0 = omega arith in rw e
 
-  pub first-here : (a : ℕ) → a < n → p a ≡ true → firstFrom p a n ≡ a
+  pub first-here : (a : ℕ) → a < n → p a ≡ true → first_from p a n ≡ a
   first-here a h e = rw (interval-from n a h, e)
 
-  pub first-skip : (a : ℕ) → a < n → p a ≡ false → firstFrom p a n ≡ firstFrom p (a + 1) n
+  pub first-skip : (a : ℕ) → a < n → p a ≡ false → first_from p a n ≡ first_from p (a + 1) n
   first-skip a h e = rw (interval-from n a h, e)
 
-  first_past : (j a : ℕ) → a + j ≤ n → ((b : ℕ) → a ≤ b → b < a + j → p b ≡ false) → firstFrom p a n ≡ firstFrom p (a + j) n
+  first_past : (j a : ℕ) → a + j ≤ n → ((b : ℕ) → a ≤ b → b < a + j → p b ≡ false) → first_from p a n ≡ first_from p (a + j) n
   first_past zero a h f = let e : a + 0 ≡ a = omega arith in rw e
   first_past (suc j) a h f =
       let e : a + suc j ≡ a + 1 + j = omega arith in
-      first-skip a (omega arith) (f a (omega arith) (omega arith)) ∙ first_past j (a + 1) (omega arith) (λ b l u. f b (omega arith) (omega arith)) ∙ ap (λ (x : ℕ). firstFrom p x n) (sym e)
+      first-skip a (omega arith) (f a (omega arith) (omega arith)) ∙ first_past j (a + 1) (omega arith) (λ b l u. f b (omega arith) (omega arith)) ∙ ap (λ (x : ℕ). first_from p x n) (sym e)
 
-  pub first-is : (a r : ℕ) → First p a n r → r ≡ firstFrom p a n
+  pub first-is : (a r : ℕ) → First p a n r → r ≡ first_from p a n
   first-is a r f = ⊎_elim (λ h. below (lt-or-ge r n) h) (λ h. above (lt-or-ge r n) h) (lt-or-ge r a)
     where
-      below : (r < n) ⊎ (n ≤ r) → r < a → r ≡ firstFrom p a n
+      below : (r < n) ⊎ (n ≤ r) → r < a → r ≡ first_from p a n
       below (inl l) h = absurd (omega (arith, (f.met l).0))
       below (inr l) h = let e : r ≡ n = omega (arith, f.high) in e ∙ sym (first-none a (omega arith))
 
-      above : (r < n) ⊎ (n ≤ r) → a ≤ r → r ≡ firstFrom p a n
+      above : (r < n) ⊎ (n ≤ r) → a ≤ r → r ≡ first_from p a n
       above w h =
           let e : a + (r - a) ≡ r = omega arith in
           sym (first_past (r - a) a (omega (arith, f.high)) (λ b l u. f.before b l (omega arith)) ∙ rw e (at w))
         where
-          at : (r < n) ⊎ (n ≤ r) → firstFrom p r n ≡ r
+          at : (r < n) ⊎ (n ≤ r) → first_from p r n ≡ r
           at (inl l) = first-here r l (f.met l).1
           at (inr l) = let e : n ≡ r = omega (arith, f.high) in first-none r l ∙ e
 
-  pub first_of : (a : ℕ) → First p a n (firstFrom p a n)
+  pub first_of : (a : ℕ) → First p a n (first_from p a n)
   first_of a = from (n - a) a refl
     where
-      none : (b : ℕ) → n ≤ b → First p b n (firstFrom p b n)
+      none : (b : ℕ) → n ≤ b → First p b n (first_from p b n)
       none b h =
           subst (λ (r : ℕ). First p b n r) (sym (first-none b h))
           (record { high = omega arith; before = λ c l u. absurd (omega arith); met = λ g. absurd (omega arith) })
 
-      from : (k b : ℕ) → n - b ≡ k → First p b n (firstFrom p b n)
+      from : (k b : ℕ) → n - b ≡ k → First p b n (first_from p b n)
       from zero b e = none b (omega arith)
       from (suc k) b e = go (from k (b + 1) (omega arith)) (true-or-false (p b))
         where
-          go : First p (b + 1) n (firstFrom p (b + 1) n) → (p b ≡ true) ⊎ (p b ≡ false) → First p b n (firstFrom p b n)
+          go : First p (b + 1) n (first_from p (b + 1) n) → (p b ≡ true) ⊎ (p b ≡ false) → First p b n (first_from p b n)
           go rest (inl t) =
               subst (λ (r : ℕ). First p b n r) (sym (first-here b (omega arith) t))
               (record { high = omega arith; before = λ c l u. absurd (omega arith); met = λ g. (omega arith, t) })
@@ -114,34 +114,34 @@ first-same p q a n r e f =
 
 -- by right notes the search gives the lowest free block
 module _ (notes : List ℕ) (v : ℕ → ℕ) (n : ℕ) (exact : Exact v n notes) where
-  free-noted : (b : ℕ) → b < n → (not (notedFull notes b) && eqb (v b) 0) ≡ eqb (v b) 0
+  free-noted : (b : ℕ) → b < n → (not (noted_full notes b) && eqb (v b) 0) ≡ eqb (v b) 0
   free-noted b h = go (ℕ_discrete (get_or notes (b / 128) 0) 0)
     where
-      go : Dec (get_or notes (b / 128) 0 ≡ 0) → (not (notedFull notes b) && eqb (v b) 0) ≡ eqb (v b) 0
+      go : Dec (get_or notes (b / 128) 0 ≡ 0) → (not (noted_full notes b) && eqb (v b) 0) ≡ eqb (v b) 0
       go (yes e) = rw (eq-eqb (get_or notes (b / 128) 0) 0 e, ne_eqb (v b) 0 ((exact.right (b / 128) (omega (arith, exact.room))).full e b refl h))
       go (no d) = rw (ne_eqb (get_or notes (b / 128) 0) 0 d)
 
-  pub search-lowest : (a : ℕ) → searched notes v a n ≡ lowestFree v a n
-  unfolding searched lowestFree
+  pub search-lowest : (a : ℕ) → searched notes v a n ≡ lowest_free v a n
+  unfolding searched lowest_free
   search-lowest a =
       ap (λ (xs : List ℕ). get_or xs 0 n)
-      (select-same (λ b. eqb (v b) 0) (λ b. not (notedFull notes b) && eqb (v b) 0) (n - a) a (λ b l u. free-noted b (omega arith)))
+      (select-same (λ b. eqb (v b) 0) (λ b. not (noted_full notes b) && eqb (v b) 0) (n - a) a (λ b l u. free-noted b (omega arith)))
 
 -- no matter what the entries of the blocks noted as full are
-pub search-any-full : (notes : List ℕ) (v w : ℕ → ℕ) (a n : ℕ) → ((b : ℕ) → b < n → notedFull notes b ≡ false → w b ≡ v b) → searched notes w a n ≡ searched notes v a n
+pub search-any-full : (notes : List ℕ) (v w : ℕ → ℕ) (a n : ℕ) → ((b : ℕ) → b < n → noted_full notes b ≡ false → w b ≡ v b) → searched notes w a n ≡ searched notes v a n
 unfolding searched
 search-any-full notes v w a n same =
     ap (λ (xs : List ℕ). get_or xs 0 n)
-    (select-same (λ b. not (notedFull notes b) && eqb (v b) 0) (λ b. not (notedFull notes b) && eqb (w b) 0) (n - a) a
-    (λ b l u. go b (notedFull notes b) (same b (omega arith))))
+    (select-same (λ b. not (noted_full notes b) && eqb (v b) 0) (λ b. not (noted_full notes b) && eqb (w b) 0) (n - a) a
+    (λ b l u. go b (noted_full notes b) (same b (omega arith))))
   where
     go : (b : ℕ) (t : Bool) → (t ≡ false → w b ≡ v b) → (not t && eqb (w b) 0) ≡ (not t && eqb (v b) 0)
     go b true f = refl
     go b false f = ap (λ (x : ℕ). eqb x 0) (f refl)
 
 -- without notes: on two tables that agree outside table blocks that are full in both, the lowest free block is the same
-pub lowest-any-full : (v w : ℕ → ℕ) (a n : ℕ) → ((b : ℕ) → b < n → (w b ≡ v b) ⊎ (Full v n (b / 128) × Full w n (b / 128))) → lowestFree w a n ≡ lowestFree v a n
-unfolding lowestFree
+pub lowest-any-full : (v w : ℕ → ℕ) (a n : ℕ) → ((b : ℕ) → b < n → (w b ≡ v b) ⊎ (Full v n (b / 128) × Full w n (b / 128))) → lowest_free w a n ≡ lowest_free v a n
+unfolding lowest_free
 lowest-any-full v w a n same =
     ap (λ (xs : List ℕ). get_or xs 0 n) (select-same (λ b. eqb (v b) 0) (λ b. eqb (w b) 0) (n - a) a (λ b l u. go b (omega arith) (same b (omega arith))))
   where

@@ -11,14 +11,14 @@ use borrow.Author.Tests.{eq-eqb}
 use lib.ListN.{length}
 use Rattle.layout.specs.Lists.{has, same}
 use Rattle.layout.specs.Bytes.{be32}
-use Rattle.layout.specs.Geometry.{blockCount}
-use Rattle.layout.specs.Directory.{isDirectory}
+use Rattle.layout.specs.Geometry.{block_count}
+use Rattle.layout.specs.Directory.{is_directory}
 use Rattle.layout.specs.Check.{check}
-use Rattle.layout.specs.Paths.{parts, pathOk, shallow, pathSlot, entry_of, directoryRefusal}
-use Rattle.volume.specs.Directories.{deleteDirectoryRefusal}
-use Rattle.volume.specs.Change.{Change, create, write, delete, createDirectory, deleteDirectory, setAttributes, clearAttributes, clearFlags, shorten, replace, refusal, after, move}
+use Rattle.layout.specs.Paths.{parts, path_ok, shallow, path_slot, entry_of, directory_refusal}
+use Rattle.volume.specs.Directories.{delete_directory_refusal}
+use Rattle.volume.specs.Change.{Change, create, write, delete, create_directory, delete_directory, set_attributes, clear_attributes, clear_flags, shorten, replace, refusal, after, move}
 use Rattle.volume.specs.Claims.{Aside}
-use Rattle.volume.specs.Views.{File, Folder, Maybe, nothing, folderOf, fileAt, folderAt, SameFiles, subject, further, subjects, made, madeFolder, takes, gives, givesFolder}
+use Rattle.volume.specs.Views.{File, Folder, Maybe, nothing, folder_of, file_at, folder_at, SameFiles, subject, further, subjects, made, made_folder, takes, gives, gives_folder}
 use Rattle.volume.proofs.Laws.Sound.{kept}
 use Rattle.volume.proofs.Laws.Places.{set-path}
 use Rattle.volume.proofs.Laws.Shorten.{shorten-given}
@@ -27,7 +27,7 @@ use Rattle.volume.proofs.Laws.Moved.{move-given, move-vacant}
 use Rattle.volume.proofs.Laws.Views.{not-nothing}
 use Rattle.volume.proofs.Laws.Shown.{not-shown, write-path}
 use Rattle.volume.proofs.Laws.Acts.{acts}
-use Rattle.layout.proofs.Laws.Tests.{firstOf-zero, true-not-false}
+use Rattle.layout.proofs.Laws.Tests.{first_of-zero, true-not-false}
 use Rattle.layout.proofs.Laws.Inside.{directory-used-type}
 use Rattle.layout.proofs.Laws.Lists.{In, in-has}
 use Rattle.layout.proofs.Laws.Names.{same-eq, same_refl, same_or_not}
@@ -38,7 +38,7 @@ abbrev pub Shown : Type 0
 Shown = Maybe File × Maybe Folder
 
 unfoldable pub shown : List ℕ → List ℕ → Shown
-shown s path = (fileAt s path, folderAt s path)
+shown s path = (file_at s path, folder_at s path)
 
 abbrev pub none : Shown
 none = (nothing, nothing)
@@ -109,7 +109,7 @@ module _ (c d : Action) (ne : Disjoint (c.path ∷ c.tos) (d.path ∷ d.tos)) (s
   both-size : length x ≡ length s
   both-size = D.size ∙ C.size
 
-free-is : (s : List ℕ) → check s ≡ 0 → be32 s 24 ≡ blockCount s - be32 s 20
+free-is : (s : List ℕ) → check s ≡ 0 → be32 s 24 ≡ block_count s - be32 s 20
 free-is s ok = let u = (sound s ok).used-is in let f = (sound s ok).free-is in omega arith
 
 -- both orders
@@ -162,57 +162,57 @@ action c =
     record {
       path = subject c;
       tos = further c;
-      makes = λ m. (made c m.0, madeFolder c m.1);
+      makes = λ m. (made c m.0, made_folder c m.1);
       takes = λ m. takes c m.0;
-      gives = λ m. gives c m.0 + givesFolder c m.1;
+      gives = λ m. gives c m.0 + gives_folder c m.1;
     }
 
 -- where there is no directory, none is shown
-no-folder : (s path : List ℕ) → pathSlot isDirectory s path ≡ 0 → folderAt s path ≡ nothing
-unfolding folderAt directoryRefusal
-no-folder s path z = go (pathOk path) refl (shallow (parts path)) refl
+no-folder : (s path : List ℕ) → path_slot is_directory s path ≡ 0 → folder_at s path ≡ nothing
+unfolding folder_at directory_refusal
+no-folder s path z = go (path_ok path) refl (shallow (parts path)) refl
   where
-    go : (g : Bool) → pathOk path ≡ g → (w : Bool) → shallow (parts path) ≡ w → folderAt s path ≡ nothing
+    go : (g : Bool) → path_ok path ≡ g → (w : Bool) → shallow (parts path) ≡ w → folder_at s path ≡ nothing
     go false q w v = rw q
     go true q false v = rw (q, v)
-    go true q true v = rw (q, v, eq-eqb (pathSlot isDirectory s path) 0 z)
+    go true q true v = rw (q, v, eq-eqb (path_slot is_directory s path) 0 z)
 
-pub folder-there : (s path : List ℕ) → directoryRefusal s path ≡ 0 → folderAt s path ≢ nothing
-unfolding folderAt
-folder-there s path r q = not-nothing (folderOf s (entry_of isDirectory s path)) (rw r at q)
+pub folder-there : (s path : List ℕ) → directory_refusal s path ≡ 0 → folder_at s path ≢ nothing
+unfolding folder_at
+folder-there s path r q = not-nothing (folder_of s (entry_of is_directory s path)) (rw r at q)
 
 -- an accepted change is about something that its path shows before, or after
-lively : (s : List ℕ) (c : Change) → check s ≡ 0 → refusal s c ≡ 0 → fileAt s (subject c) ≡ nothing → folderAt s (subject c) ≡ nothing
-    → made c (fileAt s (subject c)) ≡ nothing → madeFolder c (folderAt s (subject c)) ≡ nothing → ⊥
-unfolding refusal subject made madeFolder deleteDirectoryRefusal
+lively : (s : List ℕ) (c : Change) → check s ≡ 0 → refusal s c ≡ 0 → file_at s (subject c) ≡ nothing → folder_at s (subject c) ≡ nothing
+    → made c (file_at s (subject c)) ≡ nothing → made_folder c (folder_at s (subject c)) ≡ nothing → ⊥
+unfolding refusal subject made made_folder delete_directory_refusal
 lively s (create path type user group permissions flags time) ok r f d now g = not-nothing _ now
 lively s (write path offset bytes time) ok r f d now g = not-shown s path f (write-path s path ok offset (length bytes) r).0
 lively s (delete path) ok r f d now g = not-shown s path f r
-lively s (createDirectory path type user group permissions flags time size) ok r f d now g = not-nothing _ g
-lively s (deleteDirectory path) ok r f d now g = folder-there s path (firstOf-zero (directoryRefusal s path) _ r).0 d
-lively s (setAttributes path bytes) ok r f d now g = not-shown s path f (set-path s path (length bytes) r)
-lively s (clearAttributes path) ok r f d now g = not-shown s path f r
-lively s (clearFlags path) ok r f d now g = not-shown s path f r
+lively s (create_directory path type user group permissions flags time size) ok r f d now g = not-nothing _ g
+lively s (delete_directory path) ok r f d now g = folder-there s path (first_of-zero (directory_refusal s path) _ r).0 d
+lively s (set_attributes path bytes) ok r f d now g = not-shown s path f (set-path s path (length bytes) r)
+lively s (clear_attributes path) ok r f d now g = not-shown s path f r
+lively s (clear_flags path) ok r f d now g = not-shown s path f r
 lively s (shorten path size time) ok r f d now g = not-shown s path f (shorten-given s path size r).there
 lively s (replace path bytes time) ok r f d now g = not-shown s path f (replace-there s path (length bytes) r)
 lively s (move path to) ok r f d now g = not-shown s path f (move-given s path to r).from
 
 -- a change with a further path has a file at its first, and no directory is at the further one
-carries : (s : List ℕ) (c : Change) → refusal s c ≡ 0 → (to : List ℕ) → In to (further c) → (fileAt s (subject c) ≢ nothing) × (folderAt s to ≡ nothing)
+carries : (s : List ℕ) (c : Change) → refusal s c ≡ 0 → (to : List ℕ) → In to (further c) → (file_at s (subject c) ≢ nothing) × (folder_at s to ≡ nothing)
 unfolding refusal subject further
 carries s (create path type user group permissions flags time) r p i = absurd i
 carries s (write path offset bytes time) r p i = absurd i
 carries s (delete path) r p i = absurd i
-carries s (createDirectory path type user group permissions flags time d) r p i = absurd i
-carries s (deleteDirectory path) r p i = absurd i
-carries s (setAttributes path bytes) r p i = absurd i
-carries s (clearAttributes path) r p i = absurd i
-carries s (clearFlags path) r p i = absurd i
+carries s (create_directory path type user group permissions flags time d) r p i = absurd i
+carries s (delete_directory path) r p i = absurd i
+carries s (set_attributes path bytes) r p i = absurd i
+carries s (clear_attributes path) r p i = absurd i
+carries s (clear_flags path) r p i = absurd i
 carries s (shorten path size time) r p i = absurd i
 carries s (replace path bytes time) r p i = absurd i
 carries s (move path to) r p (inl q) =
     let G = move-given s path to r in
-    ((λ z. not-shown s path z G.from), ap (folderAt s) q ∙ no-folder s to (move-vacant s path to G isDirectory directory-used-type))
+    ((λ z. not-shown s path z G.from), ap (folder_at s) q ∙ no-folder s to (move-vacant s path to G is_directory directory-used-type))
 carries s (move path to) r p (inr i) = absurd i
 
 pub done : (s : List ℕ) (c : Change) → check s ≡ 0 → refusal s c ≡ 0 → Done (action c) s (after s c)

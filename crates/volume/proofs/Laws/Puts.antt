@@ -7,7 +7,7 @@ use native.Mathlib.Omega.{arith}
 use lib.ListN.{length, take, drop, length-drop, drop_of_length-le}
 use lib.Seq.{take_all, take-nil, drop-nil, take-append-le, drop-append-le, take-append-add, drop-append-add}
 use Rattle.layout.specs.Bytes.{bytes4, bytes8, splice}
-use Rattle.volume.specs.Write.{put, setFile}
+use Rattle.volume.specs.Write.{put, set_file}
 use Rattle.layout.proofs.Laws.Tests.{lt-or-ge}
 use Rattle.layout.proofs.Laws.Lists.{In}
 use Rattle.layout.proofs.Laws.Bytes.{length-splice, splice-nil, splice-append, length-bytes8, length-take-most}
@@ -92,8 +92,8 @@ module _ (n : ℕ) where
 
 -- the numbers of an entry, set twice
 pub set-file-again : (s : List ℕ) (e first size blocks first' size' blocks' time : ℕ) → e + 128 ≤ length s
-    → setFile (setFile s e first size blocks time) e first' size' blocks' time ≡ setFile s e first' size' blocks' time
-unfolding setFile bytes4
+    → set_file (set_file s e first size blocks time) e first' size' blocks' time ≡ set_file s e first' size' blocks' time
+unfolding set_file bytes4
 set-file-again s e first size blocks first' size' blocks' time fit =
     let p : List ℕ = bytes4 first ++ (bytes4 size ++ bytes4 blocks) in
     let q : List ℕ = bytes4 first' ++ (bytes4 size' ++ bytes4 blocks') in

@@ -6,24 +6,24 @@ use mathlib.Core.List.{List}
 use mathlib.Core.Logic.{inl, inr, ⊎_elim, ◌≢◌}
 use native.Mathlib.Omega.{arith}
 use lib.ListN.{length}
-use Rattle.layout.specs.Geometry.{blockCount, tableBlocks}
-use Rattle.layout.specs.Table.{next, chain, chainOk}
+use Rattle.layout.specs.Geometry.{block_count, table_blocks}
+use Rattle.layout.specs.Table.{next, chain, chain_ok}
 use Rattle.volume.specs.Entries.{released, freed}
 use Rattle.volume.proofs.Laws.Table.{released-next, freed-size, freed-same, freed-at, freed-other, freed-used, freed-free}
 use Rattle.layout.proofs.Laws.Lists.{In}
 use Rattle.layout.proofs.Laws.Tests.{lt-or-gt}
 use Rattle.layout.proofs.Laws.Frames.{same_then}
-use Rattle.layout.proofs.Laws.Chains.{nth, nth-agree, chain-in, chain-agree, Chain, chainOk-split, chainOk-join, chain-used, rest-same}
+use Rattle.layout.proofs.Laws.Chains.{nth, nth-agree, chain-in, chain-agree, Chain, chain_ok-split, chain_ok-join, chain-used, rest-same}
 use Rattle.layout.proofs.Laws.Tables.{table-popped}
-use Rattle.layout.proofs.Laws.Sound.{Sound, blocksOfAll}
+use Rattle.layout.proofs.Laws.Sound.{Sound, blocks_of_all}
 use Rattle.layout.proofs.Laws.Steps.{over, over-same, over-other, Midway, Staying, kept_above, dir-apart}
 
 -- a chain that shares no block with those freed is the chain that it was
-module _ (n : ℕ) (n₁ : 3 ≤ n) (bs s : List ℕ) (first k : ℕ) (len : length s ≡ 512 * n) (below : (q : ℕ) → In q bs → q < n) (above : (q : ℕ) → In q bs → tableBlocks n < q)
-    (right : chainOk (next s) n first k ≡ true) (apart : (q : ℕ) → In q (chain (next s) first k) → In q bs → ⊥)
+module _ (n : ℕ) (n₁ : 3 ≤ n) (bs s : List ℕ) (first k : ℕ) (len : length s ≡ 512 * n) (below : (q : ℕ) → In q bs → q < n) (above : (q : ℕ) → In q bs → table_blocks n < q)
+    (right : chain_ok (next s) n first k ≡ true) (apart : (q : ℕ) → In q (chain (next s) first k) → In q bs → ⊥)
   where
     C : Chain (next s) n first k
-    C = chainOk-split (next s) n first k right
+    C = chain_ok-split (next s) n first k right
 
     same : (y : ℕ) → y < k → next (released s n bs) (nth (next s) y first) ≡ next s (nth (next s) y first)
     same y h =
@@ -36,14 +36,14 @@ module _ (n : ℕ) (n₁ : 3 ≤ n) (bs s : List ℕ) (first k : ℕ) (len : len
     pub released-chain : chain (next (released s n bs)) first k ≡ chain (next s) first k
     released-chain = chain-agree (next s) (next (released s n bs)) first k same
 
-    pub released-chained : chainOk (next (released s n bs)) n first k ≡ true
+    pub released-chained : chain_ok (next (released s n bs)) n first k ≡ true
     released-chained =
-        chainOk-join (next (released s n bs)) n first k
+        chain_ok-join (next (released s n bs)) n first k
         (record { above = λ x h. rw (at x (omega arith)) (C.above x h); below = λ x h. rw (at x (omega arith)) (C.below x h); last = λ pos. rw (at k (omega arith)) (C.last pos) })
 
 module _ (s : List ℕ) (S : Sound s) (ks : List (ℕ × ℕ)) (P : ℕ → Type 0) (f l : ℕ → ℕ) (k : ℕ) (St : Staying s ks P f l k) where
   abbrev n : ℕ
-  n = blockCount s
+  n = block_count s
 
   -- the first block of the chain is freed
   module _ (t : List ℕ) (b c : ℕ) (I : Midway s ks P f l k t b (suc c)) where
@@ -53,7 +53,7 @@ module _ (s : List ℕ) (S : Sound s) (ks : List (ℕ × ℕ)) (P : ℕ → Type
     bn : b < n
     bn = mine.below 0 (omega arith)
 
-    tb : tableBlocks n < b
+    tb : table_blocks n < b
     tb = mine.above 0 (omega arith)
 
     whole : length t ≡ 512 * n
@@ -62,7 +62,7 @@ module _ (s : List ℕ) (S : Sound s) (ks : List (ℕ × ℕ)) (P : ℕ → Type
     used-b : next t b ≢ 0
     used-b = chain-used (next t) n b (suc c) mine S.least 0 (omega arith)
 
-    away : (q : ℕ) → In q (blocksOfAll s ks) → q ≢ b
+    away : (q : ℕ) → In q (blocks_of_all s ks) → q ≢ b
     away q i = dir-apart s S ks P f l k St t b (suc c) I q i 0 (omega arith)
 
     freed-step : Midway s ks P f l k (freed t n b) (next t b) c

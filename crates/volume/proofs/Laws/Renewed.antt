@@ -11,11 +11,11 @@ use lib.ListN.{length}
 use lib.Dec.{eqb}
 use Rattle.layout.specs.Lists.{iff}
 use Rattle.layout.specs.Bytes.{be32, bytes8, part}
-use Rattle.layout.specs.Geometry.{blockCount, tableBlocks, blocksFor, rootBlock}
+use Rattle.layout.specs.Geometry.{block_count, table_blocks, blocks_for, root_block}
 use Rattle.layout.specs.Table.{next}
-use Rattle.layout.specs.Directory.{slot_at, type_of, firstBlock, size_of, blocksOf, isFree, isFile, isDirectory, name_of, nameOk, directory, dirs}
-use Rattle.layout.specs.Check.{noAttributes, attributesOk, fileOk, slotOk}
-use Rattle.volume.specs.Write.{setFile}
+use Rattle.layout.specs.Directory.{slot_at, type_of, first_block, size_of, blocks_of, is_free, is_file, is_directory, name_of, name_ok, directory, dirs}
+use Rattle.layout.specs.Check.{no_attributes, attributes_ok, file_ok, slot_ok}
+use Rattle.volume.specs.Write.{set_file}
 use Rattle.volume.proofs.Laws.Entries.{set-file-length, set-file-same, set-file-created, set-file-modified, set-file-first, set-file-size, set-file-blocks}
 use Rattle.layout.proofs.Laws.Tests.{and_split, and-join}
 use Rattle.layout.proofs.Laws.Lists.{In}
@@ -31,9 +31,9 @@ use Rattle.layout.proofs.Laws.Steps.{over-same, Midway, midway-own, one-slot}
 
 -- what stays of the entry at e, whose numbers and modified time were set
 pub record Renewed (s s' : List ℕ) (e first size blocks time : ℕ) : Type 0 where
-  pub first-is : firstBlock s' e ≡ first
+  pub first-is : first_block s' e ≡ first
   pub size_is : size_of s' e ≡ size
-  pub blocks_is : blocksOf s' e ≡ blocks
+  pub blocks_is : blocks_of s' e ≡ blocks
   -- type, user, group and permissions; time created; time modified; attributes, system flags, reserved and name
   pub kind : part s' e 4 ≡ part s e 4
   pub created : part s' (e + 16) 8 ≡ part s (e + 16) 8
@@ -45,24 +45,24 @@ pub record Renewed (s s' : List ℕ) (e first size blocks time : ℕ) : Type 0 w
   pub attribute : be32 s' (e + 32) ≡ be32 s (e + 32)
   pub attribute-size : be32 s' (e + 36) ≡ be32 s (e + 36)
 
-module _ (s : List ℕ) (S : Sound s) (d : ℕ × ℕ) (di : In d (dirs s)) (k : ℕ) (k₁ : 1 ≤ k) (k₂ : k < 4 * size_at s d.0 - 1) (file : isFile (type_of s (slot_at (directory s d.0) k)) ≡ true)
-    (full : List ℕ) (b c : ℕ) (filled : Midway s (dirs s) (Owner s) (firstBlock s) (held_at s) (slot_at (directory s d.0) k) full b c)
-    (first size time : ℕ) (starts : 0 < c → first ≡ b) (empty : c ≡ 0 → first ≡ 0) (needs : c ≡ blocksFor size) (few : c ≤ blockCount s)
+module _ (s : List ℕ) (S : Sound s) (d : ℕ × ℕ) (di : In d (dirs s)) (k : ℕ) (k₁ : 1 ≤ k) (k₂ : k < 4 * size_at s d.0 - 1) (file : is_file (type_of s (slot_at (directory s d.0) k)) ≡ true)
+    (full : List ℕ) (b c : ℕ) (filled : Midway s (dirs s) (Owner s) (first_block s) (held_at s) (slot_at (directory s d.0) k) full b c)
+    (first size time : ℕ) (starts : 0 < c → first ≡ b) (empty : c ≡ 0 → first ≡ 0) (needs : c ≡ blocks_for size) (few : c ≤ block_count s)
   where
     abbrev n : ℕ
-    n = blockCount s
+    n = block_count s
 
     abbrev e : ℕ
     e = slot_at (directory s d.0) k
 
     abbrev done : List ℕ
-    done = setFile full (slot_at (directory s d.0) k) first size c time
+    done = set_file full (slot_at (directory s d.0) k) first size c time
 
     mine : Entry s e
     mine = slot-entry s S d di k (omega arith)
 
     own : Chain (next full) n b c
-    own = rw (over-same e b (firstBlock s), over-same e c (held_at s)) at (filled.table.right e (inl mine))
+    own = rw (over-same e b (first_block s), over-same e c (held_at s)) at (filled.table.right e (inl mine))
 
     pub renewed-small : first < 0x100000000
     renewed-small = ⊎_elim (λ q. omega (arith, empty (sym q))) (λ q. omega (arith, starts q, own.below 0 q, S.most)) (eq-or-lt_of_le {n = 0} {m = c} (omega arith))
@@ -124,35 +124,35 @@ module _ (s : List ℕ) (S : Sound s) (d : ℕ × ℕ) (di : In d (dirs s)) (k :
         go zero q = rw (eq-eqb first 0 (empty q), eq-eqb size 0 (omega (arith, needs)))
         go (suc x) q = rw (ne_eqb first 0 (λ o. omega (arith, starts (omega arith), own.above 0 (omega arith))), ne_eqb size 0 (λ o. omega (arith, needs)))
 
-    slot_ok : slotOk done e ≡ true
-    unfolding slotOk fileOk nameOk attributesOk noAttributes
-    slot_ok =
+    slot-ok : slot_ok done e ≡ true
+    unfolding slot_ok file_ok name_ok attributes_ok no_attributes
+    slot-ok =
         let w = file-right s S d di k k₁ k₂ file in
-        let a = and_split (nameOk s e) _ w in
-        let g = and_split (attributesOk s e) _ a.1 in
+        let a = and_split (name_ok s e) _ w in
+        let g = and_split (attributes_ok s e) _ a.1 in
         let r = renewed-entry in
         rw (r.type, file, r.name, field-done, r.attribute, r.attribute-size, r.first-is, r.size_is, r.blocks_is)
-        (rw (and-join a.0 (and-join g.0 (and-join (eq-eqb c (blocksFor size) needs) empty-exact))) (or-true (isFree (type_of s e))))
+        (rw (and-join a.0 (and-join g.0 (and-join (eq-eqb c (blocks_for size) needs) empty-exact))) (or-true (is_free (type_of s e))))
 
-    no-dir : isDirectory (type_of s e) ≡ false
+    no-dir : is_directory (type_of s e) ≡ false
     no-dir = file-no-dir (type_of s e) file
 
-    pub renewed-sound : Sound (setFile full (slot_at (directory s d.0) k) first size c time)
+    pub renewed-sound : Sound (set_file full (slot_at (directory s d.0) k) first size c time)
     renewed-sound =
         let r = renewed-entry in
-        midway-own s S d di k k₁ k₂ full b c filled done renewed-full renewed-outside no-dir (rw r.type no-dir) slot_ok
+        midway-own s S d di k k₁ k₂ full b c filled done renewed-full renewed-outside no-dir (rw r.type no-dir) slot-ok
         (λ u j h g ne uj q. names-differ s S d di j k h k₁ g k₂ ne uj (file-used-type (type_of s e) file) (sym q ∙ r.name)) (λ pos. r.first-is ∙ starts pos)
         (own_held done e mine.aligned ∙ (rw (r.type, r.blocks_is) (file-held (type_of s e) c file)))
         (rw (second-held done e mine.aligned, second-held s e mine.aligned, r.type, r.attribute-size))
         (λ pos. rw (second-first done e, second-first s e) r.attribute)
 
     -- only this slot of the directories differs
-    pub renewed-slot : OneSlot s (dirs s) (setFile full (slot_at (directory s d.0) k) first size c time) (slot_at (directory s d.0) k)
-    renewed-slot = one-slot s S d di k k₁ k₂ (firstBlock s) (held_at s) e full b c filled done renewed-full renewed-outside
+    pub renewed-slot : OneSlot s (dirs s) (set_file full (slot_at (directory s d.0) k) first size c time) (slot_at (directory s d.0) k)
+    renewed-slot = one-slot s S d di k k₁ k₂ (first_block s) (held_at s) e full b c filled done renewed-full renewed-outside
 
     -- the table and the counts are those of the image midway
-    pub renewed-next : (y : ℕ) → y < 128 * tableBlocks (blockCount s) → next done y ≡ next full y
-    renewed-next = before-next full done n (renewed-outside 0 (512 * rootBlock n) (inl (omega (arith, entry-low s S e mine))))
+    pub renewed-next : (y : ℕ) → y < 128 * table_blocks (block_count s) → next done y ≡ next full y
+    renewed-next = before-next full done n (renewed-outside 0 (512 * root_block n) (inl (omega (arith, entry-low s S e mine))))
 
     pub renewed-count : (i : ℕ) → i + 4 ≤ 512 → be32 done i ≡ be32 full i
     renewed-count i h =

@@ -9,14 +9,14 @@ use lib.ListN.{length, get_or, length-append}
 use lib.Dec.{eqb}
 use Rattle.layout.specs.Lists.{joined}
 use Rattle.layout.specs.Bytes.{be32, bytes4, part, block, zeros}
-use Rattle.layout.specs.Geometry.{blockCount, tableBlocks}
+use Rattle.layout.specs.Geometry.{block_count, table_blocks}
 use Rattle.layout.specs.Table.{next, chain}
-use Rattle.layout.specs.Directory.{slot_at, type_of, firstBlock, attributeBlock, attributeSize, attributeBlocks, attributes, isFile, directory, dirs}
+use Rattle.layout.specs.Directory.{slot_at, type_of, first_block, attribute_block_of, attribute_size_of, attribute_blocks, attributes, is_file, directory, dirs}
 use Rattle.layout.specs.Check.{check}
-use Rattle.layout.specs.Paths.{home, pathSlot, entry_of, fileRefusal}
-use Rattle.volume.specs.Entries.{grown, blocksNamed}
+use Rattle.layout.specs.Paths.{home, path_slot, entry_of, file_refusal}
+use Rattle.volume.specs.Entries.{grown, blocks_named}
 use Rattle.volume.specs.Write.{put}
-use Rattle.volume.specs.Attributes.{emptied, newAttributes, setAttributeFields, setAttributesAt, clearAttributesAt, setAttributesNamed, clearAttributesNamed, setAttributesRefusal}
+use Rattle.volume.specs.Attributes.{emptied, new_attributes, set_attribute_fields, set_attributes_at, clear_attributes_at, set_attributes_named, clear_attributes_named, set_attributes_refusal}
 use Rattle.volume.proofs.Laws.Table.{grown-used}
 use Rattle.volume.proofs.Laws.Frame.{blocks-not}
 use Rattle.volume.proofs.Laws.Data.{joined-put}
@@ -32,17 +32,17 @@ use Rattle.layout.proofs.Laws.Trees.{size_at}
 use Rattle.layout.proofs.Laws.Sound.{Sound, Entry, Owner, held_at, sound, check-zero}
 use Rattle.layout.proofs.Laws.Slots.{slot-entry, entry-low, entry-high}
 use Rattle.layout.proofs.Laws.Files.{AttributeFields, length-blocks}
-use Rattle.layout.proofs.Laws.Owners.{blocksAt, Fresh}
+use Rattle.layout.proofs.Laws.Owners.{blocks_at, Fresh}
 use Rattle.layout.proofs.Laws.Counts.{occupied-most, occupied-same}
 use Rattle.layout.proofs.Laws.Changed.{OneSlot}
 use Rattle.layout.proofs.Laws.Steps.{Midway}
 use Rattle.layout.proofs.Laws.Others.{SameFile}
 
 module _ (s : List ℕ) (S : Sound s) (d : ℕ × ℕ) (di : In d (dirs s)) (k : ℕ) (k₁ : 1 ≤ k) (k₂ : k < 4 * size_at s d.0 - 1)
-    (file : isFile (type_of s (slot_at (directory s d.0) k)) ≡ true)
+    (file : is_file (type_of s (slot_at (directory s d.0) k)) ≡ true)
   where
     abbrev n : ℕ
-    n = blockCount s
+    n = block_count s
 
     abbrev e : ℕ
     e = slot_at (directory s d.0) k
@@ -51,31 +51,31 @@ module _ (s : List ℕ) (S : Sound s) (d : ℕ × ℕ) (di : In d (dirs s)) (k :
     E = slot-entry s S d di k (omega arith)
 
     abbrev old : List ℕ
-    old = attributeBlocks s e
+    old = attribute_blocks s e
 
     -- steps that write to blocks bs and what they name, then the fields
-    module _ (t : List ℕ) (b c : ℕ) (I : Midway s (dirs s) (Owner s) (firstBlock s) (held_at s) (e + 28) t b c) (first : ℕ)
-        (bs : List ℕ) (within : Agree s t (blocksNamed bs)) (below : (q : ℕ) → In q bs → q < n)
-        (values : (y : ℕ) → y < 128 * tableBlocks n → (In y bs → ⊥) → next t y ≡ next s y)
-        (apart : (a : ℕ) → Owner s a → a ≢ e + 28 → (q : ℕ) → In q (blocksAt s a) → In q bs → ⊥)
+    module _ (t : List ℕ) (b c : ℕ) (I : Midway s (dirs s) (Owner s) (first_block s) (held_at s) (e + 28) t b c) (first : ℕ)
+        (bs : List ℕ) (within : Agree s t (blocks_named bs)) (below : (q : ℕ) → In q bs → q < n)
+        (values : (y : ℕ) → y < 128 * table_blocks n → (In y bs → ⊥) → next t y ≡ next s y)
+        (apart : (a : ℕ) → Owner s a → a ≢ e + 28 → (q : ℕ) → In q (blocks_at s a) → In q bs → ⊥)
       where
         abbrev t' : List ℕ
-        t' = setAttributeFields t e first c
+        t' = set_attribute_fields t e first c
 
-        changed-bounded : Bounded s t' (e / 512 ∷ blocksNamed bs)
-        unfolding setAttributeFields
+        changed-bounded : Bounded s t' (e / 512 ∷ blocks_named bs)
+        unfolding set_attribute_fields
         changed-bounded =
             let l : length (bytes4 first ++ bytes4 c) ≡ 8 = simp (length-append, length-bytes4) in
             entry-bounded s S e E t bs within below (e + 32) (bytes4 first ++ bytes4 c) (omega arith) (omega arith)
 
-        kept_next : (y : ℕ) → y < 128 * tableBlocks n → (In y bs → ⊥) → next t' y ≡ next s y
+        kept_next : (y : ℕ) → y < 128 * table_blocks n → (In y bs → ⊥) → next t' y ≡ next s y
         kept_next y h ne = updated-next s S e E file t b c I first y h ∙ values y h ne
 
         -- the other owners
-        changed-next : (a : ℕ) → Owner s a → a ≢ e + 28 → ((x : ℕ × ℕ) → In x (dirs s) → a ≢ 512 * x.0) → (q : ℕ) → In q (blocksAt s a) → next t' q ≡ next s q
+        changed-next : (a : ℕ) → Owner s a → a ≢ e + 28 → ((x : ℕ × ℕ) → In x (dirs s) → a ≢ 512 * x.0) → (q : ℕ) → In q (blocks_at s a) → next t' q ≡ next s q
         changed-next a O ne no_self = value-kept s S e E bs t' changed-bounded.agree below kept_next a O no_self (apart a O ne)
 
-        changed_block : (a : ℕ) → Owner s a → a ≢ e + 28 → ((x : ℕ × ℕ) → In x (dirs s) → a ≢ 512 * x.0) → (q : ℕ) → In q (blocksAt s a) → block t' q ≡ block s q
+        changed_block : (a : ℕ) → Owner s a → a ≢ e + 28 → ((x : ℕ × ℕ) → In x (dirs s) → a ≢ 512 * x.0) → (q : ℕ) → In q (blocks_at s a) → block t' q ≡ block s q
         changed_block a O ne no_self = block-kept s S e E bs t' changed-bounded.agree below kept_next a O no_self (apart a O ne)
 
         -- the file itself
@@ -89,73 +89,73 @@ module _ (s : List ℕ) (S : Sound s) (d : ℕ × ℕ) (di : In d (dirs s)) (k :
     abbrev z : ℕ
     z = (freeing s S e E file).0
 
-    I : Midway s (dirs s) (Owner s) (firstBlock s) (held_at s) (e + 28) (emptied s e) (freeing s S e E file).0 0
+    I : Midway s (dirs s) (Owner s) (first_block s) (held_at s) (e + 28) (emptied s e) (freeing s S e E file).0 0
     I = (freeing s S e E file).1
 
     none : AttributeFields 0 0
     none = inl (refl, refl)
 
-    pub cleared-sound : Sound (clearAttributesAt s e)
-    unfolding clearAttributesAt
+    pub cleared-sound : Sound (clear_attributes_at s e)
+    unfolding clear_attributes_at
     cleared-sound = updated-sound s S d di k k₁ k₂ file (emptied s e) z 0 I 0 (omega arith) none (λ pos. absurd (omega arith))
 
-    pub cleared-bounded : Bounded s (clearAttributesAt s e) (clearAttributesNamed s e)
-    unfolding clearAttributesAt clearAttributesNamed
+    pub cleared-bounded : Bounded s (clear_attributes_at s e) (clear_attributes_named s e)
+    unfolding clear_attributes_at clear_attributes_named
     cleared-bounded = changed-bounded (emptied s e) z 0 I 0 old (emptied-agree s S e E file) (old_below s S e E file) (emptied-next s S e E file) (old_apart s S e E file)
 
-    pub cleared-content : SameFile s (clearAttributesAt s e) e
-    unfolding clearAttributesAt
+    pub cleared-content : SameFile s (clear_attributes_at s e) e
+    unfolding clear_attributes_at
     cleared-content = changed-content (emptied s e) z 0 I 0 old (emptied-agree s S e E file) (old_below s S e E file) (emptied-next s S e E file) (old_apart s S e E file)
 
-    pub cleared-next : (a : ℕ) → Owner s a → a ≢ e + 28 → ((x : ℕ × ℕ) → In x (dirs s) → a ≢ 512 * x.0) → (q : ℕ) → In q (blocksAt s a) → next (clearAttributesAt s e) q ≡ next s q
-    unfolding clearAttributesAt
+    pub cleared-next : (a : ℕ) → Owner s a → a ≢ e + 28 → ((x : ℕ × ℕ) → In x (dirs s) → a ≢ 512 * x.0) → (q : ℕ) → In q (blocks_at s a) → next (clear_attributes_at s e) q ≡ next s q
+    unfolding clear_attributes_at
     cleared-next = changed-next (emptied s e) z 0 I 0 old (emptied-agree s S e E file) (old_below s S e E file) (emptied-next s S e E file) (old_apart s S e E file)
 
-    pub cleared-block : (a : ℕ) → Owner s a → a ≢ e + 28 → ((x : ℕ × ℕ) → In x (dirs s) → a ≢ 512 * x.0) → (q : ℕ) → In q (blocksAt s a) → block (clearAttributesAt s e) q ≡ block s q
-    unfolding clearAttributesAt
+    pub cleared-block : (a : ℕ) → Owner s a → a ≢ e + 28 → ((x : ℕ × ℕ) → In x (dirs s) → a ≢ 512 * x.0) → (q : ℕ) → In q (blocks_at s a) → block (clear_attributes_at s e) q ≡ block s q
+    unfolding clear_attributes_at
     cleared-block = changed_block (emptied s e) z 0 I 0 old (emptied-agree s S e E file) (old_below s S e E file) (emptied-next s S e E file) (old_apart s S e E file)
 
-    pub cleared-slot : OneSlot s (dirs s) (clearAttributesAt s e) e
-    unfolding clearAttributesAt
+    pub cleared-slot : OneSlot s (dirs s) (clear_attributes_at s e) e
+    unfolding clear_attributes_at
     cleared-slot = updated-slot s S d di k k₁ k₂ file (emptied s e) z 0 I 0
 
-    pub cleared-entry : EntryKept s (clearAttributesAt s e) e
-    unfolding clearAttributesAt
+    pub cleared-entry : EntryKept s (clear_attributes_at s e) e
+    unfolding clear_attributes_at
     cleared-entry = updated-kept s S e E file (emptied s e) z 0 I 0
 
-    pub cleared-flags : part (clearAttributesAt s e) (e + 40) 4 ≡ part s (e + 40) 4
-    unfolding clearAttributesAt
+    pub cleared-flags : part (clear_attributes_at s e) (e + 40) 4 ≡ part s (e + 40) 4
+    unfolding clear_attributes_at
     cleared-flags = updated-flags s S e E file (emptied s e) z 0 I 0
 
     old-far : (q : ℕ) → In q old → In q (e / 512 ∷ []) → ⊥
     old-far q i (inl y) = old-outside s S e E file q i (rw y E.within-tree)
 
-    pub cleared-zero : (q : ℕ) → In q (attributeBlocks s e) → block (clearAttributesAt s e) q ≡ zeros 512
-    unfolding clearAttributesAt
+    pub cleared-zero : (q : ℕ) → In q (attribute_blocks s e) → block (clear_attributes_at s e) q ≡ zeros 512
+    unfolding clear_attributes_at
     cleared-zero q i = agree-block q (updated-agree s S e E file (emptied s e) z 0 I 0) (old-far q i) ∙ emptied-zero s S e E file q i
 
-    pub cleared-table : (y : ℕ) → y < 128 * tableBlocks n → next (clearAttributesAt s e) y ≡ next (emptied s e) y
-    unfolding clearAttributesAt
+    pub cleared-table : (y : ℕ) → y < 128 * table_blocks n → next (clear_attributes_at s e) y ≡ next (emptied s e) y
+    unfolding clear_attributes_at
     cleared-table = updated-next s S e E file (emptied s e) z 0 I 0
 
-    pub cleared-used : be32 s 20 ≡ attributeSize s e + be32 (clearAttributesAt s e) 20
-    unfolding clearAttributesAt
+    pub cleared-used : be32 s 20 ≡ attribute_size_of s e + be32 (clear_attributes_at s e) 20
+    unfolding clear_attributes_at
     cleared-used =
         let h = entry-high s S e E in
         let g = entry-low s S e E in
         let l = I.len in
         let u = emptied-used s S e E file in
-        let q = same-be32 (emptied s e) (setAttributeFields (emptied s e) e 0 0) 0 28 20 (fields-same (emptied s e) e 0 0 (omega arith) 0 28 (inl (omega arith))) (omega arith) (omega arith) in
+        let q = same-be32 (emptied s e) (set_attribute_fields (emptied s e) e 0 0) 0 28 20 (fields-same (emptied s e) e 0 0 (omega arith) 0 28 (inl (omega arith))) (omega arith) (omega arith) in
         omega arith
 
-    pub cleared-none : (attributeBlocks (clearAttributesAt s e) e ≡ []) × (attributes (clearAttributesAt s e) e ≡ [])
-    unfolding clearAttributesAt attributes attributeBlocks chain
-    cleared-none = let q : attributeSize (clearAttributesAt s e) e ≡ 0 = updated-size s S e E file (emptied s e) z 0 I 0 (omega arith) none in (rw q, rw q)
+    pub cleared-none : (attribute_blocks (clear_attributes_at s e) e ≡ []) × (attributes (clear_attributes_at s e) e ≡ [])
+    unfolding clear_attributes_at attributes attribute_blocks chain
+    cleared-none = let q : attribute_size_of (clear_attributes_at s e) e ≡ 0 = updated-size s S e E file (emptied s e) z 0 I 0 (omega arith) none in (rw q, rw q)
 
     -- SET
     module _ (bytes : List ℕ) (R : SetGiven s e (length bytes)) where
       abbrev new : List ℕ
-      new = newAttributes s e (length bytes)
+      new = new_attributes s e (length bytes)
 
       abbrev first : ℕ
       first = get_or new 0 0
@@ -167,56 +167,56 @@ module _ (s : List ℕ) (S : Sound s) (d : ℕ × ℕ) (di : In d (dirs s)) (k :
       full = put larger new 0 bytes
 
       abbrev done : List ℕ
-      done = setAttributeFields full e first (length new)
+      done = set_attribute_fields full e first (length new)
 
-      J : Midway s (dirs s) (Owner s) (firstBlock s) (held_at s) (e + 28) full first (length new)
+      J : Midway s (dirs s) (Owner s) (first_block s) (held_at s) (e + 28) full first (length new)
       J = filling s S e E file bytes R
 
       fresh : Fresh n (next (emptied s e)) new
       fresh = set-fresh s S e E file bytes R
 
-      pub set-sound : Sound (setAttributesAt s e bytes)
-      unfolding setAttributesAt
+      pub set-sound : Sound (set_attributes_at s e bytes)
+      unfolding set_attributes_at
       set-sound = updated-sound s S d di k k₁ k₂ file full first (length new) J first (first_small s S e E file bytes R) (set-fields s S e E file bytes R) (λ pos. refl)
 
-      pub set-bounded : Bounded s (setAttributesAt s e bytes) (setAttributesNamed s e (length bytes))
-      unfolding setAttributesAt setAttributesNamed
+      pub set-bounded : Bounded s (set_attributes_at s e bytes) (set_attributes_named s e (length bytes))
+      unfolding set_attributes_at set_attributes_named
       set-bounded = changed-bounded full first (length new) J first (old ++ new) (full-agree s S e E file bytes R) (both_below s S e E file bytes R) (full-kept s S e E file bytes R) (both-apart s S e E file bytes R)
 
-      pub set-content : SameFile s (setAttributesAt s e bytes) e
-      unfolding setAttributesAt
+      pub set-content : SameFile s (set_attributes_at s e bytes) e
+      unfolding set_attributes_at
       set-content = changed-content full first (length new) J first (old ++ new) (full-agree s S e E file bytes R) (both_below s S e E file bytes R) (full-kept s S e E file bytes R) (both-apart s S e E file bytes R)
 
-      pub set_next : (a : ℕ) → Owner s a → a ≢ e + 28 → ((x : ℕ × ℕ) → In x (dirs s) → a ≢ 512 * x.0) → (q : ℕ) → In q (blocksAt s a) → next (setAttributesAt s e bytes) q ≡ next s q
-      unfolding setAttributesAt
-      set_next = changed-next full first (length new) J first (old ++ new) (full-agree s S e E file bytes R) (both_below s S e E file bytes R) (full-kept s S e E file bytes R) (both-apart s S e E file bytes R)
+      pub set-next : (a : ℕ) → Owner s a → a ≢ e + 28 → ((x : ℕ × ℕ) → In x (dirs s) → a ≢ 512 * x.0) → (q : ℕ) → In q (blocks_at s a) → next (set_attributes_at s e bytes) q ≡ next s q
+      unfolding set_attributes_at
+      set-next = changed-next full first (length new) J first (old ++ new) (full-agree s S e E file bytes R) (both_below s S e E file bytes R) (full-kept s S e E file bytes R) (both-apart s S e E file bytes R)
 
-      pub set-block : (a : ℕ) → Owner s a → a ≢ e + 28 → ((x : ℕ × ℕ) → In x (dirs s) → a ≢ 512 * x.0) → (q : ℕ) → In q (blocksAt s a) → block (setAttributesAt s e bytes) q ≡ block s q
-      unfolding setAttributesAt
+      pub set-block : (a : ℕ) → Owner s a → a ≢ e + 28 → ((x : ℕ × ℕ) → In x (dirs s) → a ≢ 512 * x.0) → (q : ℕ) → In q (blocks_at s a) → block (set_attributes_at s e bytes) q ≡ block s q
+      unfolding set_attributes_at
       set-block = changed_block full first (length new) J first (old ++ new) (full-agree s S e E file bytes R) (both_below s S e E file bytes R) (full-kept s S e E file bytes R) (both-apart s S e E file bytes R)
 
-      pub set-slot : OneSlot s (dirs s) (setAttributesAt s e bytes) e
-      unfolding setAttributesAt
+      pub set-slot : OneSlot s (dirs s) (set_attributes_at s e bytes) e
+      unfolding set_attributes_at
       set-slot = updated-slot s S d di k k₁ k₂ file full first (length new) J first
 
-      pub set-entry : EntryKept s (setAttributesAt s e bytes) e
-      unfolding setAttributesAt
+      pub set-entry : EntryKept s (set_attributes_at s e bytes) e
+      unfolding set_attributes_at
       set-entry = updated-kept s S e E file full first (length new) J first
 
-      pub set-flags : part (setAttributesAt s e bytes) (e + 40) 4 ≡ part s (e + 40) 4
-      unfolding setAttributesAt
+      pub set-flags : part (set_attributes_at s e bytes) (e + 40) 4 ≡ part s (e + 40) 4
+      unfolding set_attributes_at
       set-flags = updated-flags s S e E file full first (length new) J first
 
       -- an old block that is not taken again is zero
-      pub set-zero : (q : ℕ) → In q (attributeBlocks s e) → (In q (newAttributes s e (length bytes)) → ⊥) → block (setAttributesAt s e bytes) q ≡ zeros 512
-      unfolding setAttributesAt
+      pub set-zero : (q : ℕ) → In q (attribute_blocks s e) → (In q (new_attributes s e (length bytes)) → ⊥) → block (set_attributes_at s e bytes) q ≡ zeros 512
+      unfolding set_attributes_at
       set-zero q i ne =
           agree-block q (updated-agree s S e E file full first (length new) J first) (old-far q i)
           ∙ agree-block q (later-agree s S e E file bytes R) (blocks-not n new fresh.below q (old-above s S e E file q i) ne)
           ∙ emptied-zero s S e E file q i
 
-      pub set-used : be32 s 20 + length bytes / 512 ≡ attributeSize s e + be32 (setAttributesAt s e bytes) 20
-      unfolding setAttributesAt
+      pub set-used : be32 s 20 + length bytes / 512 ≡ attribute_size_of s e + be32 (set_attributes_at s e bytes) 20
+      unfolding set_attributes_at
       set-used =
           let h = entry-high s S e E in
           let low = entry-low s S e E in
@@ -235,19 +235,19 @@ module _ (s : List ℕ) (S : Sound s) (d : ℕ × ℕ) (di : In d (dirs s)) (k :
           omega arith
 
       -- THE ATTRIBUTES READ BACK
-      done_next : (y : ℕ) → y < 128 * tableBlocks n → next done y ≡ next larger y
+      done_next : (y : ℕ) → y < 128 * table_blocks n → next done y ≡ next larger y
       done_next y h = updated-next s S e E file full first (length new) J first y h ∙ full-next s S e E file bytes R y h
 
       new-at : (y : ℕ) → y < length new → In (nth (next larger) y first) new
       new-at y h = rw (set-chain s S e E file bytes R) at (chain-in (next larger) first (length new) (nth (next larger) y first) y h refl)
 
-      done-blocks : attributeBlocks done e ≡ new
-      unfolding attributeBlocks
+      done-blocks : attribute_blocks done e ≡ new
+      unfolding attribute_blocks
       done-blocks =
           let small = first_small s S e E file bytes R in
           let right = set-fields s S e E file bytes R in
-          let p : attributeBlock done e ≡ first = updated-first s S e E file full first (length new) J first small right in
-          let q : attributeSize done e ≡ length new = updated-size s S e E file full first (length new) J first small right in
+          let p : attribute_block_of done e ≡ first = updated-first s S e E file full first (length new) J first small right in
+          let q : attribute_size_of done e ≡ length new = updated-size s S e E file full first (length new) J first small right in
           rw (p, q)
           (chain-agree (next larger) (next done) first (length new) (λ y h. done_next (nth (next larger) y first) (omega (arith, fresh.below (nth (next larger) y first) (new-at y h))))
           ∙ set-chain s S e E file bytes R)
@@ -265,29 +265,29 @@ module _ (s : List ℕ) (S : Sound s) (d : ℕ × ℕ) (di : In d (dirs s)) (k :
           ∙ joined-put n S.least new larger 0 bytes long fresh.below fresh.distinct-all (omega arith)
           ∙ splice-whole (joined (block larger) new) bytes (omega arith))
 
-      pub set-table : (y : ℕ) → y < 128 * tableBlocks n → next (setAttributesAt s e bytes) y ≡ next (grown (emptied s e) (blockCount s) 0 (newAttributes s e (length bytes))) y
-      unfolding setAttributesAt
+      pub set-table : (y : ℕ) → y < 128 * table_blocks n → next (set_attributes_at s e bytes) y ≡ next (grown (emptied s e) (block_count s) 0 (new_attributes s e (length bytes))) y
+      unfolding set_attributes_at
       set-table = done_next
 
-      pub set-blocks : attributeBlocks (setAttributesAt s e bytes) e ≡ newAttributes s e (length bytes)
-      unfolding setAttributesAt
+      pub set-blocks : attribute_blocks (set_attributes_at s e bytes) e ≡ new_attributes s e (length bytes)
+      unfolding set_attributes_at
       set-blocks = done-blocks
 
-      pub set-bytes : attributes (setAttributesAt s e bytes) e ≡ bytes
-      unfolding setAttributesAt
+      pub set-bytes : attributes (set_attributes_at s e bytes) e ≡ bytes
+      unfolding set_attributes_at
       set-bytes = done-bytes
 
 -- by paths
-pub kept_set : (s path bytes : List ℕ) → check s ≡ 0 → setAttributesRefusal s path (length bytes) ≡ 0 → check (setAttributesAt s (entry_of isFile s path) bytes) ≡ 0
+pub kept_set : (s path bytes : List ℕ) → check s ≡ 0 → set_attributes_refusal s path (length bytes) ≡ 0 → check (set_attributes_at s (entry_of is_file s path) bytes) ≡ 0
 unfolding entry_of
 kept_set s path bytes ok r =
     let A = file-at-path s path (set-path s path (length bytes) r) in
     let N = A.named in
-    check-zero _ (set-sound s (sound s ok) (home s path, A.level) A.home-in (pathSlot isFile s path) N.low N.high N.typed bytes (set_given s path (length bytes) r))
+    check-zero _ (set-sound s (sound s ok) (home s path, A.level) A.home-in (path_slot is_file s path) N.low N.high N.typed bytes (set_given s path (length bytes) r))
 
-pub kept-clear : (s path : List ℕ) → check s ≡ 0 → fileRefusal s path ≡ 0 → check (clearAttributesAt s (entry_of isFile s path)) ≡ 0
+pub kept-clear : (s path : List ℕ) → check s ≡ 0 → file_refusal s path ≡ 0 → check (clear_attributes_at s (entry_of is_file s path)) ≡ 0
 unfolding entry_of
 kept-clear s path ok r =
     let A = file-at-path s path r in
     let N = A.named in
-    check-zero _ (cleared-sound s (sound s ok) (home s path, A.level) A.home-in (pathSlot isFile s path) N.low N.high N.typed)
+    check-zero _ (cleared-sound s (sound s ok) (home s path, A.level) A.home-in (path_slot is_file s path) N.low N.high N.typed)

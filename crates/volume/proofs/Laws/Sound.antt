@@ -4,7 +4,7 @@ use mathlib.Core.Path.{◌≡◌}
 use mathlib.Core.List.{List}
 use lib.ListN.{length}
 use Rattle.layout.specs.Check.{check}
-use Rattle.volume.specs.Change.{Change, create, write, delete, createDirectory, deleteDirectory, setAttributes, clearAttributes, clearFlags, shorten, replace, refusal, after, move}
+use Rattle.volume.specs.Change.{Change, create, write, delete, create_directory, delete_directory, set_attributes, clear_attributes, clear_flags, shorten, replace, refusal, after, move}
 use Rattle.volume.proofs.Laws.Places.{write-given}
 use Rattle.volume.proofs.Laws.Create.{kept-create}
 use Rattle.volume.proofs.Laws.Write.{kept-write}
@@ -25,11 +25,11 @@ unfolding refusal after
 kept s (create path type user group permissions flags time) ok r = kept-create s path type user group permissions flags time ok r
 kept s (write path offset bytes time) ok r = kept-write s path offset bytes time ok (write-given s path offset (length bytes) r)
 kept s (delete path) ok r = kept-delete s path ok r
-kept s (createDirectory path type user group permissions flags time d) ok r = kept-create-directory s path type user group permissions flags time d ok r
-kept s (deleteDirectory path) ok r = kept-delete-directory s path ok r
-kept s (setAttributes path bytes) ok r = kept_set s path bytes ok r
-kept s (clearAttributes path) ok r = kept-clear s path ok r
-kept s (clearFlags path) ok r = kept-flags s path ok r
+kept s (create_directory path type user group permissions flags time d) ok r = kept-create-directory s path type user group permissions flags time d ok r
+kept s (delete_directory path) ok r = kept-delete-directory s path ok r
+kept s (set_attributes path bytes) ok r = kept_set s path bytes ok r
+kept s (clear_attributes path) ok r = kept-clear s path ok r
+kept s (clear_flags path) ok r = kept-flags s path ok r
 kept s (shorten path size time) ok r = kept-shorten s path size time ok r
 kept s (replace path bytes time) ok r = kept-replace s path bytes time ok r
 kept s (move path to) ok r = kept_move s path to ok r

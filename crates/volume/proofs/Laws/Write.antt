@@ -11,13 +11,13 @@ use lib.Dec.{eqb}
 use lib.Seq.{take-append-le}
 use Rattle.layout.specs.Lists.{last_or, distinct, joined}
 use Rattle.layout.specs.Bytes.{be32, bytes8, part, splice, zeros, block}
-use Rattle.layout.specs.Geometry.{blockCount, tableBlocks, blocksFor, rootBlock}
-use Rattle.layout.specs.Table.{next, chain, freeBlocks}
-use Rattle.layout.specs.Directory.{slot_at, type_of, firstBlock, size_of, blocksOf, isFile, name_of, directory, dirs, fileBlocks, content}
-use Rattle.layout.specs.Paths.{home, pathSlot, entry_of}
+use Rattle.layout.specs.Geometry.{block_count, table_blocks, blocks_for, root_block}
+use Rattle.layout.specs.Table.{next, chain, free_blocks}
+use Rattle.layout.specs.Directory.{slot_at, type_of, first_block, size_of, blocks_of, is_file, name_of, directory, dirs, file_blocks, content}
+use Rattle.layout.specs.Paths.{home, path_slot, entry_of}
 use Rattle.layout.specs.Check.{check}
-use Rattle.volume.specs.Entries.{grown, entriesNamed}
-use Rattle.volume.specs.Write.{newSize, needed, newBlocks, put, setFile, writeAt, changedEntries}
+use Rattle.volume.specs.Entries.{grown, entries_named}
+use Rattle.volume.specs.Write.{new_size, needed, new_blocks, put, set_file, write_at, changed_entries}
 use Rattle.volume.proofs.Laws.Places.{WriteGiven}
 use Rattle.volume.proofs.Laws.Growth.{grown-steps, put-steps}
 use Rattle.volume.proofs.Laws.Space.{new-fresh, new-length, all_above, all-below, last-below, all-length, all-size}
@@ -28,14 +28,14 @@ use Rattle.volume.proofs.Laws.Frame.{entries-low, changed-below, grown-agree, gr
 use Rattle.layout.proofs.Laws.Bytes.{splice_cut}
 use Rattle.layout.proofs.Laws.Lists.{In, in-append, joined-append, last-in, joined_same}
 use Rattle.layout.proofs.Laws.Frames.{Same, before-next, Agree, agree-block}
-use Rattle.layout.proofs.Laws.Chains.{nth, Chain, getD-chain, in-chain, chain-agree, chain-distinct, chain-last, chain-start}
+use Rattle.layout.proofs.Laws.Chains.{nth, Chain, get_d-chain, in-chain, chain-agree, chain-distinct, chain-last, chain-start}
 use Rattle.layout.proofs.Laws.Counts.{chain-most, occupied-most, occupied-same}
-use Rattle.layout.proofs.Laws.Visits.{dirBlocks}
+use Rattle.layout.proofs.Laws.Visits.{dir_blocks}
 use Rattle.layout.proofs.Laws.Trees.{size_at}
 use Rattle.layout.proofs.Laws.Sound.{held_at, Sound, Entry, Owner, sound, check-zero}
 use Rattle.layout.proofs.Laws.Slots.{slot-entry, entry-low}
-use Rattle.layout.proofs.Laws.Files.{file-in, length-fileBlocks, length-blocks}
-use Rattle.layout.proofs.Laws.Owners.{free-count, blocksAt, file-no-self, file-holds, file-blocks, second, second-blocks, second-no-self, file-above, file-below, file-used, entry-elsewhere, Fresh, block-high, block-below, block-used, block_apart, block-outside}
+use Rattle.layout.proofs.Laws.Files.{file-in, length-file_blocks, length-blocks}
+use Rattle.layout.proofs.Laws.Owners.{free-count, blocks_at, file-no-self, file-holds, file-blocks, second, second-blocks, second-no-self, file-above, file-below, file-used, entry-elsewhere, Fresh, block-high, block-below, block-used, block_apart, block-outside}
 use Rattle.layout.proofs.Laws.Changed.{OneSlot}
 use Rattle.layout.proofs.Laws.Steps.{over-same, Midway, Staying, staying, midway_start, dir-apart}
 use Rattle.layout.specs.Claims.{SameAttributes}
@@ -45,9 +45,9 @@ use Rattle.layout.proofs.Laws.Others.{same-attributes}
 pub record Written (s s' : List ℕ) (e offset : ℕ) (bytes : List ℕ) (time : ℕ) : Type 0 where
   pub contents : content s' e ≡ splice (content s e) offset bytes
   pub size : size_of s' e ≡ max (size_of s e) (offset + length bytes)
-  pub blocks : fileBlocks s' e ≡ fileBlocks s e ++ newBlocks s e offset (length bytes)
+  pub blocks : file_blocks s' e ≡ file_blocks s e ++ new_blocks s e offset (length bytes)
   -- the bytes of its blocks, also those past the size: what is new is zero but for the data
-  pub whole : joined (block s') (fileBlocks s' e) ≡ splice (joined (block s) (fileBlocks s e) ++ zeros (512 * length (newBlocks s e offset (length bytes)))) offset bytes
+  pub whole : joined (block s') (file_blocks s' e) ≡ splice (joined (block s) (file_blocks s e) ++ zeros (512 * length (new_blocks s e offset (length bytes)))) offset bytes
   -- type, user, group and permissions; time created; time modified; attributes, system flags, reserved and name
   pub kind : part s' e 4 ≡ part s e 4
   pub created : part s' (e + 16) 8 ≡ part s (e + 16) 8
@@ -56,9 +56,9 @@ pub record Written (s s' : List ℕ) (e offset : ℕ) (bytes : List ℕ) (time :
   pub type : type_of s' e ≡ type_of s e
   pub name : name_of s' e ≡ name_of s e
 
-module _ (s : List ℕ) (S : Sound s) (d : ℕ × ℕ) (di : In d (dirs s)) (k : ℕ) (k₁ : 1 ≤ k) (k₂ : k < 4 * size_at s d.0 - 1) (file : isFile (type_of s (slot_at (directory s d.0) k)) ≡ true) where
+module _ (s : List ℕ) (S : Sound s) (d : ℕ × ℕ) (di : In d (dirs s)) (k : ℕ) (k₁ : 1 ≤ k) (k₂ : k < 4 * size_at s d.0 - 1) (file : is_file (type_of s (slot_at (directory s d.0) k)) ≡ true) where
   abbrev n : ℕ
-  n = blockCount s
+  n = block_count s
 
   abbrev e : ℕ
   e = slot_at (directory s d.0) k
@@ -69,15 +69,15 @@ module _ (s : List ℕ) (S : Sound s) (d : ℕ × ℕ) (di : In d (dirs s)) (k :
   no_self : (x : ℕ × ℕ) → In x (dirs s) → 512 * x.0 ≢ e
   no_self x i q = file-no-self s S e mine file x i (sym q)
 
-  St : Staying s (dirs s) (Owner s) (firstBlock s) (held_at s) e
+  St : Staying s (dirs s) (Owner s) (first_block s) (held_at s) e
   St = staying s S e (inl mine) no_self
 
-  module _ (offset : ℕ) (bytes : List ℕ) (time : ℕ) (room : needed s e offset (length bytes) ≤ length (freeBlocks (next s) n)) where
+  module _ (offset : ℕ) (bytes : List ℕ) (time : ℕ) (room : needed s e offset (length bytes) ≤ length (free_blocks (next s) n)) where
     abbrev old : List ℕ
-    old = fileBlocks s e
+    old = file_blocks s e
 
     abbrev new : List ℕ
-    new = newBlocks s e offset (length bytes)
+    new = new_blocks s e offset (length bytes)
 
     abbrev last : ℕ
     last = last_or 0 old
@@ -89,22 +89,22 @@ module _ (s : List ℕ) (S : Sound s) (d : ℕ × ℕ) (di : In d (dirs s)) (k :
     full = put larger (old ++ new) offset bytes
 
     abbrev c : ℕ
-    c = blocksOf s e + length new
+    c = blocks_of s e + length new
 
     abbrev first : ℕ
     first = get_or (old ++ new) 0 0
 
     abbrev size : ℕ
-    size = newSize s e offset (length bytes)
+    size = new_size s e offset (length bytes)
 
     abbrev done : List ℕ
-    done = setFile full e first size c time
+    done = set_file full e first size c time
 
     -- the blocks of the file, old and new
     fresh : Fresh n (next s) new
     fresh = new-fresh s e offset (length bytes) S
 
-    above : (q : ℕ) → In q (old ++ new) → tableBlocks n < q
+    above : (q : ℕ) → In q (old ++ new) → table_blocks n < q
     above = all_above s S e mine file offset (length bytes)
 
     below : (q : ℕ) → In q (old ++ new) → q < n
@@ -119,34 +119,34 @@ module _ (s : List ℕ) (S : Sound s) (d : ℕ × ℕ) (di : In d (dirs s)) (k :
     length-is : length (old ++ new) ≡ c
     length-is = all-length s S e mine file offset (length bytes)
 
-    size_is : c ≡ blocksFor size
+    size_is : c ≡ blocks_for size
     size_is = all-size s S e mine file offset (length bytes) (file-in s S d di k k₁ k₂ file).blocks room
 
     -- the steps: blocks are taken to the end of the chain, and the data is put
-    at-start : Midway s (dirs s) (Owner s) (firstBlock s) (held_at s) e s (firstBlock s e) (blocksOf s e)
-    at-start = subst (λ (x : ℕ). Midway s (dirs s) (Owner s) (firstBlock s) (held_at s) e s (firstBlock s e) x) (file-holds s S e mine file) (midway_start s S e (inl mine) no_self)
+    at-start : Midway s (dirs s) (Owner s) (first_block s) (held_at s) e s (first_block s e) (blocks_of s e)
+    at-start = subst (λ (x : ℕ). Midway s (dirs s) (Owner s) (first_block s) (held_at s) e s (first_block s e) x) (file-holds s S e mine file) (midway_start s S e (inl mine) no_self)
 
-    grow : (z : ℕ) × Midway s (dirs s) (Owner s) (firstBlock s) (held_at s) e larger z c × (chain (next larger) z c ≡ old ++ new)
-    unfolding fileBlocks
-    grow = grown-steps s S (dirs s) (Owner s) (firstBlock s) (held_at s) e St new s (firstBlock s e) (blocksOf s e) last at-start (chain-last (next s) (firstBlock s e) (blocksOf s e)) fresh
+    grow : (z : ℕ) × Midway s (dirs s) (Owner s) (first_block s) (held_at s) e larger z c × (chain (next larger) z c ≡ old ++ new)
+    unfolding file_blocks
+    grow = grown-steps s S (dirs s) (Owner s) (first_block s) (held_at s) e St new s (first_block s e) (blocks_of s e) last at-start (chain-last (next s) (first_block s e) (blocks_of s e)) fresh
 
     larger-chain : Chain (next larger) n grow.0 c
-    larger-chain = rw (over-same e grow.0 (firstBlock s), over-same e c (held_at s)) at (grow.1.table.right e (inl mine))
+    larger-chain = rw (over-same e grow.0 (first_block s), over-same e c (held_at s)) at (grow.1.table.right e (inl mine))
 
     -- not the directory's
-    all-far : (q : ℕ) → In q (old ++ new) → In q (dirBlocks s) → ⊥
+    all-far : (q : ℕ) → In q (old ++ new) → In q (dir_blocks s) → ⊥
     all-far q i m =
         let r = in-chain (next larger) grow.0 c q (rw (← grow.2) at i) in
-        dir-apart s S (dirs s) (Owner s) (firstBlock s) (held_at s) e St larger grow.0 c grow.1 q m r.0 r.1 r.2
+        dir-apart s S (dirs s) (Owner s) (first_block s) (held_at s) e St larger grow.0 c grow.1 q m r.0 r.1 r.2
 
-    filled : Midway s (dirs s) (Owner s) (firstBlock s) (held_at s) e full grow.0 c
-    filled = put-steps s S (dirs s) (Owner s) (firstBlock s) (held_at s) e St (old ++ new) larger grow.0 c offset bytes grow.1 (λ q i. (above q i, below q i, all-far q i))
+    filled : Midway s (dirs s) (Owner s) (first_block s) (held_at s) e full grow.0 c
+    filled = put-steps s S (dirs s) (Owner s) (first_block s) (held_at s) e St (old ++ new) larger grow.0 c offset bytes grow.1 (λ q i. (above q i, below q i, all-far q i))
 
     pub few : c ≤ n
     few = chain-most (next larger) n grow.0 c larger-chain S.least
 
     first-is : 0 < c → first ≡ grow.0
-    first-is pos = rw (← grow.2) (getD-chain (next larger) grow.0 c 0 pos)
+    first-is pos = rw (← grow.2) (get_d-chain (next larger) grow.0 c 0 pos)
 
     first-none : c ≡ 0 → first ≡ 0
     first-none q = get_or-eq_default (old ++ new) 0 (omega (arith, length-is))
@@ -168,31 +168,31 @@ module _ (s : List ℕ) (S : Sound s) (d : ℕ × ℕ) (di : In d (dirs s)) (k :
     entry : Renewed s done e first size c time
     entry = renewed-entry s S d di k k₁ k₂ file full grow.0 c filled first size time first-is first-none size_is few
 
-    write-is : writeAt s e offset bytes time ≡ done
-    unfolding writeAt
+    write-is : write_at s e offset bytes time ≡ done
+    unfolding write_at
     write-is = rw length-is
 
-    pub written-sound : Sound (writeAt s e offset bytes time)
+    pub written-sound : Sound (write_at s e offset bytes time)
     written-sound = rw write-is (renewed-sound s S d di k k₁ k₂ file full grow.0 c filled first size time first-is first-none size_is few)
 
     -- the others stay
-    taken-agree : Agree s larger (new ++ entriesNamed (changedEntries last new))
+    taken-agree : Agree s larger (new ++ entries_named (changed_entries last new))
     taken-agree = grown-agree n S.least new s last S.whole last-small fresh.below
 
     pub larger-length : length larger ≡ 512 * n
     larger-length = grown-length n S.least new s last S.whole last-small fresh.below
 
     -- growing leaves the blocks of the volume that it does not take
-    larger-block : (q : ℕ) → tableBlocks n < q → (In q new → ⊥) → block larger q ≡ block s q
+    larger-block : (q : ℕ) → table_blocks n < q → (In q new → ⊥) → block larger q ≡ block s q
     larger-block q high f = agree-block q taken-agree λ i.
-        ⊎_elim f (λ j. omega (arith, entries-low n (changedEntries last new) (changed-below n last new last-small fresh.below) q j)) (in-append q new (entriesNamed (changedEntries last new)) i)
+        ⊎_elim f (λ j. omega (arith, entries-low n (changed_entries last new) (changed-below n last new last-small fresh.below) q j)) (in-append q new (entries_named (changed_entries last new)) i)
 
     -- the table is written by growing alone
-    full-next : (y : ℕ) → y < 128 * tableBlocks n → next full y ≡ next larger y
+    full-next : (y : ℕ) → y < 128 * table_blocks n → next full y ≡ next larger y
     full-next = put_next n S.least (old ++ new) larger offset bytes larger-length below above
 
     -- the blocks of another owner
-    module _ (a : ℕ) (A : Owner s a) (ne : a ≢ e) (q : ℕ) (i : In q (blocksAt s a)) where
+    module _ (a : ℕ) (A : Owner s a) (ne : a ≢ e) (q : ℕ) (i : In q (blocks_at s a)) where
       not-old : In q old → ⊥
       not-old m = block_apart s S e (inl mine) a A ne q i (rw (file-blocks s S e mine file) m)
 
@@ -210,23 +210,23 @@ module _ (s : List ℕ) (S : Sound s) (d : ℕ × ℕ) (di : In d (dirs s)) (k :
           put-outside n S.least q (old ++ new) larger offset bytes larger-length below (λ m. ⊎_elim not-old not_new (in-append q old new m))
           ∙ larger-block q (block-high s S a A q i) not_new
 
-      pub written_next : next (writeAt s e offset bytes time) q ≡ next s q
-      written_next = rw write-is (before-next full done n (outside 0 (512 * rootBlock n) (inl (omega (arith, entry-low s S e mine)))) q (omega (arith, block-below s S a A q i)) ∙ next-kept)
+      pub written_next : next (write_at s e offset bytes time) q ≡ next s q
+      written_next = rw write-is (before-next full done n (outside 0 (512 * root_block n) (inl (omega (arith, entry-low s S e mine)))) q (omega (arith, block-below s S a A q i)) ∙ next-kept)
 
-      pub written-block : ((x : ℕ × ℕ) → In x (dirs s) → a ≢ 512 * x.0) → block (writeAt s e offset bytes time) q ≡ block s q
+      pub written-block : ((x : ℕ × ℕ) → In x (dirs s) → a ≢ 512 * x.0) → block (write_at s e offset bytes time) q ≡ block s q
       written-block apart =
           rw write-is (entry-elsewhere s S e mine full done filled.len long outside q (block-below s S a A q i)
-          (λ z. block-outside s S a A apart q i (subst (λ (y : ℕ). In y (dirBlocks s)) z mine.within-tree)) ∙ data-kept)
+          (λ z. block-outside s S a A apart q i (subst (λ (y : ℕ). In y (dir_blocks s)) z mine.within-tree)) ∙ data-kept)
 
     -- the file's attributes stay
-    pub written-attributes : SameAttributes s (writeAt s e offset bytes time) e
+    pub written-attributes : SameAttributes s (write_at s e offset bytes time) e
     written-attributes =
-        same-attributes s (writeAt s e offset bytes time) e mine.aligned file (rw write-is entry.type) (rw write-is entry.attribute) (rw write-is entry.attribute-size)
+        same-attributes s (write_at s e offset bytes time) e mine.aligned file (rw write-is entry.type) (rw write-is entry.attribute) (rw write-is entry.attribute-size)
         (λ q i. written_next (e + 28) (second s S e mine file) (λ z. omega arith) q (rw (second-blocks s S e mine file) i))
         (λ q i. written-block (e + 28) (second s S e mine file) (λ z. omega arith) q (rw (second-blocks s S e mine file) i) (second-no-self s S e mine file))
 
     -- as many blocks more are in use as it takes
-    pub written-used : be32 (writeAt s e offset bytes time) 20 ≡ be32 s 20 + needed s e offset (length bytes)
+    pub written-used : be32 (write_at s e offset bytes time) 20 ≡ be32 s 20 + needed s e offset (length bytes)
     written-used =
         let few-used = occupied-most (next larger) n in
         let l = new-length s e offset (length bytes) room in
@@ -240,18 +240,18 @@ module _ (s : List ℕ) (S : Sound s) (d : ℕ × ℕ) (di : In d (dirs s)) (k :
         ∙ filled.used ∙ occupied-same (next larger) (next full) n (λ y h. ap (λ (z : ℕ). eqb z 0) (full-next y (omega arith))) ∙ sym w ∙ g ∙ ap (λ (z : ℕ). be32 s 20 + z) l)
 
     -- only this slot of the directories differs
-    pub written-slot : OneSlot s (dirs s) (writeAt s e offset bytes time) e
+    pub written-slot : OneSlot s (dirs s) (write_at s e offset bytes time) e
     written-slot = rw write-is (renewed-slot s S d di k k₁ k₂ file full grow.0 c filled first size time first-is first-none size_is few)
 
     -- the file is as written
-    done_next : (y : ℕ) → y < 128 * tableBlocks n → next done y ≡ next larger y
-    done_next y h = before-next full done n (outside 0 (512 * rootBlock n) (inl (omega (arith, entry-low s S e mine)))) y h ∙ full-next y h
+    done_next : (y : ℕ) → y < 128 * table_blocks n → next done y ≡ next larger y
+    done_next y h = before-next full done n (outside 0 (512 * root_block n) (inl (omega (arith, entry-low s S e mine)))) y h ∙ full-next y h
 
-    pub written-table : (y : ℕ) → y < 128 * tableBlocks n → next (writeAt s e offset bytes time) y ≡ next larger y
+    pub written-table : (y : ℕ) → y < 128 * table_blocks n → next (write_at s e offset bytes time) y ≡ next larger y
     written-table y h = rw write-is (done_next y h)
 
-    done-blocks : fileBlocks done e ≡ old ++ new
-    unfolding fileBlocks
+    done-blocks : file_blocks done e ≡ old ++ new
+    unfolding file_blocks
     done-blocks =
         rw (entry.first-is, entry.blocks_is)
         (chain-start (next done) c first grow.0 first-is ∙ chain-agree (next larger) (next done) grow.0 c (λ y h. done_next (nth (next larger) y grow.0) (omega (arith, larger-chain.below y h))) ∙ grow.2)
@@ -260,37 +260,37 @@ module _ (s : List ℕ) (S : Sound s) (d : ℕ × ℕ) (di : In d (dirs s)) (k :
     all-distinct = rw (← grow.2) (chain-distinct (next larger) n grow.0 c larger-chain S.least)
 
     done-joined : joined (block done) (old ++ new) ≡ splice (joined (block larger) (old ++ new)) offset bytes
-    unfolding newSize
+    unfolding new_size
     done-joined =
         joined_same (block full) (block done) (old ++ new)
         (λ q i. entry-elsewhere s S e mine full done filled.len long outside q (below q i)
-        (λ z. all-far q i (subst (λ (y : ℕ). In y (dirBlocks s)) z mine.within-tree)))
+        (λ z. all-far q i (subst (λ (y : ℕ). In y (dir_blocks s)) z mine.within-tree)))
         ∙ joined-put n S.least (old ++ new) larger offset bytes larger-length below all-distinct (omega (arith, length-is, size_is))
 
     old-kept : joined (block larger) old ≡ joined (block s) old
     old-kept = joined_same (block s) (block larger) old
         (λ q i. larger-block q (file-above s S e mine file q i) (λ m. file-used s S e mine file q i (fresh.empty q m)))
 
-    done-data : joined (block done) (fileBlocks done e) ≡ splice (joined (block s) old ++ zeros (512 * length new)) offset bytes
+    done-data : joined (block done) (file_blocks done e) ≡ splice (joined (block s) old ++ zeros (512 * length new)) offset bytes
     done-data =
         let z : joined (block larger) new ≡ zeros (512 * length new) = grown-zero n S.least new s last S.whole last-small fresh.below fresh.above fresh.distinct-all in
         rw (done-blocks, done-joined, joined-append (block larger) old new, old-kept, z)
 
     module _ (inside : offset ≤ size_of s e) where
       done-content : content done e ≡ splice (content s e) offset bytes
-      unfolding content newSize
+      unfolding content new_size
       done-content =
           let lo = length-blocks larger old (λ x m. omega (arith, larger-length, file-below s S e mine file x m)) in
           let la = length-blocks larger (old ++ new) (λ x m. omega (arith, larger-length, below x m)) in
           let ob = (file-in s S d di k k₁ k₂ file).blocks in
-          let lc = length-fileBlocks s e in
+          let lc = length-file_blocks s e in
           let x : take (size_of s e) (joined (block larger) (old ++ new)) ≡ take (size_of s e) (joined (block s) old) =
           ap (take (size_of s e)) (joined-append (block larger) old new) ∙ take-append-le (size_of s e) (joined (block larger) old) (joined (block larger) new) (omega arith) ∙ ap (take (size_of s e)) old-kept in
           rw (entry.size_is, done-blocks, done-joined)
           (splice_cut (joined (block larger) (old ++ new)) (size_of s e) offset bytes inside (omega (arith, length-is)) ∙ ap (λ (r : List ℕ). splice r offset bytes) x)
 
-      pub written-file : Written s (writeAt s e offset bytes time) e offset bytes time
-      unfolding newSize
+      pub written-file : Written s (write_at s e offset bytes time) e offset bytes time
+      unfolding new_size
       written-file =
           rw write-is (record {
             contents = done-content;
@@ -306,9 +306,9 @@ module _ (s : List ℕ) (S : Sound s) (d : ℕ × ℕ) (di : In d (dirs s)) (k :
           })
 
 pub kept-write : (s path : List ℕ) (offset : ℕ) (bytes : List ℕ) (time : ℕ) → check s ≡ 0 → WriteGiven s path offset (length bytes)
-    → check (writeAt s (entry_of isFile s path) offset bytes time) ≡ 0
+    → check (write_at s (entry_of is_file s path) offset bytes time) ≡ 0
 unfolding entry_of
 kept-write s path offset bytes time c G =
     let A = G.there in
     let N = A.named in
-    check-zero _ (written-sound s (sound s c) (home s path, A.level) A.home-in (pathSlot isFile s path) N.low N.high N.typed offset bytes time G.room)
+    check-zero _ (written-sound s (sound s c) (home s path, A.level) A.home-in (path_slot is_file s path) N.low N.high N.typed offset bytes time G.room)

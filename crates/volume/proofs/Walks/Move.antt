@@ -9,44 +9,44 @@ use lib.Dec.{eqb}
 use lib.ListN.{length, drop, length-append}
 use Rattle.layout.specs.Refusals.{require, first_of}
 use Rattle.layout.specs.Bytes.{be32, part, splice, zeros}
-use Rattle.layout.specs.Geometry.{blockCount}
+use Rattle.layout.specs.Geometry.{block_count}
 use Rattle.layout.specs.Table.{next, chain}
-use Rattle.layout.specs.Directory.{slot_at, type_of, isUsed, isFile, padded, directory}
+use Rattle.layout.specs.Directory.{slot_at, type_of, is_used, is_file, padded, directory}
 use Rattle.layout.specs.Check.{check}
-use Rattle.layout.specs.Paths.{parts, pathOk, leading, lastPart, shallow, home, pathSlot, entry_of}
-use Rattle.layout.specs.Walks.Looks.{formRefusal}
+use Rattle.layout.specs.Paths.{parts, path_ok, leading, last_part, shallow, home, path_slot, entry_of}
+use Rattle.layout.specs.Walks.Looks.{form_refusal}
 use Rattle.layout.specs.Walks.Paths.{PathGiven, Spotted}
-use Rattle.layout.specs.Walks.Slots.{Stands, slotFrom, entry_at}
-use Rattle.layout.proofs.Laws.Tests.{firstOf-zero, true-not-false}
+use Rattle.layout.specs.Walks.Slots.{Stands, slot_from, entry_at}
+use Rattle.layout.proofs.Laws.Tests.{first_of-zero, true-not-false}
 use Rattle.layout.proofs.Laws.Bytes.{length-zeros, splice-append, splice-flat}
 use Rattle.layout.proofs.Laws.Sound.{sound}
 use Rattle.layout.proofs.Walks.Looks.{form-given}
 use Rattle.layout.proofs.Walks.Shapes.{sound-shape}
-use Rattle.volume.specs.Move.{openSlot, moveSlot, movePlace, moveRefusal, renamed, moveImage, moveNamed}
+use Rattle.volume.specs.Move.{open_slot, move_slot, move_place, move_refusal, renamed, move_image, move_named}
 use Rattle.volume.specs.Walks.Marks.{marked}
 use Rattle.volume.specs.Walks.Targets.{Moving}
 use Rattle.volume.proofs.Walks.Slots.{drop-replicate}
-use Rattle.volume.specs.Walks.Moves.{eitherForm, slotOpen, Prepares}
+use Rattle.volume.specs.Walks.Moves.{either_form, slot_open, Prepares}
 
 -- THE FORMS of two paths
-pub either-nine : (x y : ℕ) → (eqb x 9 || eqb y 9) ≡ true → 9 ≡ eitherForm x y
-unfolding eitherForm
+pub either-nine : (x y : ℕ) → (eqb x 9 || eqb y 9) ≡ true → 9 ≡ either_form x y
+unfolding either_form
 either-nine x y t = rw t
 
-pub either_first : (x y : ℕ) → (eqb x 9 || eqb y 9) ≡ false → (x ≡ 0 → ⊥) → x ≡ eitherForm x y
-unfolding eitherForm
+pub either_first : (x y : ℕ) → (eqb x 9 || eqb y 9) ≡ false → (x ≡ 0 → ⊥) → x ≡ either_form x y
+unfolding either_form
 either_first x y t ne = rw t (sym (first x ne))
   where
     first : (x : ℕ) → (x ≡ 0 → ⊥) → first_of x y ≡ x
     first zero h = absurd (h refl)
     first (suc x) h = refl
 
-pub either_second : (x y : ℕ) → (eqb x 9 || eqb y 9) ≡ false → x ≡ 0 → y ≡ eitherForm x y
-unfolding eitherForm
+pub either_second : (x y : ℕ) → (eqb x 9 || eqb y 9) ≡ false → x ≡ 0 → y ≡ either_form x y
+unfolding either_form
 either_second x y t z = rw (t, z)
 
-either-both : (a b c d : Bool) → eitherForm (require a 9 (require b 17 0)) (require c 9 (require d 17 0)) ≡ require (a && c) 9 (require (b && d) 17 0)
-unfolding eitherForm
+either-both : (a b c d : Bool) → either_form (require a 9 (require b 17 0)) (require c 9 (require d 17 0)) ≡ require (a && c) 9 (require (b && d) 17 0)
+unfolding either_form
 either-both false b c d = refl
 either-both true true true true = refl
 either-both true true true false = refl
@@ -55,9 +55,9 @@ either-both true false true true = refl
 either-both true false true false = refl
 either-both true false false d = refl
 
-either-zero : (x y : ℕ) → eitherForm x y ≡ 0 → (x ≡ 0) × (y ≡ 0)
-unfolding eitherForm
-either-zero x y z = firstOf-zero x y (go (eqb x 9 || eqb y 9) z)
+either-zero : (x y : ℕ) → either_form x y ≡ 0 → (x ≡ 0) × (y ≡ 0)
+unfolding either_form
+either-zero x y z = first_of-zero x y (go (eqb x 9 || eqb y 9) z)
   where
     go : (t : Bool) → cond t 9 (first_of x y) ≡ 0 → first_of x y ≡ 0
     go true e = absurd (omega arith)
@@ -79,25 +79,25 @@ neither true b t = absurd (true-not-false {a = true} refl t)
 neither false b t = (refl, t)
 
 module _ (s path to : List ℕ) where
-  pub refused-move : {number slot block k b : ℕ} → number ≡ moveRefusal s path to → (number ≡ 0 → ⊥) → Prepares s path to number slot block k b
+  pub refused-move : {number slot block k b : ℕ} → number ≡ move_refusal s path to → (number ≡ 0 → ⊥) → Prepares s path to number slot block k b
   refused-move e ne = record { number_is = e; moving = λ z. absurd (ne z) }
 
-  module _ {x y r : ℕ} (p : x ≡ formRefusal path) (q : y ≡ formRefusal to) (e : r ≡ eitherForm x y) where
-    pub refused-forms : (r ≡ 0 → ⊥) → r ≡ moveRefusal s path to
-    unfolding formRefusal moveRefusal
+  module _ {x y r : ℕ} (p : x ≡ form_refusal path) (q : y ≡ form_refusal to) (e : r ≡ either_form x y) where
+    pub refused-forms : (r ≡ 0 → ⊥) → r ≡ move_refusal s path to
+    unfolding form_refusal move_refusal
     refused-forms ne =
-        let z : r ≡ require (pathOk path && pathOk to) 9 (require (shallow (leading (parts path)) && shallow (leading (parts to))) 17 0) =
-        e ∙ ap (λ (i : ℕ). eitherForm i y) p ∙ ap (eitherForm (formRefusal path)) q ∙ either-both (pathOk path) (shallow (leading (parts path))) (pathOk to) (shallow (leading (parts to))) in
-        z ∙ form-first (pathOk path && pathOk to) (shallow (leading (parts path)) && shallow (leading (parts to)))
-        (require (not (eqb (pathSlot isFile s path) 0) && not (eqb (home s to) 0)) 10 (require (eqb (pathSlot isUsed s to) 0) 11 (require (not (eqb (moveSlot s path to) 0)) 13 0)))
+        let z : r ≡ require (path_ok path && path_ok to) 9 (require (shallow (leading (parts path)) && shallow (leading (parts to))) 17 0) =
+        e ∙ ap (λ (i : ℕ). either_form i y) p ∙ ap (either_form (form_refusal path)) q ∙ either-both (path_ok path) (shallow (leading (parts path))) (path_ok to) (shallow (leading (parts to))) in
+        z ∙ form-first (path_ok path && path_ok to) (shallow (leading (parts path)) && shallow (leading (parts to)))
+        (require (not (eqb (path_slot is_file s path) 0) && not (eqb (home s to) 0)) 10 (require (eqb (path_slot is_used s to) 0) 11 (require (not (eqb (move_slot s path to) 0)) 13 0)))
         (λ w. ne (z ∙ w))
 
     pub forms-fine : r ≡ 0 → check s ≡ 0 → PathGiven s path × PathGiven s to
     forms-fine z ok = let w = either-zero x y (sym e ∙ z) in (form-given s path ok (sym w.0 ∙ p), form-given s to ok (sym w.1 ∙ q))
 
-  module _ (P : PathGiven s path) (Q : PathGiven s to) {h₀ k b h named m : ℕ} (f : Spotted isFile s path h₀ k b) (g : Spotted isUsed s to h named m) where
-    pub nothing-there : (eqb k 0 || eqb h 0) ≡ true → 10 ≡ moveRefusal s path to
-    unfolding moveRefusal
+  module _ (P : PathGiven s path) (Q : PathGiven s to) {h₀ k b h named m : ℕ} (f : Spotted is_file s path h₀ k b) (g : Spotted is_used s to h named m) where
+    pub nothing-there : (eqb k 0 || eqb h 0) ≡ true → 10 ≡ move_refusal s path to
+    unfolding move_refusal
     nothing-there t = rw (P.good, Q.good, P.few, Q.few, ← f.stands.slot, ← g.there) (none_of (eqb k 0) (eqb h 0) _ t)
 
     module _ (t : (eqb k 0 || eqb h 0) ≡ false) where
@@ -107,11 +107,11 @@ module _ (s path to : List ℕ) where
       pub home-there : h ≡ 0 → ⊥
       home-there = eqb-false h 0 both.1
 
-      pub is-taken : (named ≡ 0 → ⊥) → 11 ≡ moveRefusal s path to
-      unfolding moveRefusal
+      pub is-taken : (named ≡ 0 → ⊥) → 11 ≡ move_refusal s path to
+      unfolding move_refusal
       is-taken u = rw (P.good, Q.good, P.few, Q.few, ← f.stands.slot, ← g.there, both.0, both.1, ← g.stands.slot, ne_eqb named 0 u)
 
-      own_block : (b < blockCount s) × (entry_at b k ≡ entry_of isFile s path)
+      own_block : (b < block_count s) × (entry_at b k ≡ entry_of is_file s path)
       unfolding entry_of
       own_block = let w = f.stands.block (eqb-false k 0 both.0) in (w.0, w.1 ∙ ap (slot_at (directory s (home s path))) f.stands.slot)
 
@@ -119,17 +119,17 @@ module _ (s path to : List ℕ) where
       pub own-small : b < 65536
       own-small = let w = own_block.0 in let m = (sound s P.sound).most in omega arith
 
-      module _ (z : named ≡ 0) {j a : ℕ} (st : Stands (directory s h) (blockCount s) (openSlot s (directory s h) (entry_at b k)) j a) where
-        slot_is : j ≡ moveSlot s path to
-        unfolding moveSlot
+      module _ (z : named ≡ 0) {j a : ℕ} (st : Stands (directory s h) (block_count s) (open_slot s (directory s h) (entry_at b k)) j a) where
+        slot_is : j ≡ move_slot s path to
+        unfolding move_slot
         slot_is = st.slot ∙ rw (own_block.1, ← g.there)
 
-        pub none_open : j ≡ 0 → 13 ≡ moveRefusal s path to
-        unfolding moveRefusal
+        pub none_open : j ≡ 0 → 13 ≡ move_refusal s path to
+        unfolding move_refusal
         none_open q = rw (P.good, Q.good, P.few, Q.few, ← f.stands.slot, ← g.there, both.0, both.1, ← g.stands.slot, eq-eqb named 0 z, ← slot_is, eq-eqb j 0 q)
 
         pub place-open : (j ≡ 0 → ⊥) → Prepares s path to 0 j a k b
-        unfolding moveRefusal movePlace
+        unfolding move_refusal move_place
         place-open q =
             let w = st.block q in
             record {
@@ -138,12 +138,12 @@ module _ (s path to : List ℕ) where
             }
 
 -- THE SLOT, turn by turn
-pub open-from : (s ds : List ℕ) (own d : ℕ) → length ds ≡ d → openSlot s ds own ≡ slotFrom (slotOpen s own) ds 1 (4 * d - 2)
-unfolding openSlot slotFrom
+pub open-from : (s ds : List ℕ) (own d : ℕ) → length ds ≡ d → open_slot s ds own ≡ slot_from (slot_open s own) ds 1 (4 * d - 2)
+unfolding open_slot slot_from
 open-from s ds own d size = rw size
 
 module _ (s : List ℕ) (e own type at : ℕ) (et : type ≡ type_of s e) (ea : at ≡ e) where
-  pub slot-open : (x : Bool) → (eqb type 0 || eqb at own) ≡ x → x ≡ slotOpen s own e
+  pub slot-open : (x : Bool) → (eqb type 0 || eqb at own) ≡ x → x ≡ slot_open s own e
   slot-open x t = sym t ∙ rw (← et, ← ea)
 
 -- WHAT IS WRITTEN
@@ -165,15 +165,15 @@ module _ {s path to : List ℕ} {slot block k b : ℕ} (M : Moving s path to slo
   pub new-within : check s ≡ 0 → 512 * block + 512 ≤ length s
   new-within ok = let z = sound-shape s ok in let i = M.inside in omega arith
 
-  pub move-written : splice (splice s (entry_at b k) (zeros 128)) (entry_at block slot) (part s (entry_at b k) 48 ++ padded (lastPart (parts to))) ≡ moveImage s path to
-  unfolding moveImage renamed
+  pub move-written : splice (splice s (entry_at b k) (zeros 128)) (entry_at block slot) (part s (entry_at b k) 48 ++ padded (last_part (parts to))) ≡ move_image s path to
+  unfolding move_image renamed
   move-written = rw (M.old, M.here)
 
-  pub move-marked : (m : List ℕ) → marked m (b ∷ block ∷ []) ≡ marked m (moveNamed s path to)
-  unfolding moveNamed
+  pub move-marked : (m : List ℕ) → marked m (b ∷ block ∷ []) ≡ marked m (move_named s path to)
+  unfolding move_named
   move-marked m =
-      let x : entry_of isFile s path / 512 ≡ b = rw (← M.old) (omega arith) in
-      let y : movePlace s path to / 512 ≡ block = rw (← M.here) (omega arith) in
+      let x : entry_of is_file s path / 512 ≡ b = rw (← M.old) (omega arith) in
+      let y : move_place s path to / 512 ≡ block = rw (← M.here) (omega arith) in
       rw (x, y)
 
 pub length-renamed : (head name : List ℕ) → length head ≡ 48 → length name ≤ 80 → length (head ++ padded name) ≡ 128
@@ -181,6 +181,6 @@ length-renamed head name l h = simp (length-append, length-zeros) (omega arith)
 
 -- the same of the directory that begins at block b, whose number of blocks was read
 pub open-read : (s : List ℕ) (n b own d : ℕ) → d ≡ be32 s (entry_at b 0 + 12) → (k a : ℕ)
-    → Stands (chain (next s) b d) n (openSlot s (chain (next s) b d) own) k a → Stands (directory s b) n (openSlot s (directory s b) own) k a
+    → Stands (chain (next s) b d) n (open_slot s (chain (next s) b d) own) k a → Stands (directory s b) n (open_slot s (directory s b) own) k a
 unfolding directory
 open-read s n b own d e k a st = let z : entry_at b 0 + 12 ≡ 512 * b + 12 = omega arith in rw (← (e ∙ ap (be32 s) z)) st

@@ -6,15 +6,15 @@ use Prim.Native.Nat.{ℕ, ◌*◌}
 use lib.Dec.{eqb}
 use borrow.Author.Tests.{eq-eqb, ne_eqb}
 use Rattle.layout.specs.Refusals.{require, first_of}
-use Rattle.layout.specs.Geometry.{blockCount}
-use Rattle.layout.specs.Directory.{blocksOf, isUsed, freeSlot, directory}
+use Rattle.layout.specs.Geometry.{block_count}
+use Rattle.layout.specs.Directory.{blocks_of, is_used, free_slot, directory}
 use Rattle.layout.specs.Walks.Shapes.{DirectoryAt}
 use Rattle.layout.specs.Walks.Paths.{PathGiven, Spotted}
 use Rattle.layout.specs.Walks.Slots.{Stands}
-use Rattle.layout.proofs.Laws.Tests.{require-zero, firstOf-zero}
+use Rattle.layout.proofs.Laws.Tests.{require-zero, first_of-zero}
 use Rattle.layout.proofs.Walks.Homes.{given-home}
-use Rattle.volume.specs.Create.{placeRefusal, createSlot, place}
-use Rattle.volume.specs.Walks.Places.{broughtRefusal, Searched}
+use Rattle.volume.specs.Create.{place_refusal, create_slot, place}
+use Rattle.volume.specs.Walks.Places.{brought_refusal, Searched}
 
 -- refused by what is brought, 9, 17 or 26, whatever comes after
 pub brought-first : (a b c : Bool) (rest : ℕ) → (c ≡ false → rest ≡ 26) → (first_of (require a 9 (require b 17 0)) (require c 26 0) ≡ 0 → ⊥)
@@ -24,9 +24,9 @@ brought-first true true false rest f z = sym (f refl)
 brought-first true false c rest f z = refl
 brought-first false b c rest f z = refl
 
-pub brought-fine : (form flags r : ℕ) → r ≡ broughtRefusal form flags → r ≡ 0 → (0 ≡ form) × (eqb flags 0 ≡ true)
-unfolding broughtRefusal
-brought-fine form flags r e z = let a = firstOf-zero form _ (sym e ∙ z) in (sym a.0, (require-zero (eqb flags 0) 25 0 a.1).0)
+pub brought-fine : (form flags r : ℕ) → r ≡ brought_refusal form flags → r ≡ 0 → (0 ≡ form) × (eqb flags 0 ≡ true)
+unfolding brought_refusal
+brought-fine form flags r e z = let a = first_of-zero form _ (sym e ∙ z) in (sym a.0, (require-zero (eqb flags 0) 25 0 a.1).0)
 
 pub refused-place : {s path : List ℕ} {refusal number h k b : ℕ} → number ≡ refusal → (number ≡ 0 → ⊥) → Searched s path refusal number h k b
 refused-place e ne = record { number_is = e; vacant = λ z. absurd (ne z) }
@@ -34,26 +34,26 @@ refused-place e ne = record { number_is = e; vacant = λ z. absurd (ne z) }
 pub place-as : {s path : List ℕ} {refusal refusal' number h k b : ℕ} → refusal ≡ refusal' → Searched s path refusal number h k b → Searched s path refusal' number h k b
 place-as e f = record { number_is = f.number_is ∙ e; vacant = f.vacant }
 
-module _ {s path : List ℕ} {h k b : ℕ} (sp : Spotted isUsed s path h k b) where
-  pub home-none : h ≡ 0 → 10 ≡ placeRefusal s path
-  unfolding placeRefusal
+module _ {s path : List ℕ} {h k b : ℕ} (sp : Spotted is_used s path h k b) where
+  pub home-none : h ≡ 0 → 10 ≡ place_refusal s path
+  unfolding place_refusal
   home-none z = rw (← sp.there, eq-eqb h 0 z)
 
   module _ (ne : h ≡ 0 → ⊥) where
-    pub name-taken : (k ≡ 0 → ⊥) → 11 ≡ placeRefusal s path
-    unfolding placeRefusal
+    pub name-taken : (k ≡ 0 → ⊥) → 11 ≡ place_refusal s path
+    unfolding place_refusal
     name-taken t = rw (← sp.there, ne_eqb h 0 ne, ← sp.stands.slot, ne_eqb k 0 t)
 
-    pub home_at : PathGiven s path → DirectoryAt s (blockCount s) h (blocksOf s (512 * h))
+    pub home_at : PathGiven s path → DirectoryAt s (block_count s) h (blocks_of s (512 * h))
     home_at G = rw sp.there (given-home s path G (λ z. ne (sp.there ∙ z)))
 
-    module _ (z : k ≡ 0) {j a : ℕ} (st : Stands (directory s h) (blockCount s) (freeSlot s (directory s h)) j a) where
-      pub slots-full : j ≡ 0 → 13 ≡ placeRefusal s path
-      unfolding placeRefusal
+    module _ (z : k ≡ 0) {j a : ℕ} (st : Stands (directory s h) (block_count s) (free_slot s (directory s h)) j a) where
+      pub slots-full : j ≡ 0 → 13 ≡ place_refusal s path
+      unfolding place_refusal
       slots-full q = rw (← sp.there, ne_eqb h 0 ne, ← sp.stands.slot, eq-eqb k 0 z, ← st.slot, eq-eqb j 0 q)
 
-      pub place_found : (j ≡ 0 → ⊥) → Searched s path (placeRefusal s path) 0 h j a
-      unfolding placeRefusal place createSlot
+      pub place_found : (j ≡ 0 → ⊥) → Searched s path (place_refusal s path) 0 h j a
+      unfolding place_refusal place create_slot
       place_found q =
           let f = st.block q in
           record {

@@ -5,13 +5,13 @@ use mathlib.Core.List.{List, ◌++◌}
 use native.Mathlib.Omega.{arith}
 use lib.ListN.{length, get_or}
 use Rattle.layout.specs.Lists.{last_or}
-use Rattle.layout.specs.Limits.{maxBlocks}
-use Rattle.layout.specs.Geometry.{blockCount, blocksFor}
-use Rattle.layout.specs.Table.{next, chain, freeBlocks}
-use Rattle.layout.specs.Directory.{isFile, fileBlocks}
+use Rattle.layout.specs.Limits.{max_blocks}
+use Rattle.layout.specs.Geometry.{block_count, blocks_for}
+use Rattle.layout.specs.Table.{next, chain, free_blocks}
+use Rattle.layout.specs.Directory.{is_file, file_blocks}
 use Rattle.layout.specs.Check.{check}
-use Rattle.layout.specs.Paths.{entry_of, fileRefusal}
-use Rattle.volume.specs.Write.{newSize, needed, newBlocks, writeAtRefusal}
+use Rattle.layout.specs.Paths.{entry_of, file_refusal}
+use Rattle.volume.specs.Write.{new_size, needed, new_blocks, write_at_refusal}
 use Rattle.layout.specs.Walks.Looks.{Located}
 use Rattle.layout.specs.Walks.Slots.{entry_at}
 use Rattle.volume.specs.Walks.Targets.{Standing}
@@ -40,65 +40,65 @@ start_is v zero first new b e = e
 start_is v (suc held) first new b e = refl
 
 -- an accepted write to a file that was found, on a sound image
-module _ {s : List ℕ} {slot b first size blocks : ℕ} (st : Standing s (fileRefusal s) slot b first size blocks) (offset count : ℕ) (ok : check s ≡ 0)
-    (r : writeAtRefusal s (entry_at b slot) offset count ≡ 0)
+module _ {s : List ℕ} {slot b first size blocks : ℕ} (st : Standing s (file_refusal s) slot b first size blocks) (offset count : ℕ) (ok : check s ≡ 0)
+    (r : write_at_refusal s (entry_at b slot) offset count ≡ 0)
   where
     abbrev path : List ℕ
     path = st.path
 
     abbrev e : ℕ
-    e = entry_of isFile s st.path
+    e = entry_of is_file s st.path
 
-    o : Located isFile s path slot b first size blocks
+    o : Located is_file s path slot b first size blocks
     o = st.located
 
     abbrev n : ℕ
-    n = blockCount s
+    n = block_count s
 
     abbrev old : List ℕ
-    old = fileBlocks s e
+    old = file_blocks s e
 
     abbrev new : List ℕ
-    new = newBlocks s e offset count
+    new = new_blocks s e offset count
 
     given : WriteGiven s path offset count
-    given = write-at-given s path offset count st.accepted (subst (λ (x : ℕ). writeAtRefusal s x offset count ≡ 0) o.place r)
+    given = write-at-given s path offset count st.accepted (subst (λ (x : ℕ). write_at_refusal s x offset count ≡ 0) o.place r)
 
     -- there are no more free blocks than blocks
-    room_most : length (freeBlocks (next s) n) ≤ maxBlocks
+    room_most : length (free_blocks (next s) n) ≤ max_blocks
     room_most =
         let S = sound s ok in
         omega (arith, free-count s S, S.free-is, S.most)
 
     few : count < 4294967296
-    unfolding needed newSize
+    unfolding needed new_size
     few =
         let h = given.room in
         let q = blocks-most o st.accepted ok in
         omega (arith, room_most, o.bytes, o.count)
 
-    pub plan-sizes : (offset ≤ size) × (size ≤ 512 * maxBlocks) × (count < 4294967296) × (blocks ≡ blocksFor size)
+    pub plan-sizes : (offset ≤ size) × (size ≤ 512 * max_blocks) × (count < 4294967296) × (blocks ≡ blocks_for size)
     plan-sizes =
         let z = blocks-for o st.accepted ok in
         let q = blocks-most o st.accepted ok in
         (omega (arith, o.bytes, given.within-size), omega arith, few, z)
 
-    module _ (k : ℕ) (ek : k ≡ blocksFor (max size (offset + count)) - blocks) where
-      pub need-is : k ≡ needed s (entry_of isFile s st.path) offset count
-      unfolding needed newSize
+    module _ (k : ℕ) (ek : k ≡ blocks_for (max size (offset + count)) - blocks) where
+      pub need-is : k ≡ needed s (entry_of is_file s st.path) offset count
+      unfolding needed new_size
       need-is = ek ∙ rw (← o.bytes, ← o.count)
 
-      pub room-given : k ≤ length (freeBlocks (next s) (blockCount s))
+      pub room-given : k ≤ length (free_blocks (next s) (block_count s))
       room-given = omega (arith, need-is, given.room)
 
       total : blocks + k ≡ length (old ++ new)
       total =
           let A = given.there in
-          omega (arith, o.count, need-is, new-length s e offset count given.room, all-length s (sound s ok) e (at_entry s (sound s ok) isFile path A) (at_typed isFile s path A) offset count)
+          omega (arith, o.count, need-is, new-length s e offset count given.room, all-length s (sound s ok) e (at_entry s (sound s ok) is_file path A) (at_typed is_file s path A) offset count)
 
       at_path : (last end : ℕ) → last ≡ last_or 0 (chain (next s) first blocks) → end ≡ max size (offset + count)
           → Planned s e offset count last k blocks first end (blocks + k)
-      unfolding newSize
+      unfolding new_size
       at_path last end el ee =
           record {
             behind = el ∙ ap (last_or 0) (located-chain o);

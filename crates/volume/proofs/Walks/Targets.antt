@@ -5,7 +5,7 @@ use mathlib.Core.List.{List}
 use Rattle.volume.specs.declared.change.Change as code
 use Rattle.volume.specs.declared.change.Change.TheVariants as kinds
 use Rattle.volume.specs.Asked.{asked}
-use Rattle.volume.specs.Change.{slotGiven}
+use Rattle.volume.specs.Change.{slot_given}
 use Rattle.volume.specs.Walks.Targets.{Target, answered}
 
 module _ (s path bytes : List ℕ) (slot block first size blocks : ℕ) where
@@ -23,8 +23,8 @@ module _ (s path bytes : List ℕ) (slot block first size blocks : ℕ) where
   target-low (kinds.Replace time) t = t.low
   target-low kinds.Move t = t.low
 
-  pub target-slot : (what : code.Change) → Target s (asked what path bytes) slot block first size blocks → answered what slot ≡ slotGiven s (asked what path bytes)
-  unfolding Target answered slotGiven
+  pub target-slot : (what : code.Change) → Target s (asked what path bytes) slot block first size blocks → answered what slot ≡ slot_given s (asked what path bytes)
+  unfolding Target answered slot_given
   target-slot (kinds.Create given) t = t.lowest
   target-slot (kinds.Write offset time) t = refl
   target-slot kinds.Delete t = refl

@@ -11,15 +11,15 @@ use lib.ListN.{length}
 use borrow.Author.Tests.{eq-eqb, ne_eqb}
 use Rattle.layout.specs.Lists.{has}
 use Rattle.layout.specs.Table.{next, chain}
-use Rattle.layout.specs.Walks.Chains.{countUsed}
+use Rattle.layout.specs.Walks.Chains.{count_used}
 use Rattle.layout.specs.Walks.Shapes.{ChainBelow}
-use Rattle.volume.specs.Search.{lowestFree}
-use Rattle.volume.specs.Walks.Searches.{without, freeFrom, First, FirstFree}
+use Rattle.volume.specs.Search.{lowest_free}
+use Rattle.volume.specs.Walks.Searches.{without, free_from, First, FirstFree}
 use Rattle.volume.proofs.Laws.Notes.{first-is, first_of, first_either, first-same}
 use Rattle.volume.proofs.Walks.Grow.{first-free}
 use Rattle.layout.proofs.Laws.Tests.{lt-or-ge}
 use Rattle.layout.proofs.Laws.Chains.{chain-suc, chain-none}
-use Rattle.layout.proofs.Walks.Chains.{countUsed-all}
+use Rattle.layout.proofs.Walks.Chains.{count_used-all}
 use Rattle.layout.proofs.Walks.Shapes.{run-rest}
 
 -- the walk that looks for the lowest block from `from` on
@@ -98,8 +98,8 @@ module _ {v : ℕ → ℕ} {a b : ℕ} (w : InUse v a b) where
   pub in-use-entry : v b ≢ 0 → InUse v a (b + 1)
   in-use-entry ne = in-use-more (b + 1) (omega arith) (λ c l u z. let e : b ≡ c = omega arith in ne (ap v e ∙ z))
 
-  pub in-use-run : (k used : ℕ) → used ≡ countUsed v b k → k ≤ used → InUse v a (b + k)
-  in-use-run k used e h = in-use-more (b + k) (omega arith) (λ c l u. countUsed-all v k b (omega arith) c l u)
+  pub in-use-run : (k used : ℕ) → used ≡ count_used v b k → k ≤ used → InUse v a (b + k)
+  in-use-run k used e h = in-use-more (b + k) (omega arith) (λ c l u. count_used-all v k b (omega arith) c l u)
 
   pub free-behind : (n r : ℕ) → First (λ x. eqb (v x) 0) b n r → First (λ x. eqb (v x) 0) a n r
   free-behind n r f =
@@ -113,17 +113,17 @@ module _ {v : ℕ → ℕ} {a b : ℕ} (w : InUse v a b) where
   free-nowhere n h = record { high = omega arith; before = λ c l u. ne_eqb (v c) 0 (w.used c l (omega arith)); met = λ k. absurd (omega arith) }
 
 -- the first is the lowest
-pub free-lowest : (v : ℕ → ℕ) (a n r : ℕ) → First (λ x. eqb (v x) 0) a n r → r ≡ lowestFree v a n
-unfolding lowestFree
+pub free-lowest : (v : ℕ → ℕ) (a n r : ℕ) → First (λ x. eqb (v x) 0) a n r → r ≡ lowest_free v a n
+unfolding lowest_free
 free-lowest v a n r f = first-is (λ x. eqb (v x) 0) n a r f
 
-lowest-free : (v : ℕ → ℕ) (a n r : ℕ) → r ≡ lowestFree v a n → First (λ x. eqb (v x) 0) a n r
-unfolding lowestFree
+lowest-free : (v : ℕ → ℕ) (a n r : ℕ) → r ≡ lowest_free v a n → First (λ x. eqb (v x) 0) a n r
+unfolding lowest_free
 lowest-free v a n r e = subst (λ (x : ℕ). First (λ y. eqb (v y) 0) a n x) (sym e) (first_of (λ x. eqb (v x) 0) n a)
 
 -- the lower one of a free block and a block of the chain
-pub vacant-first : (v : ℕ → ℕ) (bs : List ℕ) (a n b c : ℕ) → a ≤ n → 0 < length (freeFrom (without v bs) a (n - a))
-    → b ≡ lowestFree v a n → First (λ x. has eqb x bs) a n c → FirstFree (without v bs) a (n - a) (min b c)
+pub vacant-first : (v : ℕ → ℕ) (bs : List ℕ) (a n b c : ℕ) → a ≤ n → 0 < length (free_from (without v bs) a (n - a))
+    → b ≡ lowest_free v a n → First (λ x. has eqb x bs) a n c → FirstFree (without v bs) a (n - a) (min b c)
 vacant-first v bs a n b c h some e g =
     first-free (without v bs) a n (min b c) h some
     (first-same (λ x. eqb (v x) 0 || has eqb x bs) (λ x. eqb (without v bs x) 0) a n (min b c) (λ x l. vacant-test v bs x)

@@ -1,19 +1,19 @@
 -- Code-facing: the tests of a move.
 use Rattle.std.specs.Prelude.{ℕ, Bool, cond, ◌||◌, List, ◌≡◌, eqb}
 use Rattle.layout.specs.Refusals.{first_of}
-use Rattle.layout.specs.Directory.{type_of, isFree}
-use Rattle.volume.specs.Move.{moveRefusal}
+use Rattle.layout.specs.Directory.{type_of, is_free}
+use Rattle.volume.specs.Move.{move_refusal}
 use Rattle.volume.specs.Walks.Targets.{Moving}
 
 -- the refusals of two paths by themselves, 9 before 17
-unfoldable pub eitherForm : ℕ → ℕ → ℕ
-eitherForm x y = cond (eqb x 9 || eqb y 9) 9 (first_of x y)
+unfoldable pub either_form : ℕ → ℕ → ℕ
+either_form x y = cond (eqb x 9 || eqb y 9) 9 (first_of x y)
 
 -- the slot that begins at e is free, or is the one that begins at `own`
-abbrev pub slotOpen : List ℕ → ℕ → ℕ → Bool
-slotOpen s own e = isFree (type_of s e) || eqb e own
+abbrev pub slot_open : List ℕ → ℕ → ℕ → Bool
+slot_open s own e = is_free (type_of s e) || eqb e own
 
 -- what preparing a move gives: the number of its refusal, and if that is 0, where its entry goes and where it stands
 pub record Prepares (s path to : List ℕ) (number slot block oldSlot oldBlock : ℕ) : Type 0 where
-  pub number_is : number ≡ moveRefusal s path to
+  pub number_is : number ≡ move_refusal s path to
   pub moving : number ≡ 0 → Moving s path to slot block oldSlot oldBlock

@@ -1,12 +1,12 @@
 -- Code-facing: what was found for a change, as the code hands it on.
 use Rattle.std.specs.Prelude.{ℕ, ◌<◌, ◌≡◌, List}
-use Rattle.layout.specs.Geometry.{blockCount}
-use Rattle.layout.specs.Directory.{isFile, isDirectory}
+use Rattle.layout.specs.Geometry.{block_count}
+use Rattle.layout.specs.Directory.{is_file, is_directory}
 use Rattle.layout.specs.Paths.{entry_of}
 use Rattle.layout.specs.Walks.Slots.{entry_at}
 use Rattle.layout.specs.Walks.Looks.{Located}
-use Rattle.volume.specs.Change.{Change, create, write, delete, createDirectory, deleteDirectory, setAttributes, clearAttributes, clearFlags, shorten, replace, refusal, move}
-use Rattle.volume.specs.Move.{moveSlot, movePlace}
+use Rattle.volume.specs.Change.{Change, create, write, delete, create_directory, delete_directory, set_attributes, clear_attributes, clear_flags, shorten, replace, refusal, move}
+use Rattle.volume.specs.Move.{move_slot, move_place}
 use Rattle.volume.specs.declared.change.Change as code
 use Rattle.volume.specs.declared.change.Change.TheVariants as kinds
 use Rattle.volume.specs.Walks.Places.{Vacant}
@@ -15,30 +15,30 @@ use Rattle.volume.specs.Walks.Places.{Vacant}
 pub record Standing (s : List ℕ) (refusal : List ℕ → ℕ) (slot block first size blocks : ℕ) : Type 0 where
   pub path : List ℕ
   pub accepted : refusal path ≡ 0
-  pub located : Located isFile s path slot block first size blocks
+  pub located : Located is_file s path slot block first size blocks
 
 -- where the entry of a move goes, and the slot and block where it stands
 pub record Moving (s path to : List ℕ) (slot block oldSlot oldBlock : ℕ) : Type 0 where
-  pub lowest : slot ≡ moveSlot s path to
+  pub lowest : slot ≡ move_slot s path to
   pub low : slot < 256
-  pub inside : block < blockCount s
-  pub here : entry_at block slot ≡ movePlace s path to
-  pub old-inside : oldBlock < blockCount s
-  pub old : entry_at oldBlock oldSlot ≡ entry_of isFile s path
+  pub inside : block < block_count s
+  pub here : entry_at block slot ≡ move_place s path to
+  pub old-inside : oldBlock < block_count s
+  pub old : entry_at oldBlock oldSlot ≡ entry_of is_file s path
 
 -- what an accepted change is about: the entry of its path, or the place of a new one, where `first` is the first block of the directory; of a
 -- move the place that its entry goes to, and its own slot and block as `first` and `size`
 unfoldable pub Target : List ℕ → Change → (slot block first size blocks : ℕ) → Type 0
 Target s (create path type user group permissions flags time) slot block first size blocks = Vacant s path first slot block
-Target s (write path offset bytes time) slot block first size blocks = Located isFile s path slot block first size blocks
-Target s (delete path) slot block first size blocks = Located isFile s path slot block first size blocks
-Target s (createDirectory path type user group permissions flags time d) slot block first size blocks = Vacant s path first slot block
-Target s (deleteDirectory path) slot block first size blocks = Located isDirectory s path slot block first size blocks
-Target s (setAttributes path bytes) slot block first size blocks = Located isFile s path slot block first size blocks
-Target s (clearAttributes path) slot block first size blocks = Located isFile s path slot block first size blocks
-Target s (clearFlags path) slot block first size blocks = Located isFile s path slot block first size blocks
-Target s (shorten path length time) slot block first size blocks = Located isFile s path slot block first size blocks
-Target s (replace path bytes time) slot block first size blocks = Located isFile s path slot block first size blocks
+Target s (write path offset bytes time) slot block first size blocks = Located is_file s path slot block first size blocks
+Target s (delete path) slot block first size blocks = Located is_file s path slot block first size blocks
+Target s (create_directory path type user group permissions flags time d) slot block first size blocks = Vacant s path first slot block
+Target s (delete_directory path) slot block first size blocks = Located is_directory s path slot block first size blocks
+Target s (set_attributes path bytes) slot block first size blocks = Located is_file s path slot block first size blocks
+Target s (clear_attributes path) slot block first size blocks = Located is_file s path slot block first size blocks
+Target s (clear_flags path) slot block first size blocks = Located is_file s path slot block first size blocks
+Target s (shorten path length time) slot block first size blocks = Located is_file s path slot block first size blocks
+Target s (replace path bytes time) slot block first size blocks = Located is_file s path slot block first size blocks
 Target s (move path to) slot block first size blocks = Moving s path to slot block first size
 
 -- what preparing a change gives: the number of its refusal, and if that is 0, what it is about

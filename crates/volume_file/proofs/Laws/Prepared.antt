@@ -10,12 +10,12 @@ use borrow.Author.Tests.{not-false}
 use Rattle.layout.specs.Bytes.{be32, bytes4, block, splice}
 use Rattle.layout.specs.Lists.{interval, select, joined}
 use Rattle.layout.proofs.Laws.Tests.{is_false}
-use Rattle.layout.proofs.Laws.Lists.{In, getD-in, select_in, select-ascends, select-all, select-split}
+use Rattle.layout.proofs.Laws.Lists.{In, get_d-in, select_in, select-ascends, select-all, select-split}
 use Rattle.layout.proofs.Laws.Names.{same-eq}
 use Rattle.layout.proofs.Laws.Bytes.{length-splice, length-bytes4, be32-splice, length-joined4, joined4-at, be32-same, part_same}
 use Rattle.layout.proofs.Laws.Frames.{same-below, same_above, same-inside, same-be32}
 use Rattle.layout.proofs.Laws.Files.{length-blocks, joined-block}
-use Rattle.volume_file.specs.Format.{homeSectors, home_at, saved_at, numberSectors, countAt, addressAt, address, waits, count}
+use Rattle.volume_file.specs.Format.{home_sectors, home_at, saved_at, number_sectors, count_at, address_at, address, waits, count}
 use Rattle.volume_file.specs.Save.{differs, changes, filled, prepared, committed}
 use Rattle.volume_file.proofs.Laws.Sectors.{sector-beside}
 use Rattle.volume_file.proofs.Laws.Restored.{Rising, same_address, same-rising}
@@ -44,7 +44,7 @@ module _ {h : ℕ} {d : List ℕ} (new : List ℕ) (v : VolumeFile h d) (fits : 
   in-below x m = let (a, b, e) = select_in (differs d new) 0 h x (rw xs-is at m) in omega arith
 
   changes-below : (j : ℕ) → j < k → get_or xs j 0 < h
-  changes-below j l = in-below (get_or xs j 0) (getD-in xs j 0 l)
+  changes-below j l = in-below (get_or xs j 0) (get_d-in xs j 0 l)
 
   changes-apart : (i j : ℕ) → i < j → j < k → get_or xs i 0 < get_or xs j 0
   changes-apart i j l m = let n : j < length (select (differs d new) (interval 0 h)) = rw xs-is at m in rw xs-is (select-ascends (differs d new) h 0 i j l n)
@@ -71,13 +71,13 @@ module _ {h : ℕ} {d : List ℕ} (new : List ℕ) (v : VolumeFile h d) (fits : 
   S-long = length-blocks new xs inside
 
   abbrev first : List ℕ
-  first = splice d (addressAt h 0) J
+  first = splice d (address_at h 0) J
 
-  first_fits : addressAt h 0 + length J ≤ length d
+  first_fits : address_at h 0 + length J ≤ length d
   first_fits = omega (arith, J-long, v.size, changes-few)
 
   first-long : length first ≡ length d
-  first-long = length-splice d (addressAt h 0) J first_fits
+  first-long = length-splice d (address_at h 0) J first_fits
 
   second_fits : 512 * saved_at h 0 + length S ≤ length first
   second_fits = omega (arith, S-long, first-long, v.size, changes-few)
@@ -93,18 +93,18 @@ module _ {h : ℕ} {d : List ℕ} (new : List ℕ) (v : VolumeFile h d) (fits : 
   filled-low : (s : ℕ) → s < 2 + h → block (filled d new) s ≡ block d s
   filled-low s l =
       rw filled_is
-      (sector-beside first (512 * saved_at h 0) S s second_fits (inl (omega arith)) ∙ sector-beside d (addressAt h 0) J s first_fits (inl (omega arith)))
+      (sector-beside first (512 * saved_at h 0) S s second_fits (inl (omega arith)) ∙ sector-beside d (address_at h 0) J s first_fits (inl (omega arith)))
 
-  filled-address : (j : ℕ) → j < k → be32 (filled d new) (addressAt h j) ≡ get_or xs j 0
+  filled-address : (j : ℕ) → j < k → be32 (filled d new) (address_at h j) ≡ get_or xs j 0
   filled-address j l =
       let b : get_or xs j 0 < h = changes-below j l in
       let n = small v in
       rw filled_is
-      (same-be32 first (splice first (512 * saved_at h 0) S) (addressAt h 0) (4 * k) (addressAt h j)
-      (same-below first (512 * saved_at h 0) S second_fits (addressAt h 0) (4 * k) (omega (arith, changes-few))) (omega arith) (omega arith)
-      ∙ be32-same J first (4 * j) (addressAt h j) (λ i g.
-      let e : addressAt h j + i ≡ addressAt h 0 + 4 * j + i = omega arith in
-      rw e (same-inside d (addressAt h 0) J first_fits (4 * j) 4 (omega (arith, J-long)) i g))
+      (same-be32 first (splice first (512 * saved_at h 0) S) (address_at h 0) (4 * k) (address_at h j)
+      (same-below first (512 * saved_at h 0) S second_fits (address_at h 0) (4 * k) (omega (arith, changes-few))) (omega arith) (omega arith)
+      ∙ be32-same J first (4 * j) (address_at h j) (λ i g.
+      let e : address_at h j + i ≡ address_at h 0 + 4 * j + i = omega arith in
+      rw e (same-inside d (address_at h 0) J first_fits (4 * j) 4 (omega (arith, J-long)) i g))
       ∙ joined4-at xs j l (omega arith))
 
   filled-saved : (j : ℕ) → j < k → block (filled d new) (saved_at h j) ≡ block new (get_or xs j 0)
@@ -121,32 +121,32 @@ module _ {h : ℕ} {d : List ℕ} (new : List ℕ) (v : VolumeFile h d) (fits : 
   four : length (bytes4 k) ≡ 4
   four = length-bytes4 k
 
-  prepared-is : prepared d new ≡ splice (filled d new) (countAt h) (bytes4 k)
+  prepared-is : prepared d new ≡ splice (filled d new) (count_at h) (bytes4 k)
   unfolding prepared
   prepared-is = rw v.sectors
 
-  count_fits : countAt h + length (bytes4 k) ≤ length (filled d new)
+  count_fits : count_at h + length (bytes4 k) ≤ length (filled d new)
   count_fits = omega (arith, four, filled-length, v.size)
 
   pub prepared-length : length (prepared d new) ≡ length d
-  prepared-length = rw prepared-is (length-splice (filled d new) (countAt h) (bytes4 k) count_fits ∙ filled-length)
+  prepared-length = rw prepared-is (length-splice (filled d new) (count_at h) (bytes4 k) count_fits ∙ filled-length)
 
   prepared-beside : (s : ℕ) → (s < 2 + h) ⊎ (saved_at h 0 ≤ s) → block (prepared d new) s ≡ block (filled d new) s
   prepared-beside s far =
-      rw prepared-is (sector-beside (filled d new) (countAt h) (bytes4 k) s count_fits (⊎_elim (λ l. inl (omega arith)) (λ l. inr (omega (arith, four))) far))
+      rw prepared-is (sector-beside (filled d new) (count_at h) (bytes4 k) s count_fits (⊎_elim (λ l. inl (omega arith)) (λ l. inr (omega (arith, four))) far))
 
   pub prepared-low : (s : ℕ) → s < 2 + h → block (prepared d new) s ≡ block d s
   prepared-low s l = prepared-beside s (inl l) ∙ filled-low s l
 
-  pub prepared-number : be32 (prepared d new) (countAt h) ≡ k
-  prepared-number = rw prepared-is (be32-splice (filled d new) (countAt h) k (omega (arith, count_fits, four)) (omega (arith, changes-few, small v)))
+  pub prepared-number : be32 (prepared d new) (count_at h) ≡ k
+  prepared-number = rw prepared-is (be32-splice (filled d new) (count_at h) k (omega (arith, count_fits, four)) (omega (arith, changes-few, small v)))
 
   prepared-address : (j : ℕ) → j < k → address h (prepared d new) j ≡ get_or xs j 0
   unfolding address
   prepared-address j l =
       rw prepared-is
-      (same-be32 (filled d new) (splice (filled d new) (countAt h) (bytes4 k)) (addressAt h j) 4 (addressAt h j)
-      (same_above (filled d new) (countAt h) (bytes4 k) count_fits (addressAt h j) 4 (omega (arith, four))) (omega arith) (omega arith)
+      (same-be32 (filled d new) (splice (filled d new) (count_at h) (bytes4 k)) (address_at h j) 4 (address_at h j)
+      (same_above (filled d new) (count_at h) (bytes4 k) count_fits (address_at h j) 4 (omega (arith, four))) (omega arith) (omega arith)
       ∙ filled-address j l)
 
   prepared-saved : (j : ℕ) → j < k → block (prepared d new) (saved_at h j) ≡ block new (get_or xs j 0)
@@ -177,12 +177,12 @@ module _ {h : ℕ} {d : List ℕ} (new : List ℕ) (v : VolumeFile h d) (fits : 
   pub committed-head : block (committed d new) 0 ≡ block d 0
   committed-head = committed-other 0 (λ e. omega arith) ∙ prepared-low 0 (omega arith)
 
-  committed-sectors : homeSectors (committed d new) ≡ h
+  committed-sectors : home_sectors (committed d new) ≡ h
   committed-sectors = same-sectors d (committed d new) committed-head ∙ v.sectors
 
   pub committed-count : count (committed d new) ≡ k
   committed-count =
-      count-some (committed d new) committed-waits ∙ ap (λ (x : ℕ). be32 (committed d new) (countAt x)) committed-sectors
+      count-some (committed d new) committed-waits ∙ ap (λ (x : ℕ). be32 (committed d new) (count_at x)) committed-sectors
       ∙ same_number (prepared d new) (committed d new) h (committed-other (2 + h) (λ e. omega arith)) ∙ prepared-number
 
   same-addresses : (j : ℕ) → address h (committed d new) j ≡ address h (prepared d new) j
@@ -207,16 +207,16 @@ module _ {h : ℕ} {d : List ℕ} (new : List ℕ) (v : VolumeFile h d) (fits : 
   committed-home i l = committed-other (home_at i) (λ e. omega arith) ∙ prepared-low (home_at i) (omega arith)
 
   -- of the log, only as many sectors change as hold k + 1 numbers and k sectors
-  pub prepared-numbers : (s : ℕ) → 2 + h + numberSectors k ≤ s → s < saved_at h 0 → block (prepared d new) s ≡ block d s
+  pub prepared-numbers : (s : ℕ) → 2 + h + number_sectors k ≤ s → s < saved_at h 0 → block (prepared d new) s ≡ block d s
   prepared-numbers s l m =
-      ap (λ (x : List ℕ). block x s) prepared-is ∙ sector-beside (filled d new) (countAt h) (bytes4 k) s count_fits (inr (omega (arith, four)))
+      ap (λ (x : List ℕ). block x s) prepared-is ∙ sector-beside (filled d new) (count_at h) (bytes4 k) s count_fits (inr (omega (arith, four)))
       ∙ rw filled_is
       (sector-beside first (512 * saved_at h 0) S s second_fits (inl (omega arith))
-      ∙ sector-beside d (addressAt h 0) J s first_fits (inr (omega (arith, J-long))))
+      ∙ sector-beside d (address_at h 0) J s first_fits (inr (omega (arith, J-long))))
 
   pub prepared-rest : (s : ℕ) → saved_at h k ≤ s → block (prepared d new) s ≡ block d s
   prepared-rest s l =
       prepared-beside s (inr (omega arith))
       ∙ rw filled_is
       (sector-beside first (512 * saved_at h 0) S s second_fits (inr (omega (arith, S-long)))
-      ∙ sector-beside d (addressAt h 0) J s first_fits (inr (omega (arith, J-long, changes-few))))
+      ∙ sector-beside d (address_at h 0) J s first_fits (inr (omega (arith, J-long, changes-few))))

@@ -8,9 +8,9 @@ use native.Mathlib.Omega.{arith}
 use lib.ListN.{length}
 use Rattle.layout.specs.Bytes.{block}
 use Rattle.layout.proofs.Laws.Tests.{true-or-false}
-use Rattle.volume_file.specs.Format.{homeSectors, home_at, address, waits, count}
+use Rattle.volume_file.specs.Format.{home_sectors, home_at, address, waits, count}
 use Rattle.volume_file.specs.Save.{flagged, restored, replayed, recovered}
-use Rattle.volume_file.specs.Cuts.{Crash, CommitSector, RecoveryCut, replaying, settling, RecoveryCuts, uncut, cutAgain}
+use Rattle.volume_file.specs.Cuts.{Crash, CommitSector, RecoveryCut, replaying, settling, RecoveryCuts, uncut, cut_again}
 use Rattle.volume_file.proofs.Laws.Restored.{Alike, alike-header, alike-high, alike-rising, alike-restored, alike-restored-length, restored-length, restored-out}
 use Rattle.volume_file.proofs.Laws.Facts.{VolumeFile, same-sectors, same-waits, same_count, count_none, quiet-file, flagged-length, flagged-other, flagged-waits}
 
@@ -85,7 +85,7 @@ module _ {h : ℕ} {d e : List ℕ} (v : VolumeFile h d) (a : Alike h d e (count
   same_head : block e 0 ≡ block d 0
   same_head = alike-header h d e (count d) v.size v.few v.rise a
 
-  sectors : homeSectors e ≡ h
+  sectors : home_sectors e ≡ h
   sectors = same-sectors d e same_head ∙ v.sectors
 
   pub alike-waits : waits d ≡ true → waits e ≡ true → Recovers h d e
@@ -147,7 +147,7 @@ one-cut {h} {d} {e} v (settling wd c) = go (true-or-false (waits e))
 -- and so do any number of them
 pub many-cuts : {h : ℕ} {d e : List ℕ} → VolumeFile h d → RecoveryCuts d e → Recovers h d e
 many-cuts v (uncut d) = record { volume = v; head = refl; same = beside_same refl }
-many-cuts v (cutAgain c cs) =
+many-cuts v (cut_again c cs) =
     let o = one-cut v c in
     let m = many-cuts o.volume cs in
     record { volume = m.volume; head = m.head ∙ o.head; same = beside-then o.same m.same }

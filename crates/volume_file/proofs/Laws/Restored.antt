@@ -12,7 +12,7 @@ use borrow.Author.Tests.{ltb-true, lt-ltb}
 use Rattle.layout.specs.Bytes.{block, splice}
 use Rattle.layout.proofs.Laws.Tests.{and_split, and-join}
 use Rattle.layout.proofs.Laws.Bytes.{length-block, length-splice}
-use Rattle.volume_file.specs.Format.{home_at, saved_at, fileSectors, addressAt, address, rising}
+use Rattle.volume_file.specs.Format.{home_at, saved_at, file_sectors, address_at, address, rising}
 use Rattle.volume_file.specs.Save.{restored}
 use Rattle.volume_file.proofs.Laws.Sectors.{sector-be32, sector-other, sector-same, among}
 
@@ -55,7 +55,7 @@ pub rising-fewer : (h : ℕ) (d : List ℕ) (limit k j : ℕ) → j ≤ k → Ri
 rising-fewer h d limit k j l r = record { below = λ i m. r.below i (omega arith); apart = λ i i' m n. r.apart i i' m (omega arith) }
 
 -- the log of a file with h home sectors, whose first k addresses rise
-module _ (h : ℕ) (d : List ℕ) (size : length d ≡ 512 * fileSectors h) where
+module _ (h : ℕ) (d : List ℕ) (size : length d ≡ 512 * file_sectors h) where
   saved-long : (j : ℕ) → j < h → length (block d (saved_at h j)) ≡ 512
   saved-long j l = length-block d (saved_at h j) (omega arith)
 
@@ -104,7 +104,7 @@ module _ (h : ℕ) (d : List ℕ) (size : length d ≡ 512 * fileSectors h) wher
 pub same_address : (h : ℕ) (d e : List ℕ) → ((s : ℕ) → 2 + h ≤ s → block e s ≡ block d s) → (j : ℕ) → address h e j ≡ address h d j
 unfolding address
 same_address h d e f j =
-    let q : addressAt h j ≡ 512 * (2 + h + (j + 1) / 128) + 4 * ((j + 1) % 128) = omega arith in
+    let q : address_at h j ≡ 512 * (2 + h + (j + 1) / 128) + 4 * ((j + 1) % 128) = omega arith in
     rw q (sector-be32 d e (2 + h + (j + 1) / 128) (4 * ((j + 1) % 128)) (omega arith) (f (2 + h + (j + 1) / 128) (omega arith)))
 
 pub same-rising : (h : ℕ) (d e : List ℕ) (limit k : ℕ) → ((j : ℕ) → address h e j ≡ address h d j) → Rising h d limit k → Rising h e limit k
@@ -118,7 +118,7 @@ pub record Alike (h : ℕ) (d e : List ℕ) (k : ℕ) : Type 0 where
   pub long : length e ≡ length d
   pub others : (s : ℕ) → s ≢ 1 → ((j : ℕ) → j < k → s ≢ home_at (address h d j)) → block e s ≡ block d s
 
-module _ (h : ℕ) (d e : List ℕ) (k : ℕ) (size : length d ≡ 512 * fileSectors h) (few : k ≤ h) (r : Rising h d h k) (a : Alike h d e k) where
+module _ (h : ℕ) (d e : List ℕ) (k : ℕ) (size : length d ≡ 512 * file_sectors h) (few : k ≤ h) (r : Rising h d h k) (a : Alike h d e k) where
   -- the header and the log
   pub alike-header : block e 0 ≡ block d 0
   alike-header = a.others 0 (λ q. omega arith) (λ j m q. omega arith)

@@ -12,10 +12,10 @@ use Rattle.layout.specs.Looks.{Extent}
 use Rattle.layout.proofs.Laws.Tests.{lt-or-ge}
 use Rattle.layout.proofs.Laws.Bytes.{length_part, length-splice, length-zeros, part_same, part-part, part-splice}
 use Rattle.layout.proofs.Laws.Frames.{same-inside}
-use Rattle.volume_file.specs.Format.{homeSectors, home_at, numberSectors, countAt, saved_at, fileSectors, address, waits, count, fileRefusal}
-use Rattle.volume_file.specs.Save.{homeWith, flagged, changes, prepared, prepareRefusal, afterPrepare, commitRefusal, afterCommit, restored, replayed, recovered}
-use Rattle.volume_file.specs.Answers.{prepareAnswer, logPlaces, homeExtent}
-use Rattle.volume_file.specs.Writes.{written, logPlacesOf, commitPlace, homePlaces}
+use Rattle.volume_file.specs.Format.{home_sectors, home_at, number_sectors, count_at, saved_at, file_sectors, address, waits, count, file_refusal}
+use Rattle.volume_file.specs.Save.{home_with, flagged, changes, prepared, prepare_refusal, after_prepare, commit_refusal, after_commit, restored, replayed, recovered}
+use Rattle.volume_file.specs.Answers.{prepare_answer, log_places, home_extent}
+use Rattle.volume_file.specs.Writes.{written, log_places_of, commit_place, home_places}
 use Rattle.volume_file.proofs.Laws.Sectors.{sectors-ext, sector-beside}
 use Rattle.volume_file.proofs.Laws.Restored.{restored-in, same_address}
 use Rattle.volume_file.proofs.Laws.Facts.{VolumeFile, file-facts, file-ok, flagged-other}
@@ -66,59 +66,59 @@ module _ {h : ℕ} {d : List ℕ} (new : List ℕ) (v : VolumeFile h d) (fits : 
   abbrev e : List ℕ
   e = prepared d new
 
-  same-outside : (s : ℕ) → (s < saved_at h 0) ⊎ (saved_at h 0 + k ≤ s) → (s < 2 + h) ⊎ (2 + h + numberSectors k ≤ s) → block d s ≡ block e s
+  same-outside : (s : ℕ) → (s < saved_at h 0) ⊎ (saved_at h 0 + k ≤ s) → (s < 2 + h) ⊎ (2 + h + number_sectors k ≤ s) → block d s ≡ block e s
   same-outside s (inr l) m = sym (prepared-rest new v fits s (omega arith))
   same-outside s (inl l) (inl m) = sym (prepared-low new v fits s m)
   same-outside s (inl l) (inr m) = sym (prepared-numbers new v fits s m l)
 
-  prepared-written : splice (splice d (countAt h) (part e (countAt h) (512 * numberSectors k))) (512 * saved_at h 0) (part e (512 * saved_at h 0) (512 * k)) ≡ e
+  prepared-written : splice (splice d (count_at h) (part e (count_at h) (512 * number_sectors k))) (512 * saved_at h 0) (part e (512 * saved_at h 0) (512 * k)) ≡ e
   prepared-written =
       let few : k ≤ h = changes-few new v fits in
       let long : length e ≡ length d = prepared-length new v fits in
-      let one : 512 * (2 + h + numberSectors k) ≤ length d = omega (arith, v.size, few) in
-      let t : List ℕ = splice d (countAt h) (part e (countAt h) (512 * numberSectors k)) in
-      let tl : length t ≡ length d = place-long d e (2 + h) (numberSectors k) long one in
+      let one : 512 * (2 + h + number_sectors k) ≤ length d = omega (arith, v.size, few) in
+      let t : List ℕ = splice d (count_at h) (part e (count_at h) (512 * number_sectors k)) in
+      let tl : length t ≡ length d = place-long d e (2 + h) (number_sectors k) long one in
       let le : length e ≡ length t = long ∙ sym tl in
       let two : 512 * (saved_at h 0 + k) ≤ length t = omega (arith, tl, v.size, few) in
       let u : List ℕ = splice t (512 * saved_at h 0) (part e (512 * saved_at h 0) (512 * k)) in
       let ul : length u ≡ length t = place-long t e (saved_at h 0) k le two in
-      sectors-ext u e (fileSectors h) (ul ∙ tl ∙ v.size) (le ∙ sym ul) λ s l.
-      place-or t e (saved_at h 0) k le two s (λ far. place-or d e (2 + h) (numberSectors k) long one s (λ away. same-outside s far away))
+      sectors-ext u e (file_sectors h) (ul ∙ tl ∙ v.size) (le ∙ sym ul) λ s l.
+      place-or t e (saved_at h 0) k le two s (λ far. place-or d e (2 + h) (number_sectors k) long one s (λ away. same-outside s far away))
 
-pub written-1 : (d image journal own : List ℕ) → prepareRefusal d image journal own ≡ 0
-    → written d (afterPrepare d image journal own) (logPlacesOf (prepareAnswer d image journal own)) ≡ afterPrepare d image journal own
-unfolding written afterPrepare prepareAnswer logPlaces
+pub written-1 : (d image journal own : List ℕ) → prepare_refusal d image journal own ≡ 0
+    → written d (after_prepare d image journal own) (log_places_of (prepare_answer d image journal own)) ≡ after_prepare d image journal own
+unfolding written after_prepare prepare_answer log_places
 written-1 d image journal own z =
     let q = (prepares d image journal own z).quiet in
-    rw z (prepared-written (homeWith image journal own) (file-facts d q.ok) (quiet-fits d (homeWith image journal own) q (together d image journal own z)))
+    rw z (prepared-written (home_with image journal own) (file-facts d q.ok) (quiet-fits d (home_with image journal own) q (together d image journal own z)))
 
 -- STEPS 2 and 4
-flagged-written : (d : List ℕ) (b : ℕ) → 1024 ≤ length d → written d (flagged d b) commitPlace ≡ flagged d b
+flagged-written : (d : List ℕ) (b : ℕ) → 1024 ≤ length d → written d (flagged d b) commit_place ≡ flagged d b
 unfolding written flagged
 flagged-written d b l = ap (splice d 512) (part-splice d 512 (b ∷ zeros 511) 512 (omega (arith, length-zeros 511)) (omega arith))
 
-pub written_2 : (d : List ℕ) → commitRefusal d ≡ 0 → written d (afterCommit d) commitPlace ≡ afterCommit d
-unfolding afterCommit
+pub written_2 : (d : List ℕ) → commit_refusal d ≡ 0 → written d (after_commit d) commit_place ≡ after_commit d
+unfolding after_commit
 written_2 d z = rw z (flagged-written d 1 (commit-long d 0 (sym z) refl))
 
-module _ (d : List ℕ) (z : fileRefusal d ≡ 0) (w : waits d ≡ true) where
-  v : VolumeFile (homeSectors d) d
+module _ (d : List ℕ) (z : file_refusal d ≡ 0) (w : waits d ≡ true) where
+  v : VolumeFile (home_sectors d) d
   v = file-facts d z
 
   long : 1024 ≤ length (replayed d)
   long = omega (arith, replayed-length v, v.size)
 
-  pub written_4 : written (replayed d) (recovered d) commitPlace ≡ recovered d
+  pub written_4 : written (replayed d) (recovered d) commit_place ≡ recovered d
   written_4 = rw (recovered-waits d w) (flagged-written (replayed d) 0 long)
 
   -- STEP 3
   abbrev h : ℕ
-  h = homeSectors d
+  h = home_sectors d
 
   abbrev r : List ℕ
   r = recovered d
 
-  named : (j : ℕ) → j < count d → homeExtent r j ≡ place (512 * home_at (address h d j)) 512
+  named : (j : ℕ) → j < count d → home_extent r j ≡ place (512 * home_at (address h d j)) 512
   named j l =
       let f = recovered-file v in
       let b : address h d j < h = v.rise.below j l in
@@ -132,16 +132,16 @@ module _ (d : List ℕ) (z : fileRefusal d ≡ 0) (w : waits d ≡ true) where
       ∙ ap (λ (y : List ℕ). block y (home_at (address h d j))) (replayed-is v)
       ∙ restored-in h d v.size (count d) v.few v.rise j l
 
-  homes : (n i : ℕ) → i + n ≡ count d → written (restored h d i) r (map (homeExtent r) (interval i n)) ≡ restored h d (i + n)
+  homes : (n i : ℕ) → i + n ≡ count d → written (restored h d i) r (map (home_extent r) (interval i n)) ≡ restored h d (i + n)
   unfolding written restored
   homes zero i q = ap (restored h d) (let y : i ≡ i + 0 = omega arith in y)
   homes (suc n) i q =
-      let rest = map (homeExtent r) (interval (suc i) n) in
+      let rest = map (home_extent r) (interval (suc i) n) in
       let l : i < count d = omega (arith, q) in
       ap (λ (y : Extent). written (splice (restored h d i) y.start (part r y.start y.size)) r rest) (named i l)
       ∙ ap (λ (y : List ℕ). written (splice (restored h d i) (512 * home_at (address h d i)) y) r rest) (home-sector i l)
       ∙ homes n (suc i) (omega (arith, q)) ∙ ap (restored h d) (let y : suc i + n ≡ i + suc n = omega arith in y)
 
-  pub written-3 : written d r (homePlaces r (count d)) ≡ replayed d
+  pub written-3 : written d r (home_places r (count d)) ≡ replayed d
   unfolding restored
   written-3 = homes (count d) 0 (omega arith) ∙ ap (restored h d) (let y : 0 + count d ≡ count d = omega arith in y) ∙ sym (replayed-is v)

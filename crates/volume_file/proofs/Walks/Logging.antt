@@ -12,16 +12,16 @@ use lib.Seq.{take-append-le, drop-append-le, drop-append-add}
 use borrow.Author.Tests.{eqb-true, not-true}
 use Rattle.layout.specs.Bytes.{bytes4, part, block, splice}
 use Rattle.layout.specs.Lists.{interval, select, joined}
-use Rattle.layout.proofs.Laws.Tests.{firstOf-refused, firstOf-zero, require-zero, accept-refused}
+use Rattle.layout.proofs.Laws.Tests.{first_of-refused, first_of-zero, require-zero, accept-refused}
 use Rattle.layout.proofs.Laws.Lists.{interval-from, select_in, select-split}
 use Rattle.layout.proofs.Laws.Bytes.{length-splice, length-block, length-bytes4, length-joined4, splice-append, splice-nil}
 use Rattle.layout.proofs.Laws.Splices.{splice-commutes}
 use Rattle.layout.proofs.Laws.Files.{length-blocks}
-use Rattle.volume_file.specs.Format.{imageSectors, journalSectors, ownSectors, homeSectors, home_at, saved_at, addressAt, fileSectors, countAt, waits, logCount, headRefusal, logRefusal, fileRefusal}
-use Rattle.volume_file.specs.Save.{homeWith, flagged, differs, changes, filled, prepared, lengthsRefusal, prepareRefusal, afterPrepare, commitRefusal, afterCommit}
+use Rattle.volume_file.specs.Format.{image_sectors_of, journal_sectors_of, own_sectors_of, home_sectors, home_at, saved_at, address_at, file_sectors, count_at, waits, log_count, head_refusal, log_refusal, file_refusal}
+use Rattle.volume_file.specs.Save.{home_with, flagged, differs, changes, filled, prepared, lengths_refusal, prepare_refusal, after_prepare, commit_refusal, after_commit}
 use Rattle.volume_file.specs.Cuts.{Quiet}
 use Rattle.volume_file.specs.Walks.Sectors.{WholeSectors}
-use Rattle.volume_file.specs.Answers.{PrepareAnswer, prepareAnswered, logPlaces, prepareAnswer}
+use Rattle.volume_file.specs.Answers.{PrepareAnswer, prepare_answered, log_places, prepare_answer}
 use Rattle.volume_file.proofs.Laws.Sectors.{sector-beside}
 use Rattle.volume_file.proofs.Laws.Facts.{VolumeFile, head-facts, file-facts, small}
 
@@ -42,13 +42,13 @@ own-right x y z n m i e f h = pair-right y z m (i - n) f (omega arith) ∙ pair-
 pub middle-right : (x y z : List ℕ) (n i : ℕ) → length x ≡ 512 * n → n ≤ i → 512 * (i - n) + 512 ≤ length y → block y (i - n) ≡ block (x ++ (y ++ z)) i
 middle-right x y z n i e h l = pair_left y z (i - n) l ∙ pair-right x (y ++ z) n i e h
 
-pub together-long : (image journal own : List ℕ) (h : ℕ) → WholeSectors image journal own h → length (homeWith image journal own) ≡ 512 * h
+pub together-long : (image journal own : List ℕ) (h : ℕ) → WholeSectors image journal own h → length (home_with image journal own) ≡ 512 * h
 together-long image journal own h p =
     length-append image (journal ++ own) ∙ ap (λ (k : ℕ). length image + k) (length-append journal own) ∙ p.all-long
 
 -- the log from its k-th sector on, written onto t
 abbrev logged : ℕ → List ℕ → List ℕ → ℕ → List ℕ → List ℕ
-logged h new t k xs = splice (splice t (addressAt h k) (joined bytes4 xs)) (512 * saved_at h k) (joined (block new) xs)
+logged h new t k xs = splice (splice t (address_at h k) (joined bytes4 xs)) (512 * saved_at h k) (joined (block new) xs)
 
 abbrev left : List ℕ → List ℕ → ℕ → ℕ → List ℕ
 left d new h i = select (differs d new) (interval i (h - i))
@@ -73,7 +73,7 @@ log-start d new h = record { within = omega arith; long = refl; home = λ s l. r
 left-few : (d new : List ℕ) (h : ℕ) → length (left d new h 0) ≤ h
 left-few d new h = rw sub-zero (omega (arith, select-split (differs d new) h 0))
 
-module _ (d new : List ℕ) (h : ℕ) (t : List ℕ) (k i : ℕ) (g : Logging d new h t k i) (l : i < h) (size : length d ≡ 512 * fileSectors h)
+module _ (d new : List ℕ) (h : ℕ) (t : List ℕ) (k i : ℕ) (g : Logging d new h t k i) (l : i < h) (size : length d ≡ 512 * file_sectors h)
     (fits : length new ≡ 512 * h) where
   -- the test, on the file as it is
   pub log-test : (r : Bool) → r ≡ differs t new i → r ≡ differs d new i
@@ -94,7 +94,7 @@ module _ (d new : List ℕ) (h : ℕ) (t : List ℕ) (k i : ℕ) (g : Logging d 
   pub log-room : differs d new i ≡ true → k < h
   log-room e = omega (arith, g.place, ap length (left-take d new h i l e), left-few d new h)
 
-  module _ (e : differs d new i ≡ true) (u B : List ℕ) (b : B ≡ block new i) (is : u ≡ splice (splice t (addressAt h k) (bytes4 i)) (512 * saved_at h k) B) where
+  module _ (e : differs d new i ≡ true) (u B : List ℕ) (b : B ≡ block new i) (is : u ≡ splice (splice t (address_at h k) (bytes4 i)) (512 * saved_at h k) B) where
     abbrev r : List ℕ
     r = left d new h (i + 1)
 
@@ -120,13 +120,13 @@ module _ (d new : List ℕ) (h : ℕ) (t : List ℕ) (k i : ℕ) (g : Logging d 
     four = length-bytes4 i
 
     abbrev v : List ℕ
-    v = splice t (addressAt h k) (bytes4 i)
+    v = splice t (address_at h k) (bytes4 i)
 
-    v-fits : addressAt h k + length (bytes4 i) ≤ length t
+    v-fits : address_at h k + length (bytes4 i) ≤ length t
     v-fits = omega (arith, four, g.long, few, size)
 
     v-long : length v ≡ length t
-    v-long = length-splice t (addressAt h k) (bytes4 i) v-fits
+    v-long = length-splice t (address_at h k) (bytes4 i) v-fits
 
     u-fits : 512 * saved_at h k + length (block new i) ≤ length v
     u-fits = omega (arith, v-long, g.long, few, size, B-long)
@@ -136,20 +136,20 @@ module _ (d new : List ℕ) (h : ℕ) (t : List ℕ) (k i : ℕ) (g : Logging d 
 
     whole-next : logged h new t k (i ∷ r) ≡ logged h new u (k + 1) r
     whole-next =
-        let x : addressAt h k + length (bytes4 i) ≡ addressAt h (k + 1) = omega (arith, four) in
+        let x : address_at h k + length (bytes4 i) ≡ address_at h (k + 1) = omega (arith, four) in
         let y : 512 * saved_at h k + length (block new i) ≡ 512 * saved_at h (k + 1) = omega (arith, B-long) in
-        let f : addressAt h (k + 1) + length J ≤ length v = omega (arith, J-long, v-long, g.long, few, size) in
-        let w : List ℕ = splice v (addressAt h (k + 1)) J in
-        let wl : length w ≡ length v = length-splice v (addressAt h (k + 1)) J f in
-        let one : splice t (addressAt h k) (bytes4 i ++ J) ≡ w =
-        sym (rw x at (splice-append t (addressAt h k) (bytes4 i) J (omega (arith, four, J-long, g.long, few, size)))) in
+        let f : address_at h (k + 1) + length J ≤ length v = omega (arith, J-long, v-long, g.long, few, size) in
+        let w : List ℕ = splice v (address_at h (k + 1)) J in
+        let wl : length w ≡ length v = length-splice v (address_at h (k + 1)) J f in
+        let one : splice t (address_at h k) (bytes4 i ++ J) ≡ w =
+        sym (rw x at (splice-append t (address_at h k) (bytes4 i) J (omega (arith, four, J-long, g.long, few, size)))) in
         let two : splice w (512 * saved_at h k) (block new i ++ S) ≡ splice (splice w (512 * saved_at h k) (block new i)) (512 * saved_at h (k + 1)) S =
         sym (rw y at (splice-append w (512 * saved_at h k) (block new i) S (omega (arith, B-long, S-long, wl, v-long, g.long, few, size)))) in
         ap (λ (z : List ℕ). splice z (512 * saved_at h k) (block new i ++ S)) one
         ∙ two
         ∙ ap (λ (z : List ℕ). splice z (512 * saved_at h (k + 1)) S)
-        (splice-commutes v (addressAt h (k + 1)) J (512 * saved_at h k) (block new i) f u-fits (inl (omega (arith, J-long, few)))
-        ∙ ap (λ (z : List ℕ). splice z (addressAt h (k + 1)) J) (sym u-is))
+        (splice-commutes v (address_at h (k + 1)) J (512 * saved_at h k) (block new i) f u-fits (inl (omega (arith, J-long, few)))
+        ∙ ap (λ (z : List ℕ). splice z (address_at h (k + 1)) J) (sym u-is))
 
     pub log-take : Logging d new h u (k + 1) (i + 1)
     log-take =
@@ -159,13 +159,13 @@ module _ (d new : List ℕ) (h : ℕ) (t : List ℕ) (k i : ℕ) (g : Logging d 
           long = ap length u-is ∙ length-splice v (512 * saved_at h k) (block new i) u-fits ∙ v-long ∙ g.long;
           home = λ s m.
               ap (λ (z : List ℕ). block z s) u-is ∙ sector-beside v (512 * saved_at h k) (block new i) s u-fits (inl (omega arith))
-              ∙ sector-beside t (addressAt h k) (bytes4 i) s v-fits (inl (omega arith)) ∙ g.home s m;
+              ∙ sector-beside t (address_at h k) (bytes4 i) s v-fits (inl (omega arith)) ∙ g.home s m;
           place = omega (arith, g.place, ap length q);
           whole = g.whole ∙ ap (logged h new t k) q ∙ whole-next;
         }
 
 -- the end
-module _ (d new : List ℕ) (h : ℕ) (t : List ℕ) (k i : ℕ) (g : Logging d new h t k i) (l : h ≤ i) (hs : h ≡ homeSectors d) where
+module _ (d new : List ℕ) (h : ℕ) (t : List ℕ) (k i : ℕ) (g : Logging d new h t k i) (l : h ≤ i) (hs : h ≡ home_sectors d) where
   changes-is : left d new h 0 ≡ changes d new
   unfolding changes
   changes-is = rw (sub-zero, hs)
@@ -182,23 +182,23 @@ module _ (d new : List ℕ) (h : ℕ) (t : List ℕ) (k i : ℕ) (g : Logging d 
   pub log-end : t ≡ filled d new
   unfolding filled
   log-end =
-      sym (rw (← hs, ← changes-is) (g.whole ∙ ap (logged h new t k) none ∙ splice-nil (splice t (addressAt h k) []) (512 * saved_at h k) ∙ splice-nil t (addressAt h k)))
+      sym (rw (← hs, ← changes-is) (g.whole ∙ ap (logged h new t k) none ∙ splice-nil (splice t (address_at h k) []) (512 * saved_at h k) ∙ splice-nil t (address_at h k)))
 
 -- what is given where nothing is refused
 pub record Prepares (d image journal own : List ℕ) : Type 0 where
   pub quiet : Quiet d
-  pub image-long : length image ≡ 512 * imageSectors (block d 0)
-  pub journal-long : length journal ≡ 512 * journalSectors (block d 0)
-  pub own-long : length own ≡ 512 * ownSectors (block d 0)
+  pub image-long : length image ≡ 512 * image_sectors_of (block d 0)
+  pub journal-long : length journal ≡ 512 * journal_sectors_of (block d 0)
+  pub own-long : length own ≡ 512 * own_sectors_of (block d 0)
 
-pub prepares : (d image journal own : List ℕ) → prepareRefusal d image journal own ≡ 0 → Prepares d image journal own
-unfolding prepareRefusal lengthsRefusal
+pub prepares : (d image journal own : List ℕ) → prepare_refusal d image journal own ≡ 0 → Prepares d image journal own
+unfolding prepare_refusal lengths_refusal
 prepares d image journal own e =
-    let a = firstOf-zero (fileRefusal d) _ e in
+    let a = first_of-zero (file_refusal d) _ e in
     let b = require-zero (not (waits d)) 5 _ a.1 in
-    let f = require-zero (eqb (length image) (512 * imageSectors (block d 0))) 6 _ b.1 in
-    let g = require-zero (eqb (length journal) (512 * journalSectors (block d 0))) 7 _ f.1 in
-    let i = require-zero (eqb (length own) (512 * ownSectors (block d 0))) 8 0 g.1 in
+    let f = require-zero (eqb (length image) (512 * image_sectors_of (block d 0))) 6 _ b.1 in
+    let g = require-zero (eqb (length journal) (512 * journal_sectors_of (block d 0))) 7 _ f.1 in
+    let i = require-zero (eqb (length own) (512 * own_sectors_of (block d 0))) 8 0 g.1 in
     record {
       quiet = record { ok = a.0; none = not-true _ b.0 };
       image-long = eqb-true _ _ f.0;
@@ -206,28 +206,28 @@ prepares d image journal own e =
       own-long = eqb-true _ _ i.0;
     }
 
-pub all-together : (d image journal own : List ℕ) → Prepares d image journal own → length image + (length journal + length own) ≡ 512 * homeSectors d
-unfolding homeSectors
+pub all-together : (d image journal own : List ℕ) → Prepares d image journal own → length image + (length journal + length own) ≡ 512 * home_sectors d
+unfolding home_sectors
 all-together d image journal own p = omega (arith, p.image-long, p.journal-long, p.own-long)
 
 -- the log of a save that is accepted
 pub record Fill (d image journal own : List ℕ) (h : ℕ) : Type 0 where
   pub whole : WholeSectors image journal own h
-  pub size : length d ≡ 512 * fileSectors h
+  pub size : length d ≡ 512 * file_sectors h
   pub few : h ≤ 196736
-  pub is : h ≡ homeSectors d
+  pub is : h ≡ home_sectors d
 
-module _ (d image journal own : List ℕ) (number h : ℕ) (is : number ≡ prepareRefusal d image journal own) (z : number ≡ 0) where
+module _ (d image journal own : List ℕ) (number h : ℕ) (is : number ≡ prepare_refusal d image journal own) (z : number ≡ 0) where
   given : Prepares d image journal own
   given = prepares d image journal own (sym is ∙ z)
 
-  facts : VolumeFile (homeSectors d) d
+  facts : VolumeFile (home_sectors d) d
   facts = file-facts d given.quiet.ok
 
   pub prepare-long : 512 ≤ length d
   prepare-long = omega (arith, facts.size)
 
-  pub prepare-fill : h ≡ homeSectors d → Fill d image journal own h
+  pub prepare-fill : h ≡ home_sectors d → Fill d image journal own h
   prepare-fill e = rw e (record {
     whole = record {
       image-long = omega (arith, given.image-long);
@@ -239,58 +239,58 @@ module _ (d image journal own : List ℕ) (number h : ℕ) (is : number ≡ prep
     is = refl;
   })
 
-  pub prepare-room : h ≡ homeSectors d → countAt h + 4 ≤ length d
+  pub prepare-room : h ≡ home_sectors d → count_at h + 4 ≤ length d
   prepare-room e = omega (arith, facts.size, e)
 
-  pub prepare-answered : h ≡ homeSectors d → (k : ℕ) → k ≡ length (changes d (homeWith image journal own)) → (a : PrepareAnswer) → a ≡ logPlaces h k
-      → a ≡ prepareAnswer d image journal own
-  unfolding prepareAnswer
+  pub prepare-answered : h ≡ home_sectors d → (k : ℕ) → k ≡ length (changes d (home_with image journal own)) → (a : PrepareAnswer) → a ≡ log_places h k
+      → a ≡ prepare_answer d image journal own
+  unfolding prepare_answer
   prepare-answered hs k e a q = q ∙ rw (← is, z, hs, e)
 
-  pub prepare-done : h ≡ homeSectors d → (k : ℕ) → k ≡ length (changes d (homeWith image journal own)) → (t u : List ℕ) → t ≡ filled d (homeWith image journal own)
-      → u ≡ splice t (countAt h) (bytes4 k) → u ≡ afterPrepare d image journal own
-  unfolding prepared afterPrepare
+  pub prepare-done : h ≡ home_sectors d → (k : ℕ) → k ≡ length (changes d (home_with image journal own)) → (t u : List ℕ) → t ≡ filled d (home_with image journal own)
+      → u ≡ splice t (count_at h) (bytes4 k) → u ≡ after_prepare d image journal own
+  unfolding prepared after_prepare
   prepare-done hs k e t u f g = rw (← is, z, ← hs, ← e, ← f, g)
 
 -- a refusal: its number, and nothing changes
-module _ (d image journal own : List ℕ) (number : ℕ) (is : number ≡ prepareRefusal d image journal own) (some : number ≢ 0) where
-  pub prepare-refused : prepareAnswered number 0 0 0 0 0 ≡ prepareAnswer d image journal own
-  unfolding prepareAnswer
-  prepare-refused = rw (← is) (sym (accept-refused number _ (prepareAnswered number 0 0 0 0 0) some))
+module _ (d image journal own : List ℕ) (number : ℕ) (is : number ≡ prepare_refusal d image journal own) (some : number ≢ 0) where
+  pub prepare-refused : prepare_answered number 0 0 0 0 0 ≡ prepare_answer d image journal own
+  unfolding prepare_answer
+  prepare-refused = rw (← is) (sym (accept-refused number _ (prepare_answered number 0 0 0 0 0) some))
 
-  pub prepare-kept : d ≡ afterPrepare d image journal own
-  unfolding afterPrepare
-  prepare-kept = rw (← is) (sym (accept-refused number (prepared d (homeWith image journal own)) d some))
+  pub prepare-kept : d ≡ after_prepare d image journal own
+  unfolding after_prepare
+  prepare-kept = rw (← is) (sym (accept-refused number (prepared d (home_with image journal own)) d some))
 
 -- the commit
-module _ (d : List ℕ) (number : ℕ) (is : number ≡ headRefusal d) where
-  pub commit-head : number ≢ 0 → number ≡ commitRefusal d
-  unfolding commitRefusal
-  commit-head some = sym (rw (← is) (firstOf-refused number _ some))
+module _ (d : List ℕ) (number : ℕ) (is : number ≡ head_refusal d) where
+  pub commit-head : number ≢ 0 → number ≡ commit_refusal d
+  unfolding commit_refusal
+  commit-head some = sym (rw (← is) (first_of-refused number _ some))
 
-  module _ (z : number ≡ 0) (k wrong : ℕ) (ks : k ≡ logCount d) (ws : wrong ≡ logRefusal d k) where
-    pub commit-log : wrong ≢ 0 → wrong ≡ commitRefusal d
-    unfolding commitRefusal
-    commit-log some = sym (rw (← is, z, ← ks, ← ws) (firstOf-refused wrong _ some))
+  module _ (z : number ≡ 0) (k wrong : ℕ) (ks : k ≡ log_count d) (ws : wrong ≡ log_refusal d k) where
+    pub commit-log : wrong ≢ 0 → wrong ≡ commit_refusal d
+    unfolding commit_refusal
+    commit-log some = sym (rw (← is, z, ← ks, ← ws) (first_of-refused wrong _ some))
 
     module _ (y : wrong ≡ 0) where
-      pub commit-waits : waits d ≡ true → 6 ≡ commitRefusal d
-      unfolding commitRefusal
+      pub commit-waits : waits d ≡ true → 6 ≡ commit_refusal d
+      unfolding commit_refusal
       commit-waits w = rw (← is, z, ← ks, ← ws, y, w)
 
-      pub commit-ok : waits d ≡ false → 0 ≡ commitRefusal d
-      unfolding commitRefusal
+      pub commit-ok : waits d ≡ false → 0 ≡ commit_refusal d
+      unfolding commit_refusal
       commit-ok w = rw (← is, z, ← ks, ← ws, y, w)
 
-module _ (d : List ℕ) (number : ℕ) (is : number ≡ commitRefusal d) where
-  pub commit-kept : number ≢ 0 → d ≡ afterCommit d
-  unfolding afterCommit
+module _ (d : List ℕ) (number : ℕ) (is : number ≡ commit_refusal d) where
+  pub commit-kept : number ≢ 0 → d ≡ after_commit d
+  unfolding after_commit
   commit-kept some = rw (← is) (sym (accept-refused number (flagged d 1) d some))
 
-  pub commit-done : number ≡ 0 → (u : List ℕ) → u ≡ flagged d 1 → u ≡ afterCommit d
-  unfolding afterCommit
+  pub commit-done : number ≡ 0 → (u : List ℕ) → u ≡ flagged d 1 → u ≡ after_commit d
+  unfolding after_commit
   commit-done z u e = rw (← is, z, e)
 
   pub commit-long : number ≡ 0 → 1024 ≤ length d
-  unfolding commitRefusal
-  commit-long z = let a = firstOf-zero (headRefusal d) _ (sym is ∙ z) in omega (arith, (head-facts d a.0).size)
+  unfolding commit_refusal
+  commit-long z = let a = first_of-zero (head_refusal d) _ (sym is ∙ z) in omega (arith, (head-facts d a.0).size)

@@ -11,11 +11,11 @@ use lib.ListN.{length, get_or, set, take, drop, replicate, length-drop, length-s
 use lib.Seq.{take-suc, get_or-drop, length-take-le}
 use borrow.Author.Tests.{not-true, not-false, lt-ltb, le-ltb, lt-leb, le-leb}
 use Rattle.layout.specs.Bytes.{zeros, part, block, splice}
-use Rattle.layout.proofs.Laws.Tests.{accept-refused, firstOf-refused}
-use Rattle.layout.proofs.Laws.Bytes.{length-splice, length-zeros, getD-splice-after, splice-append, splice-nil, splice-cons, lent-zeros}
-use Rattle.volume_file.specs.Format.{headerOk, homeSectors, home_at, saved_at, fileSectors, address, waits, logCount, count, rising, headRefusal, logRefusal, fileRefusal}
-use Rattle.volume_file.specs.Save.{flagged, restored, replayed, recovered, afterRecover}
-use Rattle.volume_file.specs.Answers.{recoverAnswered, recoverAnswer}
+use Rattle.layout.proofs.Laws.Tests.{accept-refused, first_of-refused}
+use Rattle.layout.proofs.Laws.Bytes.{length-splice, length-zeros, get_d-splice-after, splice-append, splice-nil, splice-cons, lent-zeros}
+use Rattle.volume_file.specs.Format.{header_ok, home_sectors, home_at, saved_at, file_sectors, address, waits, log_count, count, rising, head_refusal, log_refusal, file_refusal}
+use Rattle.volume_file.specs.Save.{flagged, restored, replayed, recovered, after_recover}
+use Rattle.volume_file.specs.Answers.{recover_answered, recover_answer}
 use Rattle.volume_file.proofs.Laws.Restored.{Rising, rising-split, rising-join, rising-fewer, same_address, restored-length, restored-out}
 use Rattle.volume_file.proofs.Laws.Facts.{VolumeFile, Head, head-facts, header-small, file-facts, small, count_none}
 use Rattle.volume_file.proofs.Laws.Recovery.{recovered-none, recovered-waits}
@@ -49,7 +49,7 @@ copy_step d from to i h g l t e =
     let lp : length p ≡ i = length-take-le i (drop from d) (omega (arith, length-drop from d)) in
     let f : to + length p ≤ length d = omega arith in
     let ls : length (splice d to p) ≡ length d = length-splice d to p f in
-    let r : get_or (splice d to p) (from + i) 0 ≡ get_or (drop from d) i 0 = getD-splice-after d to p f (from + i) (omega arith) ∙ sym (get_or-drop from d i 0) in
+    let r : get_or (splice d to p) (from + i) 0 ≡ get_or (drop from d) i 0 = get_d-splice-after d to p f (from + i) (omega arith) ∙ sym (get_or-drop from d i 0) in
     let q : to + i ≡ to + length p = omega arith in
     rw (e, r, q) (set-splice (splice d to p) (to + length p) (get_or (drop from d) i 0) (omega arith)
     ∙ splice-append d to p (get_or (drop from d) i 0 ∷ []) (omega arith)
@@ -68,50 +68,50 @@ flagged-made d t ys b n l e y m =
 pub waiting_none : (d : List ℕ) → waits d ≡ false → 0 ≡ count d
 waiting_none d e = sym (count_none d e)
 
-pub waiting-some : (d : List ℕ) (r : ℕ) → waits d ≡ true → r ≡ logCount d → r ≡ count d
+pub waiting-some : (d : List ℕ) (r : ℕ) → waits d ≡ true → r ≡ log_count d → r ≡ count d
 unfolding count
 waiting-some d r e q = q ∙ rw e
 
 -- the tests of header and length, in order
 module _ (d : List ℕ) where
-  pub refused-short : length d < 1024 → headRefusal d ≡ 1
-  unfolding headRefusal
+  pub refused-short : length d < 1024 → head_refusal d ≡ 1
+  unfolding head_refusal
   refused-short l = rw (lt-leb 1024 (length d) l)
 
   module _ (long : 1024 ≤ length d) where
-    pub refused-header : headerOk (block d 0) ≡ false → headRefusal d ≡ 2
-    unfolding headRefusal
+    pub refused-header : header_ok (block d 0) ≡ false → head_refusal d ≡ 2
+    unfolding head_refusal
     refused-header e = rw (le-leb 1024 (length d) long, e)
 
-    module _ (head : headerOk (block d 0) ≡ true) where
-      pub refused-length : eqb (length d) (512 * fileSectors (homeSectors d)) ≡ false → headRefusal d ≡ 3
-      unfolding headRefusal
+    module _ (head : header_ok (block d 0) ≡ true) where
+      pub refused-length : eqb (length d) (512 * file_sectors (home_sectors d)) ≡ false → head_refusal d ≡ 3
+      unfolding head_refusal
       refused-length e = rw (le-leb 1024 (length d) long, head, e)
 
-      pub accepted-head : eqb (length d) (512 * fileSectors (homeSectors d)) ≡ true → headRefusal d ≡ 0
-      unfolding headRefusal
+      pub accepted-head : eqb (length d) (512 * file_sectors (home_sectors d)) ≡ true → head_refusal d ≡ 0
+      unfolding head_refusal
       accepted-head e = rw (le-leb 1024 (length d) long, head, e)
 
 -- those of a log
-module _ (d : List ℕ) (h k : ℕ) (hs : h ≡ homeSectors d) where
-  pub refused-count : h < k → logRefusal d k ≡ 4
-  unfolding logRefusal
+module _ (d : List ℕ) (h k : ℕ) (hs : h ≡ home_sectors d) where
+  pub refused-count : h < k → log_refusal d k ≡ 4
+  unfolding log_refusal
   refused-count l = rw (← hs, lt-leb k h l)
 
   module _ (few : k ≤ h) where
-    pub refused-addresses : rising h d h k ≡ false → logRefusal d k ≡ 5
-    unfolding logRefusal
+    pub refused-addresses : rising h d h k ≡ false → log_refusal d k ≡ 5
+    unfolding log_refusal
     refused-addresses e = rw (← hs, le-leb k h few, e)
 
-    pub accepted-log : rising h d h k ≡ true → logRefusal d k ≡ 0
-    unfolding logRefusal
+    pub accepted-log : rising h d h k ≡ true → log_refusal d k ≡ 0
+    unfolding log_refusal
     accepted-log e = rw (← hs, le-leb k h few, e)
 
 -- and of a file: the first of both
-module _ (d : List ℕ) (number : ℕ) (is : number ≡ headRefusal d) where
-  pub file-refused : number ≢ 0 → number ≡ fileRefusal d
-  unfolding fileRefusal
-  file-refused some = sym (rw (← is) (firstOf-refused number (logRefusal d (count d)) some))
+module _ (d : List ℕ) (number : ℕ) (is : number ≡ head_refusal d) where
+  pub file-refused : number ≢ 0 → number ≡ file_refusal d
+  unfolding file_refusal
+  file-refused some = sym (rw (← is) (first_of-refused number (log_refusal d (count d)) some))
 
   module _ (z : number ≡ 0) where
     head-given : Head d
@@ -120,11 +120,11 @@ module _ (d : List ℕ) (number : ℕ) (is : number ≡ headRefusal d) where
     pub head-long : 1024 ≤ length d
     head-long = omega (arith, head-given.size)
 
-    pub head-sized : (h : ℕ) → h ≡ homeSectors d → (h ≤ 196736) × (length d ≡ 512 * fileSectors h) × (h ≡ homeSectors d)
+    pub head-sized : (h : ℕ) → h ≡ home_sectors d → (h ≤ 196736) × (length d ≡ 512 * file_sectors h) × (h ≡ home_sectors d)
     head-sized h hs = rw hs (header-small d head-given.header, head-given.size, refl)
 
-    pub file-rest : (k r : ℕ) → k ≡ count d → r ≡ logRefusal d k → r ≡ fileRefusal d
-    unfolding fileRefusal
+    pub file-rest : (k r : ℕ) → k ≡ count d → r ≡ log_refusal d k → r ≡ file_refusal d
+    unfolding file_refusal
     file-rest k r ks e = e ∙ rw (← is, z, ks)
 
 -- a test that was met, or not, and what it says
@@ -135,7 +135,7 @@ pub test-false : (r t : Bool) → not r ≡ true → r ≡ t → t ≡ false
 test-false r t e q = sym q ∙ not-true r e
 
 -- sectors of the log written to their home, one by one
-module _ (h : ℕ) (d : List ℕ) (k : ℕ) (few : k ≤ h) (size : length d ≡ 512 * fileSectors h) (ok : rising h d h k ≡ true) (j : ℕ) (t : List ℕ) (e : t ≡ restored h d j) where
+module _ (h : ℕ) (d : List ℕ) (k : ℕ) (few : k ≤ h) (size : length d ≡ 512 * file_sectors h) (ok : rising h d h k ≡ true) (j : ℕ) (t : List ℕ) (e : t ≡ restored h d j) where
   rise : j ≤ k → Rising h d h j
   rise l = rising-fewer h d h k j l (rising-split h d h k ok)
 
@@ -158,48 +158,48 @@ module _ (h : ℕ) (d : List ℕ) (k : ℕ) (few : k ≤ h) (size : length d ≡
       q ∙ rw (a, b, e, add-one j)
 
 -- recovery
-pub file-long : (d : List ℕ) → fileRefusal d ≡ 0 → 1024 ≤ length d
+pub file-long : (d : List ℕ) → file_refusal d ≡ 0 → 1024 ≤ length d
 file-long d e = omega (arith, (file-facts d e).size)
 
 pub record Ready (d : List ℕ) (h k : ℕ) : Type 0 where
   pub small : h ≤ 196736
   pub few : k ≤ h
-  pub size : length d ≡ 512 * fileSectors h
+  pub size : length d ≡ 512 * file_sectors h
   pub rise : rising h d h k ≡ true
 
-module _ (d : List ℕ) (number : ℕ) (is : number ≡ fileRefusal d) (z : number ≡ 0) where
-  facts : VolumeFile (homeSectors d) d
+module _ (d : List ℕ) (number : ℕ) (is : number ≡ file_refusal d) (z : number ≡ 0) where
+  facts : VolumeFile (home_sectors d) d
   facts = file-facts d (sym is ∙ z)
 
-  pub nothing-answered : waits d ≡ false → recoverAnswered 0 0 0 ≡ recoverAnswer d
-  unfolding recoverAnswer
+  pub nothing-answered : waits d ≡ false → recover_answered 0 0 0 ≡ recover_answer d
+  unfolding recover_answer
   nothing-answered w = rw (← is, z, w)
 
-  pub nothing-done : waits d ≡ false → d ≡ afterRecover d
-  unfolding afterRecover
+  pub nothing-done : waits d ≡ false → d ≡ after_recover d
+  unfolding after_recover
   nothing-done w = rw (← is, z) (sym (recovered-none d w))
 
-  pub ready-size : (h : ℕ) → h ≡ homeSectors d → (h ≤ 196736) × (length d ≡ 512 * fileSectors h) × (h ≡ homeSectors d)
+  pub ready-size : (h : ℕ) → h ≡ home_sectors d → (h ≤ 196736) × (length d ≡ 512 * file_sectors h) × (h ≡ home_sectors d)
   ready-size h hs = rw hs (small facts, facts.size, refl)
 
-  module _ (h k : ℕ) (w : waits d ≡ true) (hs : h ≡ homeSectors d) (ks : k ≡ count d) where
+  module _ (h k : ℕ) (w : waits d ≡ true) (hs : h ≡ home_sectors d) (ks : k ≡ count d) where
     pub ready : Ready d h k
     ready = rw (hs, ks) (record { small = small facts; few = facts.few; size = facts.size; rise = rising-join _ d _ _ facts.rise })
 
-    pub recover-done : (t u : List ℕ) → t ≡ restored h d k → u ≡ flagged t 0 → u ≡ afterRecover d
-    unfolding replayed afterRecover
+    pub recover-done : (t u : List ℕ) → t ≡ restored h d k → u ≡ flagged t 0 → u ≡ after_recover d
+    unfolding replayed after_recover
     recover-done t u et eu = rw (← is, z) (eu ∙ ap (λ (x : List ℕ). flagged x 0) (et ∙ rw (hs, ks)) ∙ sym (recovered-waits d w))
 
-    pub recover-answered : recoverAnswered 0 1 k ≡ recoverAnswer d
-    unfolding recoverAnswer
+    pub recover-answered : recover_answered 0 1 k ≡ recover_answer d
+    unfolding recover_answer
     recover-answered = rw (← is, z, w, ks)
 
 -- a refusal: its number, and nothing changes
-module _ (d : List ℕ) (number : ℕ) (is : number ≡ fileRefusal d) (some : number ≢ 0) where
-  pub recover-refused : recoverAnswered number 0 0 ≡ recoverAnswer d
-  unfolding recoverAnswer
-  recover-refused = rw (← is) (sym (accept-refused number _ (recoverAnswered number 0 0) some))
+module _ (d : List ℕ) (number : ℕ) (is : number ≡ file_refusal d) (some : number ≢ 0) where
+  pub recover-refused : recover_answered number 0 0 ≡ recover_answer d
+  unfolding recover_answer
+  recover-refused = rw (← is) (sym (accept-refused number _ (recover_answered number 0 0) some))
 
-  pub recover-kept : d ≡ afterRecover d
-  unfolding afterRecover
+  pub recover-kept : d ≡ after_recover d
+  unfolding after_recover
   recover-kept = rw (← is) (sym (accept-refused number (recovered d) d some))

@@ -8,27 +8,27 @@ use borrow.Author.Tests.{le-leb, lt-leb, leb-true}
 use lib.Dec.{leb}
 use lib.ListN.{length}
 use Rattle.layout.specs.Bytes.{be32}
-use Rattle.journal.specs.Journal.{recordsFrom}
+use Rattle.journal.specs.Journal.{records_from}
 use Rattle.journal.proofs.Laws.RecordWalk.{records-none, records-more}
 use Rattle.layout.proofs.Laws.Tests.{and_split}
-use Rattle.write_list.specs.List.{itemSize, pathLength, itemOk, items}
+use Rattle.write_list.specs.List.{item_size, path_length, item_ok, items}
 
 -- an item of the form, and ways to miss it
 module _ (l : List ℕ) (at : ℕ) where
   pub record Item : Type 0 where
-    pub ends : at + itemSize l at ≤ length l
-    pub room : 18 + pathLength l at ≤ itemSize l at
+    pub ends : at + item_size l at ≤ length l
+    pub room : 18 + path_length l at ≤ item_size l at
 
-  pub item : itemOk l at ≡ true → Item
-  unfolding itemOk
-  item t = let a = and_split (leb (at + itemSize l at) (length l)) _ t in record { ends = leb-true _ _ a.0; room = leb-true _ _ a.1 }
+  pub item : item_ok l at ≡ true → Item
+  unfolding item_ok
+  item t = let a = and_split (leb (at + item_size l at) (length l)) _ t in record { ends = leb-true _ _ a.0; room = leb-true _ _ a.1 }
 
-  pub item-rest : at + itemSize l at ≤ length l → itemOk l at ≡ leb (18 + pathLength l at) (itemSize l at)
-  unfolding itemOk
+  pub item-rest : at + item_size l at ≤ length l → item_ok l at ≡ leb (18 + path_length l at) (item_size l at)
+  unfolding item_ok
   item-rest h = rw (le-leb _ _ h)
 
-  pub item-cut : length l < at + itemSize l at → itemOk l at ≡ false
-  unfolding itemOk
+  pub item-cut : length l < at + item_size l at → item_ok l at ≡ false
+  unfolding item_ok
   item-cut h = rw (lt-leb _ _ h)
 
 -- what is left of a list from an offset on tells whether all items are right, and gives the writes that are left
@@ -38,7 +38,7 @@ pub record Ahead (l : List ℕ) (at : ℕ) : Type 0 where
   pub inside : at ≤ length l
 
 abbrev pub left : (l : List ℕ) {at : ℕ} → Ahead l at → List ℕ
-left l {at} a = recordsFrom (be32 l) (length l) at a.fuel
+left l {at} a = records_from (be32 l) (length l) at a.fuel
 
 module _ (l : List ℕ) where
   pub ahead-start : 5 ≤ length l → Ahead l 5
@@ -60,5 +60,5 @@ module _ (l : List ℕ) where
       unfolding ahead-next
       left-next i = records-more (be32 l) (length l) at a.fuel h (omega (arith, a.enough))
 
-      pub left-first : left l a ≡ at ∷ recordsFrom (be32 l) (length l) (at + be32 l at) (a.fuel - 1)
+      pub left-first : left l a ≡ at ∷ records_from (be32 l) (length l) (at + be32 l at) (a.fuel - 1)
       left-first = records-more (be32 l) (length l) at a.fuel h (omega (arith, a.enough))

@@ -1,4 +1,4 @@
-use Rattle.chain_table.specs.Numbers.{freedIn}
+use Rattle.chain_table.specs.Numbers.{freed_in}
 use borrow.Author.Rules.{rules}
 use Rattle.chain_table.proofs.changes.free.Statement.{statement}
 use Rattle.chain_table.proofs.changes.free.Tie as tie
@@ -10,7 +10,7 @@ same_length : tie.Need-same-length
 same_length c = search rules
 
 returns : tie.Need-returns
-unfolding freedIn
+unfolding freed_in
 returns c = c.before.before.set.ensures
 
 pub free_spec : {M : Type 1} → statement M

@@ -1,5 +1,5 @@
 use mathlib.Core.Path.{◌∙◌}
-use Rattle.chain_table.specs.Numbers.{takenIn}
+use Rattle.chain_table.specs.Numbers.{taken_in}
 use borrow.Author.Rules.{rules}
 use Rattle.chain_table.proofs.changes.take.Statement.{statement}
 use Rattle.chain_table.proofs.changes.take.Tie as tie
@@ -14,7 +14,7 @@ same_length : tie.Need-same-length
 same_length c = search rules
 
 returns : tie.Need-returns
-unfolding takenIn
+unfolding taken_in
 returns c = c.before.before.link.ensures ∙ rw c.before.before.before.before.before.before.set.ensures
 
 pub take_spec : {M : Type 1} → statement M

@@ -4,7 +4,7 @@ use native.Mathlib.Numerals.{add-one}
 use native.Mathlib.Omega.{arith}
 use lib.ListN.{length, length-set}
 use Rattle.layout.proofs.Laws.Chains.{nth, nth-suc}
-use Rattle.chain_table.specs.Numbers.{valueIn}
+use Rattle.chain_table.specs.Numbers.{value_in}
 use Rattle.chain_table.proofs.Laws.Turns.{fill_more}
 use Rattle.chain_table.proofs.Laws.Numbers.{entries-are, chain-entries}
 use borrow.Author.Rules.{rules}
@@ -12,7 +12,7 @@ use Rattle.chain_table.proofs.questions.chain.Statement.{statement}
 use Rattle.chain_table.proofs.questions.chain.Tie as tie
 
 abbrev invariant-loop : tie.invariant-loop
-invariant-loop numbers first blocks₀ b₀ i₀ i-end blocks b i = (i ≤ i-end) × (i-end ≡ length blocks₀) × (length blocks ≡ length blocks₀) × (b ≡ nth (valueIn numbers) i first) × (b < 0x100000000) × ((x : ℕ) → x < i → valueIn blocks x ≡ nth (valueIn numbers) x first)
+invariant-loop numbers first blocks₀ b₀ i₀ i-end blocks b i = (i ≤ i-end) × (i-end ≡ length blocks₀) × (length blocks ≡ length blocks₀) × (b ≡ nth (value_in numbers) i first) × (b < 0x100000000) × ((x : ℕ) → x < i → value_in blocks x ≡ nth (value_in numbers) x first)
 
 abbrev decreases-loop : tie.decreases-loop
 decreases-loop numbers first blocks₀ b₀ i₀ i-end blocks b i = i-end - i
@@ -41,7 +41,7 @@ loop-less c = omega arith
 loop-again : tie.Need-loop-preserved invariant-loop decreases-loop
 loop-again c =
     let l = c.before.before.loop in
-    let v = valueIn c.before.before.before.before.before.args.numbers.now in
+    let v = value_in c.before.before.before.before.before.args.numbers.now in
     (omega arith, refl, simp length-set l.invariant.2, c.value.ensures ∙ ap v l.invariant.3 ∙ sym (nth-suc v l.i _) ∙ rw add-one, omega (arith, c.value.ensures, c.before.before.before.before.shared-slice-known.given l.b), fill_more (λ (x : ℕ). nth v x c.before.before.before.before.before.args.first) l.blocks l.i _ (omega arith) l.invariant.5 l.invariant.3)
 
 same_length : tie.Need-same-length invariant-loop decreases-loop

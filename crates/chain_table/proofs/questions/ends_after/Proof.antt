@@ -2,14 +2,14 @@ use Prim.Native.Nat.{◌+◌, ◌/◌}
 use mathlib.Core.Path.{◌≡◌, refl, sym, ◌∙◌}
 use native.Mathlib.Omega.{arith}
 use lib.ListN.{length}
-use Rattle.layout.specs.Table.{endsAfter}
-use Rattle.chain_table.specs.Numbers.{valueIn}
+use Rattle.layout.specs.Table.{ends_after}
+use Rattle.chain_table.specs.Numbers.{value_in}
 use Rattle.layout.proofs.Walks.Chains.{ends-none, ends_next, ends_low, ends-high}
 use Rattle.chain_table.proofs.questions.ends_after.Statement.{statement}
 use Rattle.chain_table.proofs.questions.ends_after.Tie as tie
 
 abbrev invariant-loop : tie.invariant-loop
-invariant-loop numbers first k n t b₀ left₀ b left = (n ≡ length numbers) × (t ≡ (n + 127) / 128) × (endsAfter (valueIn numbers) n first k ≡ endsAfter (valueIn numbers) n b left)
+invariant-loop numbers first k n t b₀ left₀ b left = (n ≡ length numbers) × (t ≡ (n + 127) / 128) × (ends_after (value_in numbers) n first k ≡ ends_after (value_in numbers) n b left)
 
 abbrev decreases-loop : tie.decreases-loop
 decreases-loop numbers first k n t b₀ left₀ b left = left

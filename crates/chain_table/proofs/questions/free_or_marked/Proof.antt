@@ -1,6 +1,6 @@
 use mathlib.Core.Path.{sym, ◌∙◌}
 use lib.ListN.{get_or}
-use Rattle.chain_table.proofs.Laws.Turns.{free_or, marked-or}
+use Rattle.chain_table.proofs.Laws.Turns.{free-or, marked-or}
 use borrow.Author.Rules.{rules}
 use Rattle.chain_table.proofs.questions.free_or_marked.Statement.{statement}
 use Rattle.chain_table.proofs.questions.free_or_marked.Tie as tie
@@ -9,7 +9,7 @@ value-requires : tie.Need-value-requires
 value-requires c κs = search rules
 
 returns : tie.Need-returns
-returns c = sym (free_or _ (get_or c.before.before.before.before.args.marks.now c.before.before.before.before.args.b 0) (sym c.before.value.ensures ∙ c.if1.true))
+returns c = sym (free-or _ (get_or c.before.before.before.before.args.marks.now c.before.before.before.before.args.b 0) (sym c.before.value.ensures ∙ c.if1.true))
 
 is-marked-requires : tie.Need-is-marked-requires
 is-marked-requires c κs = search rules

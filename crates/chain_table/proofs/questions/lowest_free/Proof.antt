@@ -2,14 +2,14 @@ use Prim.Native.Nat.{◌-◌}
 use mathlib.Core.Path.{◌≡◌, refl, sym, ◌∙◌}
 use native.Mathlib.Omega.{arith}
 use lib.ListN.{length}
-use Rattle.volume.specs.Search.{lowestFree}
-use Rattle.chain_table.specs.Numbers.{valueIn}
+use Rattle.volume.specs.Search.{lowest_free}
+use Rattle.chain_table.specs.Numbers.{value_in}
 use Rattle.chain_table.proofs.Laws.Turns.{search-next, search-here, search-end}
 use Rattle.chain_table.proofs.questions.lowest_free.Statement.{statement}
 use Rattle.chain_table.proofs.questions.lowest_free.Tie as tie
 
 abbrev invariant-loop : tie.invariant-loop
-invariant-loop numbers from n b₀ b = (n ≡ length numbers) × (lowestFree (valueIn numbers) from n ≡ lowestFree (valueIn numbers) b n)
+invariant-loop numbers from n b₀ b = (n ≡ length numbers) × (lowest_free (value_in numbers) from n ≡ lowest_free (value_in numbers) b n)
 
 abbrev decreases-loop : tie.decreases-loop
 decreases-loop numbers from n b₀ b = n - b

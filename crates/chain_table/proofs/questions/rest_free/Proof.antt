@@ -5,15 +5,15 @@ use native.Mathlib.Omega.{arith}
 use lib.ListN.{length}
 use borrow.Author.Rules.{rules}
 use borrow.Author.Tests.{not-true, not-false}
-use Rattle.layout.specs.Geometry.{tableBlocks}
-use Rattle.layout.specs.Table.{restFree}
-use Rattle.chain_table.specs.Numbers.{valueIn}
+use Rattle.layout.specs.Geometry.{table_blocks}
+use Rattle.layout.specs.Table.{rest_free}
+use Rattle.chain_table.specs.Numbers.{value_in}
 use Rattle.chain_table.proofs.Laws.Turns.{rest-next, rest-stop, rest_end}
 use Rattle.chain_table.proofs.questions.rest_free.Statement.{statement}
 use Rattle.chain_table.proofs.questions.rest_free.Tie as tie
 
 abbrev invariant-loop : tie.invariant-loop
-invariant-loop numbers marks n b₀ b = (n ≡ length numbers) × (restFree (valueIn numbers) marks (tableBlocks n + 1) (n - (tableBlocks n + 1)) ≡ restFree (valueIn numbers) marks b (n - b))
+invariant-loop numbers marks n b₀ b = (n ≡ length numbers) × (rest_free (value_in numbers) marks (table_blocks n + 1) (n - (table_blocks n + 1)) ≡ rest_free (value_in numbers) marks b (n - b))
 
 abbrev decreases-loop : tie.decreases-loop
 decreases-loop numbers marks n b₀ b = n - b

@@ -3,16 +3,16 @@ use mathlib.Core.Path.{◌≡◌, refl, sym, ap, ◌∙◌}
 use native.Mathlib.Omega.{arith}
 use lib.ListN.{length}
 use Rattle.layout.specs.Table.{next}
-use Rattle.layout.specs.Walks.Chains.{entryIn}
+use Rattle.layout.specs.Walks.Chains.{entry_in}
 use Rattle.layout.proofs.Laws.Bytes.{length_part, lent}
-use Rattle.chain_table.specs.Numbers.{valueIn, entriesOf}
+use Rattle.chain_table.specs.Numbers.{value_in, entries_of}
 use Rattle.chain_table.proofs.Laws.Numbers.{length-entries, entries-are}
 use Rattle.chain_table.proofs.Laws.Turns.{next-block, load-turn}
 use Rattle.chain_table.proofs.transfer.load.Statement.{statement}
 use Rattle.chain_table.proofs.transfer.load.Tie as tie
 
 abbrev invariant-loop : tie.invariant-loop
-invariant-loop image numbers₀ n b₀ numbers b = (b ≤ n) × (n ≡ length numbers₀) × (length numbers ≡ length numbers₀) × (b < n → b % 128 ≡ 0) × ((i : ℕ) → i < b → valueIn numbers i ≡ next image i)
+invariant-loop image numbers₀ n b₀ numbers b = (b ≤ n) × (n ≡ length numbers₀) × (length numbers ≡ length numbers₀) × (b < n → b % 128 ≡ 0) × ((i : ℕ) → i < b → value_in numbers i ≡ next image i)
 
 abbrev decreases-loop : tie.decreases-loop
 decreases-loop image numbers₀ n b₀ numbers b = n - b
@@ -65,13 +65,13 @@ loop-again c =
     let room : l.b + k ≤ length l.numbers = omega (arith, least.ensures) in
     let j : ℕ = l.b + k - l.b in
     let same : j ≡ k = omega arith in
-    let u = entryIn block.result.now in (
+    let u = entry_in block.result.now in (
       omega arith,
       refl,
       omega arith,
       next-block l.b k _ whole least.ensures,
       load-turn s l.numbers _ l.b k whole small room _ block.ensures.0
-          (lent l.numbers l.b j _ (entriesOf u k) (c.before.before.load-block.ensures ∙ ap (entriesOf u) (length_part l.numbers l.b j (omega arith) ∙ same)) (length-entries u k ∙ sym same)) l.invariant.4,
+          (lent l.numbers l.b j _ (entries_of u k) (c.before.before.load-block.ensures ∙ ap (entries_of u) (length_part l.numbers l.b j (omega arith) ∙ same)) (length-entries u k ∙ sym same)) l.invariant.4,
     )
 
 same_length : tie.Need-same-length invariant-loop decreases-loop

@@ -2,15 +2,15 @@ use Prim.Native.Nat.{ℕ, ◌≤◌, ◌<◌, ◌-◌}
 use mathlib.Core.Path.{◌≡◌, refl}
 use native.Mathlib.Omega.{arith}
 use lib.ListN.{length, length-set}
-use Rattle.layout.specs.Walks.Chains.{entryIn}
-use Rattle.chain_table.specs.Numbers.{valueIn}
+use Rattle.layout.specs.Walks.Chains.{entry_in}
+use Rattle.chain_table.specs.Numbers.{value_in}
 use Rattle.chain_table.proofs.Laws.Turns.{fill_more}
 use Rattle.chain_table.proofs.Laws.Numbers.{entries-are}
 use Rattle.chain_table.proofs.transfer.load_block.Statement.{statement}
 use Rattle.chain_table.proofs.transfer.load_block.Tie as tie
 
 abbrev invariant-loop : tie.invariant-loop
-invariant-loop block numbers₀ j₀ j-end numbers j = (j ≤ j-end) × (j-end ≡ length numbers₀) × (length numbers ≡ length numbers₀) × ((i : ℕ) → i < j → valueIn numbers i ≡ entryIn block i)
+invariant-loop block numbers₀ j₀ j-end numbers j = (j ≤ j-end) × (j-end ≡ length numbers₀) × (length numbers ≡ length numbers₀) × ((i : ℕ) → i < j → value_in numbers i ≡ entry_in block i)
 
 abbrev decreases-loop : tie.decreases-loop
 decreases-loop block numbers₀ j₀ j-end numbers j = j-end - j
@@ -39,7 +39,7 @@ loop-less c = omega arith
 loop-again : tie.Need-loop-preserved invariant-loop decreases-loop
 loop-again c =
     let l = c.before.before.loop in
-    (omega arith, refl, simp length-set l.invariant.2, fill_more (entryIn c.before.before.before.before.before.args.block.now) l.numbers l.j _ (omega arith) l.invariant.3 c.get32.ensures)
+    (omega arith, refl, simp length-set l.invariant.2, fill_more (entry_in c.before.before.before.before.before.args.block.now) l.numbers l.j _ (omega arith) l.invariant.3 c.get32.ensures)
 
 same_length : tie.Need-same-length invariant-loop decreases-loop
 same_length c = omega arith

@@ -4,13 +4,13 @@ use Prim.Native.Nat.{◌≤◌, ◌+◌, ◌-◌}
 use native.Mathlib.Omega.{arith}
 use borrow.Author.Rules.{rules}
 use lib.ListN.{length}
-use Rattle.journal.specs.Walks.Saves.{markedFrom}
+use Rattle.journal.specs.Walks.Saves.{marked_from}
 use Rattle.journal.proofs.recording.count_marked.Statement.{statement}
 use Rattle.journal.proofs.recording.count_marked.Tie as tie
 use Rattle.journal.proofs.Walks.Marked.{marked_next, marked-done}
 
 abbrev invariant-loop : tie.invariant-loop
-invariant-loop marks a e count₀ b₀ count b = (b ≤ e) × (a + count ≤ b) × (count + length (markedFrom marks b (e - b)) ≡ length (markedFrom marks a (e - a)))
+invariant-loop marks a e count₀ b₀ count b = (b ≤ e) × (a + count ≤ b) × (count + length (marked_from marks b (e - b)) ≡ length (marked_from marks a (e - a)))
 
 abbrev decreases-loop : tie.decreases-loop
 decreases-loop marks a e count₀ b₀ count b = e - b

@@ -4,13 +4,13 @@ use Prim.Native.Nat.{◌≤◌, ◌+◌, ◌-◌}
 use native.Mathlib.Omega.{arith}
 use native.Mathlib.Nat.{sub-zero}
 use lib.ListN.{length}
-use Rattle.journal.specs.Walks.Saves.{markedFrom}
+use Rattle.journal.specs.Walks.Saves.{marked_from}
 use Rattle.journal.proofs.recording.record_size.Statement.{statement}
 use Rattle.journal.proofs.recording.record_size.Tie as tie
 use Rattle.journal.proofs.Walks.Marked.{marked-parts}
 
 abbrev invariant-loop : tie.invariant-loop
-invariant-loop marks n count₀ a₀ count a = (a ≤ n) × (count ≤ a) × (count + length (markedFrom marks a (n - a)) ≡ length (markedFrom marks 0 n))
+invariant-loop marks n count₀ a₀ count a = (a ≤ n) × (count ≤ a) × (count + length (marked_from marks a (n - a)) ≡ length (marked_from marks 0 n))
 
 abbrev decreases-loop : tie.decreases-loop
 decreases-loop marks n count₀ a₀ count a = n - a

@@ -2,13 +2,13 @@
 use mathlib.Core.Path.{sym, ◌∙◌}
 use Prim.Native.Nat.{◌+◌, ◌-◌}
 use native.Mathlib.Omega.{arith}
-use Rattle.journal.specs.Walks.Saves.{markedFrom}
+use Rattle.journal.specs.Walks.Saves.{marked_from}
 use Rattle.journal.proofs.recording.save_blocks.Statement.{statement}
 use Rattle.journal.proofs.recording.save_blocks.Tie as tie
 use Rattle.journal.proofs.Walks.Saves.{marks-fewer, Saving, save-all, save-room, save-more, save-none}
 
 abbrev invariant-loop : tie.invariant-loop
-invariant-loop image journal₀ marks n at p₀ b₀ journal p b = Saving image marks journal₀ (markedFrom marks 0 n) at n journal p b
+invariant-loop image journal₀ marks n at p₀ b₀ journal p b = Saving image marks journal₀ (marked_from marks 0 n) at n journal p b
 
 abbrev decreases-loop : tie.decreases-loop
 decreases-loop image journal₀ marks n at p₀ b₀ journal p b = n - b

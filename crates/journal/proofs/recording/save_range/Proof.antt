@@ -3,7 +3,7 @@ use mathlib.Core.Path.{◌≡◌, ◌∙◌}
 use Prim.Native.Nat.{◌+◌, ◌-◌, ◌*◌}
 use native.Mathlib.Omega.{arith}
 use lib.ListN.{length-take, length-drop}
-use Rattle.journal.specs.Walks.Saves.{markedFrom}
+use Rattle.journal.specs.Walks.Saves.{marked_from}
 use Rattle.journal.proofs.recording.save_range.Statement.{statement}
 use Rattle.journal.proofs.recording.save_range.Tie as tie
 use Rattle.layout.proofs.Laws.Bytes.{lent}
@@ -11,7 +11,7 @@ use Rattle.journal.proofs.Laws.Records.{piece, length-piece}
 use Rattle.journal.proofs.Walks.Saves.{Saving, save-start, save-skip, save-room-one, save-one, save-place, save-end}
 
 abbrev invariant-loop : tie.invariant-loop
-invariant-loop image journal₀ marks a e at p₀ b₀ journal p b = Saving image marks journal₀ (markedFrom marks a (e - a)) at e journal p b
+invariant-loop image journal₀ marks a e at p₀ b₀ journal p b = Saving image marks journal₀ (marked_from marks a (e - a)) at e journal p b
 
 abbrev decreases-loop : tie.decreases-loop
 decreases-loop image journal₀ marks a e at p₀ b₀ journal p b = e - b

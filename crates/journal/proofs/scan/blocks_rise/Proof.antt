@@ -4,14 +4,14 @@ use Prim.Native.Nat.{◌≤◌, ◌-◌}
 use native.Mathlib.Nat.{sub-zero}
 use native.Mathlib.Omega.{arith}
 use borrow.Author.Rules.{rules}
-use Rattle.layout.specs.Limits.{maxBlocks}
-use Rattle.journal.specs.Walks.Scanning.{blocksRise}
+use Rattle.layout.specs.Limits.{max_blocks}
+use Rattle.journal.specs.Walks.Scanning.{blocks_rise}
 use Rattle.journal.proofs.scan.blocks_rise.Statement.{statement}
 use Rattle.journal.proofs.scan.blocks_rise.Tie as tie
 use Rattle.journal.proofs.Walks.Scanning.{numbers-low, numbers-high, numbers-step, numbers-end}
 
 abbrev invariant-loop : tie.invariant-loop
-invariant-loop journal n at k low₀ i₀ low i = (i ≤ k) × (low ≤ maxBlocks) × (blocksRise journal n at 0 0 k ≡ blocksRise journal n at low i (k - i))
+invariant-loop journal n at k low₀ i₀ low i = (i ≤ k) × (low ≤ max_blocks) × (blocks_rise journal n at 0 0 k ≡ blocks_rise journal n at low i (k - i))
 
 abbrev decreases-loop : tie.decreases-loop
 decreases-loop journal n at k low₀ i₀ low i = k - i

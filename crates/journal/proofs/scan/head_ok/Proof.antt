@@ -2,8 +2,8 @@ use mathlib.Core.Path.{sym}
 use native.Mathlib.Omega.{arith}
 use Rattle.journal.specs.Journal.{used}
 use borrow.Author.Rules.{rules}
-use Rattle.journal.proofs.scan.head_ok.Statement.{statement}
-use Rattle.journal.proofs.scan.head_ok.Tie as tie
+use Rattle.journal.proofs.scan.head-ok.Statement.{statement}
+use Rattle.journal.proofs.scan.head-ok.Tie as tie
 use Rattle.journal.proofs.Walks.Scanning.{head-facts, head-rest}
 use Rattle.layout.proofs.Laws.Tests.{is_false}
 

@@ -3,7 +3,7 @@ use mathlib.Core.List.{List}
 use mathlib.Core.Path.{◌≡◌, refl, sym}
 use native.Mathlib.Omega.{arith}
 use Rattle.layout.specs.Walks.Entries.{Scanned, Clean}
-use Rattle.layout.proofs.Walks.Names.{scanned-none, scanned-more, clean-none, clean-more, fieldOk-gap, fieldOk-slash, fieldOk-count}
+use Rattle.layout.proofs.Walks.Names.{scanned-none, scanned-more, clean-none, clean-more, field_ok-gap, field_ok-slash, field_ok-count}
 use Rattle.layout.proofs.bytes.name_ok.Statement.{statement}
 use Rattle.layout.proofs.bytes.name_ok.Tie as tie
 
@@ -63,17 +63,17 @@ loop-again c =
 returns : tie.Need-returns invariant-loop decreases-loop
 returns c =
     let l = c.before.before.loop in
-    sym (fieldOk-gap _ c.before.before.before.before.requires _ _ _ (scanned _ _ _ _ (omega arith) l.invariant.1) (cleaned _ _ _ (omega arith) l.invariant.2) c.if1.true)
+    sym (field_ok-gap _ c.before.before.before.before.requires _ _ _ (scanned _ _ _ _ (omega arith) l.invariant.1) (cleaned _ _ _ (omega arith) l.invariant.2) c.if1.true)
 
 returns-2 : tie.Need-returns-2 invariant-loop decreases-loop
 returns-2 c =
     let l = c.before.before.before.loop in
-    sym (fieldOk-slash _ c.before.before.before.before.before.requires _ _ _ (scanned _ _ _ _ (omega arith) l.invariant.1) (cleaned _ _ _ (omega arith) l.invariant.2) c.if2.true)
+    sym (field_ok-slash _ c.before.before.before.before.before.requires _ _ _ (scanned _ _ _ _ (omega arith) l.invariant.1) (cleaned _ _ _ (omega arith) l.invariant.2) c.if2.true)
 
 returns-3 : tie.Need-returns-3 invariant-loop decreases-loop
 returns-3 c =
     let l = c.before.before.before.loop in
-    fieldOk-count _ c.before.before.before.before.before.requires _ _ _ (scanned _ _ _ _ (omega arith) l.invariant.1) (cleaned _ _ _ (omega arith) l.invariant.2) c.before.if1.false c.if2.false
+    field_ok-count _ c.before.before.before.before.before.requires _ _ _ (scanned _ _ _ _ (omega arith) l.invariant.1) (cleaned _ _ _ (omega arith) l.invariant.2) c.before.if1.false c.if2.false
 
 pub name-ok-spec : {M : Type 1} → statement M
 name-ok-spec =

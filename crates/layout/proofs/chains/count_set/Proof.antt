@@ -2,15 +2,15 @@ use Prim.Native.Nat.{◌≤◌, ◌+◌, ◌-◌, ◌*◌}
 use mathlib.Core.Path.{◌≡◌, ◌∙◌}
 use native.Mathlib.Omega.{arith}
 use lib.ListN.{get_or}
-use Rattle.layout.specs.Walks.Chains.{countUsed}
+use Rattle.layout.specs.Walks.Chains.{count_used}
 use Rattle.layout.proofs.Laws.Bytes.{length_part}
-use Rattle.layout.proofs.Walks.Chains.{countUsed-end, countUsed-split, set-in-part}
+use Rattle.layout.proofs.Walks.Chains.{count_used-end, count_used-split, set-in-part}
 use Rattle.layout.proofs.chains.count_set.Statement.{statement}
 use Rattle.layout.proofs.chains.count_set.Tie as tie
 
 abbrev invariant-loop : tie.invariant-loop
 invariant-loop marks t count₀ b₀ left₀ count b left =
-    (b + 128 * left ≡ 128 * t) × (count ≤ b) × (countUsed (λ x. get_or marks x 0) 0 (128 * t) ≡ count + countUsed (λ x. get_or marks x 0) b (128 * left))
+    (b + 128 * left ≡ 128 * t) × (count ≤ b) × (count_used (λ x. get_or marks x 0) 0 (128 * t) ≡ count + count_used (λ x. get_or marks x 0) b (128 * left))
 
 abbrev decreases-loop : tie.decreases-loop
 decreases-loop marks t count₀ b₀ left₀ count b left = left
@@ -54,13 +54,13 @@ loop-again c =
     let m = c.before.before.before.before.before.args.marks.now in
     let e = c.set-in.ensures.0 ∙ set-in-part m l.b 128 (l.b + 128 - l.b) (omega arith) (omega arith) in
     let k : 128 * l.left - 128 ≡ 128 * (l.left - 1) = omega arith in
-    let d = rw k at (countUsed-split (λ x. get_or m x 0) l.b (128 * l.left) 128 (omega arith)) in
+    let d = rw k at (count_used-split (λ x. get_or m x 0) l.b (128 * l.left) 128 (omega arith)) in
     (omega arith, omega arith, omega (arith, e, d, l.invariant.2))
 
 returns : tie.Need-returns invariant-loop decreases-loop
 returns c =
     let l = c.before.loop in
-    let e = countUsed-end (λ x. get_or c.before.before.before.args.marks.now x 0) l.b (128 * l.left) (omega arith) in
+    let e = count_used-end (λ x. get_or c.before.before.before.args.marks.now x 0) l.b (128 * l.left) (omega arith) in
     (omega (arith, e, l.invariant.2), omega arith)
 
 pub count-set-spec : {M : Type 1} → statement M

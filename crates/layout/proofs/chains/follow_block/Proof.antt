@@ -4,13 +4,13 @@ use mathlib.Core.Path.{◌≡◌, refl, sym, ◌∙◌}
 use native.Mathlib.Omega.{arith}
 use lib.ListN.{length}
 use borrow.Author.Tests.{not-true, not-false}
-use Rattle.layout.specs.Walks.Stages.{followSlots}
-use Rattle.layout.proofs.Walks.Owned.{followSlots-end, followSlots-next, followSlots-stop}
+use Rattle.layout.specs.Walks.Stages.{follow_slots}
+use Rattle.layout.proofs.Walks.Owned.{follow_slots-end, follow_slots-next, follow_slots-stop}
 use Rattle.layout.proofs.chains.follow_block.Statement.{statement}
 use Rattle.layout.proofs.chains.follow_block.Tie as tie
 
 abbrev invariant-loop : tie.invariant-loop
-invariant-loop image t n b marks₀ k₀ left₀ marks k left = (length marks ≡ length marks₀) × (k + left ≡ 4) × (followSlots image n b 0 4 marks₀ ≡ followSlots image n b k left marks)
+invariant-loop image t n b marks₀ k₀ left₀ marks k left = (length marks ≡ length marks₀) × (k + left ≡ 4) × (follow_slots image n b 0 4 marks₀ ≡ follow_slots image n b k left marks)
 
 abbrev decreases-loop : tie.decreases-loop
 decreases-loop image t n b marks₀ k₀ left₀ marks k left = left
@@ -28,7 +28,7 @@ returns : tie.Need-returns invariant-loop decreases-loop
 returns c =
     let l = c.before.before.before.before.before.before.loop in
     let t : c.before.before.before.follow-slot.result ≡ false = not-true _ c.if1.true in
-    sym (l.invariant.2 ∙ followSlots-stop _ _ _ _ _ _ (omega arith) _ (rw t at c.before.before.before.follow-slot.ensures))
+    sym (l.invariant.2 ∙ follow_slots-stop _ _ _ _ _ _ (omega arith) _ (rw t at c.before.before.before.follow-slot.ensures))
 
 add-k : tie.Need-overflow-add-k invariant-loop decreases-loop
 add-k c = omega arith
@@ -43,7 +43,7 @@ loop-again : tie.Need-loop-preserved invariant-loop decreases-loop
 loop-again c =
     let l = c.before.before.before.before.before.before.loop in
     let t : c.before.before.before.follow-slot.result ≡ true = not-false _ c.if1.false in
-    (omega arith, omega arith, l.invariant.2 ∙ followSlots-next _ _ _ _ _ _ (omega arith) _ (rw t at c.before.before.before.follow-slot.ensures))
+    (omega arith, omega arith, l.invariant.2 ∙ follow_slots-next _ _ _ _ _ _ (omega arith) _ (rw t at c.before.before.before.follow-slot.ensures))
 
 same-length-2 : tie.Need-same-length-2 invariant-loop decreases-loop
 same-length-2 c = omega arith
@@ -51,7 +51,7 @@ same-length-2 c = omega arith
 returns-2 : tie.Need-returns-2 invariant-loop decreases-loop
 returns-2 c =
     let l = c.before.loop in
-    sym (l.invariant.2 ∙ followSlots-end _ _ _ _ _ _ (omega arith))
+    sym (l.invariant.2 ∙ follow_slots-end _ _ _ _ _ _ (omega arith))
 
 pub follow-block-spec : {M : Type 1} → statement M
 follow-block-spec =

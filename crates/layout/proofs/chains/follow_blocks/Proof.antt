@@ -4,13 +4,13 @@ use mathlib.Core.Path.{◌≡◌, refl, sym, ◌∙◌}
 use native.Mathlib.Omega.{arith}
 use lib.ListN.{length}
 use borrow.Author.Tests.{not-true, not-false}
-use Rattle.layout.specs.Walks.Stages.{followBlocks}
-use Rattle.layout.proofs.Walks.Owned.{followBlocks-end, followBlocks-next, followBlocks-stop}
+use Rattle.layout.specs.Walks.Stages.{follow_blocks}
+use Rattle.layout.proofs.Walks.Owned.{follow_blocks-end, follow_blocks-next, follow_blocks-stop}
 use Rattle.layout.proofs.chains.follow_blocks.Statement.{statement}
 use Rattle.layout.proofs.chains.follow_blocks.Tie as tie
 
 abbrev invariant-loop : tie.invariant-loop
-invariant-loop image t n dirs marks₀ b₀ left₀ marks b left = (length marks ≡ length marks₀) × (b + left ≡ n) × (followBlocks image n dirs 0 n marks₀ ≡ followBlocks image n dirs b left marks)
+invariant-loop image t n dirs marks₀ b₀ left₀ marks b left = (length marks ≡ length marks₀) × (b + left ≡ n) × (follow_blocks image n dirs 0 n marks₀ ≡ follow_blocks image n dirs b left marks)
 
 abbrev decreases-loop : tie.decreases-loop
 decreases-loop image t n dirs marks₀ b₀ left₀ marks b left = left
@@ -35,7 +35,7 @@ returns c =
     let l = g.before.before.before.before.loop in
     let k = g.before.before.step in
     let t : g.follow-group.result ≡ false = not-true _ c.if1.true in
-    sym (l.invariant.2 ∙ followBlocks-stop _ _ _ _ _ _ k.result k.ensures.1 _ (rw t at g.follow-group.ensures))
+    sym (l.invariant.2 ∙ follow_blocks-stop _ _ _ _ _ _ k.result k.ensures.1 _ (rw t at g.follow-group.ensures))
 
 add-b : tie.Need-overflow-add-b invariant-loop decreases-loop
 add-b c = let p = c.before.before.before.before.before.before.before.before.before.before.before.requires.0.shape in omega arith
@@ -52,7 +52,7 @@ loop-again c =
     let l = g.before.before.before.before.loop in
     let k = g.before.before.step in
     let t : g.follow-group.result ≡ true = not-false _ c.if1.false in
-    (omega arith, omega arith, l.invariant.2 ∙ followBlocks-next _ _ _ _ _ _ k.result k.ensures.1 _ (rw t at g.follow-group.ensures))
+    (omega arith, omega arith, l.invariant.2 ∙ follow_blocks-next _ _ _ _ _ _ k.result k.ensures.1 _ (rw t at g.follow-group.ensures))
 
 same-length-2 : tie.Need-same-length-2 invariant-loop decreases-loop
 same-length-2 c = omega arith
@@ -60,7 +60,7 @@ same-length-2 c = omega arith
 returns-2 : tie.Need-returns-2 invariant-loop decreases-loop
 returns-2 c =
     let l = c.before.loop in
-    sym (l.invariant.2 ∙ followBlocks-end _ _ _ _ _ _ (omega arith))
+    sym (l.invariant.2 ∙ follow_blocks-end _ _ _ _ _ _ (omega arith))
 
 pub follow-blocks-spec : {M : Type 1} → statement M
 follow-blocks-spec =

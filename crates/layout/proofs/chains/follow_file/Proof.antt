@@ -1,7 +1,7 @@
 use mathlib.Core.Path.{◌≡◌, ◌∙◌}
 use mathlib.Core.Bool.{true, false}
 use borrow.Author.Tests.{not-true, not-false}
-use Rattle.layout.proofs.Walks.Owned.{followFile-stop, followFile-next}
+use Rattle.layout.proofs.Walks.Owned.{follow_file-stop, follow_file-next}
 use borrow.Author.Rules.{rules}
 use Rattle.layout.proofs.chains.follow_file.Statement.{statement}
 use Rattle.layout.proofs.chains.follow_file.Tie as tie
@@ -16,7 +16,7 @@ returns : tie.Need-returns
 returns c =
     let o = c.before.before.before.follow-own in
     let t : o.result ≡ false = not-true _ c.if1.true in
-    followFile-stop _ _ _ _ _ (rw t at o.ensures)
+    follow_file-stop _ _ _ _ _ (rw t at o.ensures)
 
 attribute-chain-requires : tie.Need-attribute-chain-requires
 attribute-chain-requires c κs = search rules
@@ -34,7 +34,7 @@ returns-2 c =
     let o = w.before.before.before.follow-own in
     let t : o.result ≡ true = not-false _ w.if1.false in
     let e = a.attribute-chain.ensures in
-    c.before.before.follow.ensures ∙ followFile-next _ _ _ _ _ (rw t at o.ensures) _ _ e.0 e.1
+    c.before.before.follow.ensures ∙ follow_file-next _ _ _ _ _ (rw t at o.ensures) _ _ e.0 e.1
 
 pub follow-file-spec : {M : Type 1} → statement M
 follow-file-spec =

@@ -1,7 +1,7 @@
 use Prim.Native.Nat.{◌+◌, ◌-◌}
 use mathlib.Core.Path.{sym, ◌∙◌}
 use native.Mathlib.Omega.{arith}
-use Rattle.layout.proofs.Walks.Owned.{followBlocks-none}
+use Rattle.layout.proofs.Walks.Owned.{follow_blocks-none}
 use borrow.Author.Rules.{rules}
 use Rattle.layout.proofs.chains.follow_group.Statement.{statement}
 use Rattle.layout.proofs.chains.follow_group.Tie as tie
@@ -24,7 +24,7 @@ all-zero-requires c κs = search rules
 returns : tie.Need-returns
 returns c =
     let a = c.before.before.before.before.before.before.args in
-    followBlocks-none a.image.now a.n a.dirs.now a.from a.marks.now a.k (a.from + a.k - a.from) (omega arith) (sym c.if1.true ∙ c.before.all-zero.ensures)
+    follow_blocks-none a.image.now a.n a.dirs.now a.from a.marks.now a.k (a.from + a.k - a.from) (omega arith) (sym c.if1.true ∙ c.before.all-zero.ensures)
 
 follow-run-requires : tie.Need-follow-run-requires
 follow-run-requires c κs = search rules

@@ -4,13 +4,13 @@ use mathlib.Core.Path.{◌≡◌, refl, sym, ◌∙◌}
 use native.Mathlib.Omega.{arith}
 use lib.ListN.{length}
 use borrow.Author.Tests.{not-true, not-false}
-use Rattle.layout.specs.Walks.Stages.{followBlocks}
-use Rattle.layout.proofs.Walks.Owned.{followBlocks-end, followBlocks-next, followBlocks-stop}
+use Rattle.layout.specs.Walks.Stages.{follow_blocks}
+use Rattle.layout.proofs.Walks.Owned.{follow_blocks-end, follow_blocks-next, follow_blocks-stop}
 use Rattle.layout.proofs.chains.follow_run.Statement.{statement}
 use Rattle.layout.proofs.chains.follow_run.Tie as tie
 
 abbrev invariant-loop : tie.invariant-loop
-invariant-loop image t n dirs from k marks₀ b₀ left₀ marks b left = (length marks ≡ length marks₀) × (b + left ≡ from + k) × (followBlocks image n dirs from k marks₀ ≡ followBlocks image n dirs b left marks)
+invariant-loop image t n dirs from k marks₀ b₀ left₀ marks b left = (length marks ≡ length marks₀) × (b + left ≡ from + k) × (follow_blocks image n dirs from k marks₀ ≡ follow_blocks image n dirs b left marks)
 
 abbrev decreases-loop : tie.decreases-loop
 decreases-loop image t n dirs from k marks₀ b₀ left₀ marks b left = left
@@ -28,7 +28,7 @@ returns : tie.Need-returns invariant-loop decreases-loop
 returns c =
     let l = c.before.before.before.before.before.before.loop in
     let t : c.before.before.before.follow-marked.result ≡ false = not-true _ c.if1.true in
-    sym (l.invariant.2 ∙ followBlocks-stop _ _ _ _ _ _ 1 (omega arith) _ (rw t at c.before.before.before.follow-marked.ensures))
+    sym (l.invariant.2 ∙ follow_blocks-stop _ _ _ _ _ _ 1 (omega arith) _ (rw t at c.before.before.before.follow-marked.ensures))
 
 add-b : tie.Need-overflow-add-b invariant-loop decreases-loop
 add-b c = let p = c.before.before.before.before.before.before.before.before.before.before.requires.0.shape in omega arith
@@ -43,7 +43,7 @@ loop-again : tie.Need-loop-preserved invariant-loop decreases-loop
 loop-again c =
     let l = c.before.before.before.before.before.before.loop in
     let t : c.before.before.before.follow-marked.result ≡ true = not-false _ c.if1.false in
-    (omega arith, omega arith, l.invariant.2 ∙ followBlocks-next _ _ _ _ _ _ 1 (omega arith) _ (rw t at c.before.before.before.follow-marked.ensures))
+    (omega arith, omega arith, l.invariant.2 ∙ follow_blocks-next _ _ _ _ _ _ 1 (omega arith) _ (rw t at c.before.before.before.follow-marked.ensures))
 
 same-length-2 : tie.Need-same-length-2 invariant-loop decreases-loop
 same-length-2 c = omega arith
@@ -51,7 +51,7 @@ same-length-2 c = omega arith
 returns-2 : tie.Need-returns-2 invariant-loop decreases-loop
 returns-2 c =
     let l = c.before.loop in
-    sym (l.invariant.2 ∙ followBlocks-end _ _ _ _ _ _ (omega arith))
+    sym (l.invariant.2 ∙ follow_blocks-end _ _ _ _ _ _ (omega arith))
 
 pub follow-run-spec : {M : Type 1} → statement M
 follow-run-spec =

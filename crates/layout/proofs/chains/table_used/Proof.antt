@@ -3,7 +3,7 @@ use mathlib.Core.Bool.{true, false}
 use mathlib.Core.Path.{◌≡◌, refl, sym, ◌∙◌}
 use native.Mathlib.Omega.{arith}
 use borrow.Author.Tests.{not-true, not-false}
-use Rattle.layout.proofs.Walks.Owned.{followTable-chains, followTable-ones, followTable-other, followTable-all}
+use Rattle.layout.proofs.Walks.Owned.{follow_table-chains, follow_table-ones, follow_table-other, follow_table-all}
 use borrow.Author.Rules.{rules}
 use Rattle.layout.proofs.chains.table_used.Statement.{statement}
 use Rattle.layout.proofs.chains.table_used.Tie as tie
@@ -23,7 +23,7 @@ returns c =
     let f = c.before.before.before in
     let r : f.follow-blocks.result ≡ false = not-true _ c.if1.true in
     record {
-      none = λ z. followTable-chains a.image.now a.t a.n a.dirs.now a.marks.now _ (rw r at f.follow-blocks.ensures);
+      none = λ z. follow_table-chains a.image.now a.t a.n a.dirs.now a.marks.now _ (rw r at f.follow-blocks.ensures);
       some = λ h. absurd (h refl);
     }
 
@@ -43,7 +43,7 @@ returns-2 c =
     let r : f.follow-blocks.result ≡ true = not-false _ c.before.before.if1.false in
     let u : c.before.ones.result ≡ false = not-true _ c.if2.true in
     record {
-      none = λ z. followTable-ones a.image.now a.t a.n a.dirs.now a.marks.now _ (rw r at f.follow-blocks.ensures) (sym u ∙ c.before.ones.ensures);
+      none = λ z. follow_table-ones a.image.now a.t a.n a.dirs.now a.marks.now _ (rw r at f.follow-blocks.ensures) (sym u ∙ c.before.ones.ensures);
       some = λ h. absurd (h refl);
     }
 
@@ -70,7 +70,7 @@ returns-3 c =
     let r : f.follow-blocks.result ≡ true = not-false _ c.before.before.before.before.before.before.if1.false in
     let u : c.before.before.before.before.before.ones.result ≡ true = not-false _ c.before.before.before.before.if2.false in
     record {
-      none = λ z. followTable-other a.image.now a.t a.n a.dirs.now a.marks.now _ (rw r at f.follow-blocks.ensures) (sym u ∙ c.before.before.before.before.before.ones.ensures) _ c.before.count-used.ensures.0 _ k.ensures.0 c.if3.true;
+      none = λ z. follow_table-other a.image.now a.t a.n a.dirs.now a.marks.now _ (rw r at f.follow-blocks.ensures) (sym u ∙ c.before.before.before.before.before.ones.ensures) _ c.before.count-used.ensures.0 _ k.ensures.0 c.if3.true;
       some = λ h. absurd (h refl);
     }
 
@@ -84,7 +84,7 @@ returns-4 c =
     let k = c.before.before.count_set in
     let r : f.follow-blocks.result ≡ true = not-false _ c.before.before.before.before.before.before.if1.false in
     let u : c.before.before.before.before.before.ones.result ≡ true = not-false _ c.before.before.before.before.if2.false in
-    let all = followTable-all a.image.now a.t a.n a.dirs.now a.marks.now _ (rw r at f.follow-blocks.ensures) (sym u ∙ c.before.before.before.before.before.ones.ensures) _ c.before.count-used.ensures.0 _ k.ensures.0 c.if3.false in
+    let all = follow_table-all a.image.now a.t a.n a.dirs.now a.marks.now _ (rw r at f.follow-blocks.ensures) (sym u ∙ c.before.before.before.before.before.ones.ensures) _ c.before.count-used.ensures.0 _ k.ensures.0 c.if3.false in
     record {
       none = λ z. absurd (low a.t k.result z);
       some = λ h. (all, sym c.if3.false ∙ c.before.count-used.ensures.0);

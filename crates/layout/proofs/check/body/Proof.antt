@@ -3,8 +3,8 @@ use Prim.Native.Nat.{ℕ}
 use mathlib.Core.List.{List}
 use native.Mathlib.Omega.{arith}
 use borrow.Author.Rules.{rules}
-use Rattle.layout.specs.Walks.Stages.{walkRoot}
-use Rattle.layout.proofs.Walks.Stages.{bodyStage-fault, visited-fresh}
+use Rattle.layout.specs.Walks.Stages.{walk_root}
+use Rattle.layout.proofs.Walks.Stages.{body_stage-fault, visited-fresh}
 use Rattle.layout.proofs.check.body.Statement.{statement}
 use Rattle.layout.proofs.check.body.Tie as tie
 
@@ -25,7 +25,7 @@ returns c =
     let w = c.before.before.before.visit in
     let a = c.before.before.before.before.before.before.before.before.before.args in
     let p = c.before.before.before.before.before.before.before.before.before.requires in
-    bodyStage-fault a.image.now a.n p.0 _ _ _ (omega (arith, p.1)) (w.ensures ∙ ap (λ (m : List ℕ). walkRoot a.image.now a.n m) p.2) c.if1.true
+    body_stage-fault a.image.now a.n p.0 _ _ _ (omega (arith, p.1)) (w.ensures ∙ ap (λ (m : List ℕ). walk_root a.image.now a.n m) p.2) c.if1.true
 
 tables-requires : tie.Need-tables-requires
 tables-requires c κs =

@@ -1,5 +1,5 @@
 use native.Mathlib.Omega.{arith}
-use Rattle.layout.proofs.Walks.Entries.{attributesOk-none, attributesOk-empty, attributesOk-size}
+use Rattle.layout.proofs.Walks.Entries.{attributes_ok-none, attributes_ok-empty, attributes_ok-size}
 use borrow.Author.Rules.{rules}
 use Rattle.layout.proofs.directory.attributes_ok.Statement.{statement}
 use Rattle.layout.proofs.directory.attributes_ok.Tie as tie
@@ -17,13 +17,13 @@ get32-requires-2 : tie.Need-get32-requires-2
 get32-requires-2 c κs = search rules
 
 returns : tie.Need-returns
-returns c = attributesOk-none _ _ _ _ c.before.before.get32.ensures c.before.get322.ensures c.if1.true
+returns c = attributes_ok-none _ _ _ _ c.before.before.get32.ensures c.before.get322.ensures c.if1.true
 
 returns-2 : tie.Need-returns-2
-returns-2 c = attributesOk-empty _ _ _ _ c.before.before.before.get32.ensures c.before.before.get322.ensures c.before.if1.false c.if2.true
+returns-2 c = attributes_ok-empty _ _ _ _ c.before.before.before.get32.ensures c.before.before.get322.ensures c.before.if1.false c.if2.true
 
 returns-3 : tie.Need-returns-3
-returns-3 c = attributesOk-size _ _ _ _ c.before.before.before.get32.ensures c.before.before.get322.ensures c.before.if1.false (omega arith)
+returns-3 c = attributes_ok-size _ _ _ _ c.before.before.before.get32.ensures c.before.before.get322.ensures c.before.if1.false (omega arith)
 
 pub attributes-ok-spec : {M : Type 1} → statement M
 attributes-ok-spec =

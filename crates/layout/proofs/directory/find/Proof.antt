@@ -3,13 +3,13 @@ use Prim.Native.Nat.{◌+◌, ◌-◌, ◌*◌, ◌%◌, ◌≤◌}
 use native.Mathlib.Omega.{arith}
 use Rattle.layout.specs.Lists.{within}
 use Rattle.layout.specs.Table.{next, chain}
-use Rattle.layout.specs.Walks.Slots.{Place, entryNamed, slotFrom}
-use Rattle.layout.proofs.Walks.Slots.{place-below, place-first, place-on, slotFrom-end, slotFrom-skip, slotOf-from, stands-in, stands-none}
+use Rattle.layout.specs.Walks.Slots.{Place, entry_named, slot_from}
+use Rattle.layout.proofs.Walks.Slots.{place-below, place-first, place-on, slot_from-end, slot_from-skip, slot_of-from, stands-in, stands-none}
 use Rattle.layout.proofs.directory.find.Statement.{statement}
 use Rattle.layout.proofs.directory.find.Tie as tie
 
 abbrev invariant-loop : tie.invariant-loop
-invariant-loop image n first d lo hi name w₀ b₀ k₀ left₀ b k left = (Place (chain (next image) first d) d b k left) × (slotFrom (entryNamed (within lo hi) image name) (chain (next image) first d) 1 (4 * d - 2) ≡ slotFrom (entryNamed (within lo hi) image name) (chain (next image) first d) k left) × (1 ≤ k)
+invariant-loop image n first d lo hi name w₀ b₀ k₀ left₀ b k left = (Place (chain (next image) first d) d b k left) × (slot_from (entry_named (within lo hi) image name) (chain (next image) first d) 1 (4 * d - 2) ≡ slot_from (entry_named (within lo hi) image name) (chain (next image) first d) k left) × (1 ≤ k)
 
 abbrev decreases-loop : tie.decreases-loop
 decreases-loop image n first d lo hi name w₀ b₀ k₀ left₀ b k left = left
@@ -48,9 +48,9 @@ returns c =
     let bs = c.before.before.before.before.before.before.before.before.requires.0.blocks in
     let j = c.before.before.least.result in
     let e = c.before.find-in.ensures in
-    stands-in (entryNamed (within a.lo a.hi) a.image.now a.name.now) _ _ a.d _ _ _ _ j _ bs l.invariant.0
+    stands-in (entry_named (within a.lo a.hi) a.image.now a.name.now) _ _ a.d _ _ _ _ j _ bs l.invariant.0
     (omega (arith, c.before.before.least.ensures)) (omega (arith, c.before.before.least.ensures)) l.invariant.2 e c.if1.true
-    (slotOf-from (within a.lo a.hi) a.image.now _ a.name.now a.d bs.size ∙ l.invariant.1)
+    (slot_of-from (within a.lo a.hi) a.image.now _ a.name.now a.d bs.size ∙ l.invariant.1)
 
 add-k : tie.Need-overflow-add-k invariant-loop decreases-loop
 add-k c = omega arith
@@ -76,7 +76,7 @@ loop-again c =
     let one : l.k % 4 + j ≤ 4 = omega (arith, least.ensures) in
     let few : j ≤ l.left = omega (arith, least.ensures) in (
       place-on _ _ _ _ _ _ j _ l.invariant.0 (omega (arith, least.ensures)) few one c.following.ensures,
-      l.invariant.1 ∙ slotFrom-skip (entryNamed (within a.lo a.hi) a.image.now a.name.now) _ _ _ _ _ j l.invariant.0 one few l.invariant.2
+      l.invariant.1 ∙ slot_from-skip (entry_named (within a.lo a.hi) a.image.now a.name.now) _ _ _ _ _ j l.invariant.0 one few l.invariant.2
           (sym c.before.before.find-in.ensures ∙ c.before.if1.false),
       omega arith,
     )
@@ -86,8 +86,8 @@ returns-2 c =
     let a = c.before.before.before.before.before.args in
     let p = c.before.before.before.before.before.requires in
     let l = c.before.loop in
-    stands-none _ _ _ (slotOf-from (within a.lo a.hi) a.image.now _ a.name.now a.d p.0.blocks.size ∙ l.invariant.1 ∙ slotFrom-end
-    (entryNamed (within a.lo a.hi) a.image.now a.name.now) _ _ _ (omega arith))
+    stands-none _ _ _ (slot_of-from (within a.lo a.hi) a.image.now _ a.name.now a.d p.0.blocks.size ∙ l.invariant.1 ∙ slot_from-end
+    (entry_named (within a.lo a.hi) a.image.now a.name.now) _ _ _ (omega arith))
 
 pub find_spec : {M : Type 1} → statement M
 find_spec =

@@ -5,8 +5,8 @@ use mathlib.Core.Path.{◌≡◌, refl, sym, ap, ◌∙◌}
 use native.Mathlib.Omega.{arith}
 use borrow.Author.Tests.{not-true}
 use Rattle.layout.specs.Lists.{within}
-use Rattle.layout.specs.Walks.Names.{mayHold}
-use Rattle.layout.specs.Walks.Slots.{entry_at, entryNamed, slotIn}
+use Rattle.layout.specs.Walks.Names.{may_hold}
+use Rattle.layout.specs.Walks.Slots.{entry_at, entry_named, slot_in}
 use Rattle.layout.proofs.Laws.Lists.{lowest-here, lowest-next, lowest-zero}
 use Rattle.layout.proofs.Walks.Slots.{none-in-block}
 use Rattle.layout.proofs.directory.find_in.Statement.{statement}
@@ -14,7 +14,7 @@ use Rattle.layout.proofs.directory.find_in.Tie as tie
 
 abbrev invariant-loop : tie.invariant-loop
 invariant-loop image b k j lo hi name w at₀ left₀ at left =
-    (k ≤ at) × (at + left ≡ k + j) × (slotIn (entryNamed (within lo hi) image name) b k j ≡ slotIn (entryNamed (within lo hi) image name) b at left)
+    (k ≤ at) × (at + left ≡ k + j) × (slot_in (entry_named (within lo hi) image name) b k j ≡ slot_in (entry_named (within lo hi) image name) b at left)
 
 abbrev decreases-loop : tie.decreases-loop
 decreases-loop image b k j lo hi name w at₀ left₀ at left = left
@@ -30,8 +30,8 @@ returns c =
     let o = c.before.before.before.before.before in
     let a = o.args in
     let f : c.before.may-hold.result ≡ false = not-true _ c.if1.true in
-    let none = sym f ∙ c.before.may-hold.ensures ∙ ap (λ (s : List ℕ). mayHold s a.name.now) c.before.before.block.ensures.0 in
-    sym (lowest-zero (λ x. entryNamed (within a.lo a.hi) a.image.now a.name.now (entry_at a.b x)) a.k a.j o.requires.2
+    let none = sym f ∙ c.before.may-hold.ensures ∙ ap (λ (s : List ℕ). may_hold s a.name.now) c.before.before.block.ensures.0 in
+    sym (lowest-zero (λ x. entry_named (within a.lo a.hi) a.image.now a.name.now (entry_at a.b x)) a.k a.j o.requires.2
     (λ i g l. none-in-block (within a.lo a.hi) a.image.now a.name.now a.b i o.requires.0 o.requires.3 none))
 
 loop-holds : tie.Need-loop-init invariant-loop decreases-loop
@@ -44,7 +44,7 @@ returns-2 : tie.Need-returns-2 invariant-loop decreases-loop
 returns-2 c =
     let l = c.before.before.before.loop in
     let a = c.before.before.before.before.before.before.before.before.before.args in
-    sym (l.invariant.2 ∙ lowest-here (λ x. entryNamed (within a.lo a.hi) a.image.now a.name.now (entry_at a.b x)) l.at l.left
+    sym (l.invariant.2 ∙ lowest-here (λ x. entry_named (within a.lo a.hi) a.image.now a.name.now (entry_at a.b x)) l.at l.left
     (omega arith) (sym c.if2.true ∙ c.before.holds_at.ensures))
 
 add_at : tie.Need-overflow-add-at invariant-loop decreases-loop
@@ -62,7 +62,7 @@ loop-again c =
     let a = c.before.before.before.before.before.before.before.before.before.args in (
       omega arith,
       omega arith,
-      l.invariant.2 ∙ lowest-next (λ x. entryNamed (within a.lo a.hi) a.image.now a.name.now (entry_at a.b x)) l.at l.left
+      l.invariant.2 ∙ lowest-next (λ x. entry_named (within a.lo a.hi) a.image.now a.name.now (entry_at a.b x)) l.at l.left
           (omega arith) (sym c.if2.false ∙ c.before.holds_at.ensures),
     )
 
@@ -71,7 +71,7 @@ returns-3 c =
     let l = c.before.loop in
     let a = c.before.before.before.before.before.before.before.args in
     let z : l.left ≡ 0 = omega arith in
-    sym (l.invariant.2 ∙ ap (λ (j : ℕ). slotIn (entryNamed (within a.lo a.hi) a.image.now a.name.now) a.b l.at j) z)
+    sym (l.invariant.2 ∙ ap (λ (j : ℕ). slot_in (entry_named (within a.lo a.hi) a.image.now a.name.now) a.b l.at j) z)
 
 pub find-in-spec : {M : Type 1} → statement M
 find-in-spec =

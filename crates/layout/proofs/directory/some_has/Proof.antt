@@ -1,5 +1,5 @@
 use borrow.Author.Rules.{rules}
-use Rattle.layout.specs.Walks.Names.{someHas}
+use Rattle.layout.specs.Walks.Names.{some_has}
 use Rattle.layout.proofs.directory.some_has.Statement.{statement}
 use Rattle.layout.proofs.directory.some_has.Tie as tie
 
@@ -25,7 +25,7 @@ word-requires-4 : tie.Need-word-requires-4
 word-requires-4 c κs = search rules
 
 returns : tie.Need-returns
-unfolding someHas
+unfolding some_has
 returns c = rw (← c.before.before.before.word.ensures, ← c.before.before.word2.ensures, ← c.before.word3.ensures, ← c.word4.ensures)
 
 pub some-has-spec : {M : Type 1} → statement M

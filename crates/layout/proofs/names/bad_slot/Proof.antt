@@ -5,8 +5,8 @@ use native.Mathlib.Omega.{arith}
 use borrow.Author.Tests.{not-true, not-false}
 use Rattle.layout.specs.Table.{next, chain}
 use Rattle.layout.specs.Walks.Slots.{Place, entry_at}
-use Rattle.layout.specs.Walks.Names.{badFrom, Noted, Filtered}
-use Rattle.layout.proofs.Walks.Fingerprints.{slot-in, noted-none, filtered-none, badFrom-end, badFrom-wrong, badFrom-taken, badFrom-next}
+use Rattle.layout.specs.Walks.Names.{bad_from, Noted, Filtered}
+use Rattle.layout.proofs.Walks.Fingerprints.{slot-in, noted-none, filtered-none, bad_from-end, bad_from-wrong, bad_from-taken, bad_from-next}
 use Rattle.layout.proofs.Walks.Slots.{place-below, place-entry, place-then, place-first}
 use Rattle.layout.proofs.names.bad_slot.Statement.{statement}
 use Rattle.layout.proofs.names.bad_slot.Tie as tie
@@ -14,7 +14,7 @@ use Rattle.layout.proofs.names.bad_slot.Tie as tie
 abbrev invariant-loop : tie.invariant-loop
 invariant-loop image n first d prints₀ places₀ seen₀ mark b₀ k₀ left₀ prints places seen b k left =
     (1 ≤ k) × (Place (chain (next image) first d) d b k left) × (Noted image (chain (next image) first d) prints places k) × (Filtered image (chain (next image) first d) seen mark k)
-    × (badFrom image (chain (next image) first d) 1 (4 * d - 2) ≡ badFrom image (chain (next image) first d) k left)
+    × (bad_from image (chain (next image) first d) 1 (4 * d - 2) ≡ bad_from image (chain (next image) first d) k left)
 
 abbrev decreases-loop : tie.decreases-loop
 decreases-loop image n first d prints₀ places₀ seen₀ mark b₀ k₀ left₀ prints places seen b k left = left
@@ -56,7 +56,7 @@ returns : tie.Need-returns invariant-loop decreases-loop
 returns c =
     let l = c.before.before.before.loop in
     let t : c.before.slot-ok-at.result ≡ false = not-true _ c.if1.true in
-    sym (l.invariant.4 ∙ badFrom-wrong _ _ _ _ (entry_at l.b l.k) (place-entry _ _ _ _ _ l.invariant.1) (omega arith) (sym t ∙ c.before.slot-ok-at.ensures))
+    sym (l.invariant.4 ∙ bad_from-wrong _ _ _ _ (entry_at l.b l.k) (place-entry _ _ _ _ _ l.invariant.1) (omega arith) (sym t ∙ c.before.slot-ok-at.ensures))
 
 is-new-requires : tie.Need-is-new-requires invariant-loop decreases-loop
 is-new-requires c κs =
@@ -82,7 +82,7 @@ returns-2 c =
     let l = g.before.before.loop in
     let t : g.slot-ok-at.result ≡ true = not-false _ i.before.before.before.before.if1.false in
     let u : i.is-new.result ≡ false = not-true _ c.if2.true in
-    sym (l.invariant.4 ∙ badFrom-taken _ _ _ _ (entry_at l.b l.k) (place-entry _ _ _ _ _ l.invariant.1) (omega arith) (sym t ∙ g.slot-ok-at.ensures) (sym u ∙ i.is-new.ensures.0))
+    sym (l.invariant.4 ∙ bad_from-taken _ _ _ _ (entry_at l.b l.k) (place-entry _ _ _ _ _ l.invariant.1) (omega arith) (sym t ∙ g.slot-ok-at.ensures) (sym u ∙ i.is-new.ensures.0))
 
 add-k : tie.Need-overflow-add-k invariant-loop decreases-loop
 add-k c = omega (arith, c.before.before.before.before.before.before.before.before.before.before.before.before.before.before.loop.invariant.1.left, c.before.before.before.before.before.before.before.before.before.before.before.before.before.before.before.before.before.before.before.requires.0.blocks)
@@ -112,7 +112,7 @@ loop-again c =
       place-then _ _ _ _ _ _ _ l.invariant.1 (omega arith) c.following.ensures,
       i.is-new.ensures.1,
       i.is-new.ensures.2,
-      l.invariant.4 ∙ badFrom-next _ _ _ _ (entry_at l.b l.k) at (omega arith) (sym t ∙ g.slot-ok-at.ensures) (sym u ∙ i.is-new.ensures.0),
+      l.invariant.4 ∙ bad_from-next _ _ _ _ (entry_at l.b l.k) at (omega arith) (sym t ∙ g.slot-ok-at.ensures) (sym u ∙ i.is-new.ensures.0),
     )
 
 same-length-7 : tie.Need-same-length-7 invariant-loop decreases-loop
@@ -127,7 +127,7 @@ same-length-9 c = omega (arith, c.before.loop.invariant.3.room, c.before.before.
 returns-3 : tie.Need-returns-3 invariant-loop decreases-loop
 returns-3 c =
     let l = c.before.loop in
-    badFrom-end _ _ _ _ (omega arith) ∙ sym l.invariant.4
+    bad_from-end _ _ _ _ (omega arith) ∙ sym l.invariant.4
 
 pub bad-slot-spec : {M : Type 1} → statement M
 bad-slot-spec =

@@ -1,7 +1,7 @@
 use mathlib.Core.Bool.{false, not}
 use mathlib.Core.Path.{sym, ap, ◌∙◌}
 use Rattle.layout.specs.Walks.Names.{fingerprint, Used}
-use Rattle.layout.proofs.Walks.Fingerprints.{field-long, others-unmarked, newName-free, newName-used, noted-free, noted-kept, noted-own, noted-used, filtered-free, filtered-marked, filtered-new}
+use Rattle.layout.proofs.Walks.Fingerprints.{field-long, others-unmarked, new_name-free, new_name-used, noted-free, noted-kept, noted-own, noted-used, filtered-free, filtered-marked, filtered-new}
 use borrow.Author.Rules.{rules}
 use Rattle.layout.proofs.names.is_new.Statement.{statement}
 use Rattle.layout.proofs.names.is_new.Tie as tie
@@ -22,7 +22,7 @@ returns : tie.Need-returns
 returns c =
     let p = c.before.before.before.before.before.before.requires in
     let t = c.before.type_at.ensures in
-    (newName-free _ _ _ _ p.2 _ t c.if1.true, noted-free _ _ _ _ p.2 p.3 _ _ p.0 _ t c.if1.true, filtered-free _ _ _ _ p.2 p.3 _ _ p.1 _ t c.if1.true)
+    (new_name-free _ _ _ _ p.2 _ t c.if1.true, noted-free _ _ _ _ p.2 p.3 _ _ p.0 _ t c.if1.true, filtered-free _ _ _ _ p.2 p.3 _ _ p.1 _ t c.if1.true)
 
 field-at-requires : tie.Need-field-at-requires
 field-at-requires c κs = search rules
@@ -61,7 +61,7 @@ returns-2 c =
     let v = c.before.before.fingerprint.ensures ∙ ap fingerprint c.before.before.before.field_at.ensures in
     let mine : Used _ _ = record { right = p.3; used = λ u. z.if1.false (t ∙ u) } in
     let none = others-unmarked _ _ _ _ _ p.0 _ mine _ _ _ p.1 p.2.low v c.if2.true in (
-      newName-used _ _ _ _ p.2 _ t z.if1.false false (ap not (sym none)),
+      new_name-used _ _ _ _ p.2 _ t z.if1.false false (ap not (sym none)),
       noted-used _ _ _ _ p.2 p.3 _ _ p.0 _ v,
       filtered-new _ _ _ _ p.2 p.3 _ _ p.1 _ v,
     )
@@ -85,7 +85,7 @@ returns-3 c =
     let z = c.before.before.before.before.before.before.before in
     let p = z.before.before.before.before.before.before.requires in
     let v = c.before.before.before.before.before.fingerprint.ensures ∙ ap fingerprint c.before.before.before.before.before.before.field_at.ensures in (
-      newName-used _ _ _ _ p.2 _ z.before.type_at.ensures z.if1.false _ c.name_in.ensures,
+      new_name-used _ _ _ _ p.2 _ z.before.type_at.ensures z.if1.false _ c.name_in.ensures,
       noted-used _ _ _ _ p.2 p.3 _ _ p.0 _ v,
       filtered-marked _ _ _ _ p.2 p.3 _ _ p.1 _ v c.before.before.before.if2.false,
     )

@@ -5,7 +5,7 @@ use native.Mathlib.Omega.{arith}
 use lib.ListN.{get_or}
 use Rattle.layout.specs.Table.{next, chain}
 use Rattle.layout.specs.Walks.Slots.{entry_at}
-use Rattle.layout.specs.Walks.Names.{otherNames}
+use Rattle.layout.specs.Walks.Names.{other_names}
 use Rattle.layout.proofs.Walks.Fingerprints.{others-nearest, others-end, others-next, others-stop, said-no, said-yes}
 use Rattle.layout.proofs.names.name_in.Statement.{statement}
 use Rattle.layout.proofs.names.name_in.Tie as tie
@@ -13,7 +13,7 @@ use Rattle.layout.proofs.names.name_in.Tie as tie
 abbrev invariant-loop : tie.invariant-loop
 invariant-loop image first d b k prints places p i₀ i =
     (1 ≤ i) × (i ≤ k) × (p ≡ get_or prints k 0) ×
-    (otherNames image (chain (next image) first d) (entry_at b k) 1 (k - 1) ≡ otherNames image (chain (next image) first d) (entry_at b k) i (k - i))
+    (other_names image (chain (next image) first d) (entry_at b k) 1 (k - 1) ≡ other_names image (chain (next image) first d) (entry_at b k) i (k - i))
 
 abbrev decreases-loop : tie.decreases-loop
 decreases-loop image first d b k prints places p i₀ i = k - i
@@ -79,7 +79,7 @@ loop-again c =
       l.invariant.2,
       l.invariant.3
           ∙ others-next _ _ _ l.i _ e q.place (omega arith) (said-no _ (sym c.before.if1.false ∙ c.before.before.same_names.ensures))
-          ∙ ap (otherNames a.image.now ds (entry_at a.b a.k) (l.i + 1)) j
+          ∙ ap (other_names a.image.now ds (entry_at a.b a.k) (l.i + 1)) j
           ∙ others-nearest _ _ _ _ _ o.requires.0 _ o.requires.2 _ (l.i + 1) _ (l.invariant.2 ∙ o.requires.3) (omega arith) (omega arith) r,
     )
 

@@ -1,4 +1,4 @@
-use Rattle.layout.specs.Looks.{entryFields}
+use Rattle.layout.specs.Looks.{entry_fields}
 use borrow.Author.Rules.{rules}
 use Rattle.layout.proofs.overview.entry_fields.Statement.{statement}
 use Rattle.layout.proofs.overview.entry_fields.Tie as tie
@@ -43,7 +43,7 @@ word-at-requires-6 : tie.Need-word-at-requires-6
 word-at-requires-6 c κs = search rules
 
 returns : tie.Need-returns
-unfolding entryFields
+unfolding entry_fields
 returns c =
     rw (c.word-at6.ensures, c.before.word-at5.ensures, c.before.before.word-at4.ensures, c.before.before.before.word-at3.ensures, c.before.before.before.before.word-at2.ensures, c.before.before.before.before.before.time-at2.ensures, c.before.before.before.before.before.before.time-at.ensures, c.before.before.before.before.before.before.before.word_at.ensures, c.before.before.before.before.before.before.before.before.byte-at3.ensures, c.before.before.before.before.before.before.before.before.before.byte-at2.ensures, c.before.before.before.before.before.before.before.before.before.before.byte_at.ensures, c.before.before.before.before.before.before.before.before.before.before.before.type_at.ensures)
 

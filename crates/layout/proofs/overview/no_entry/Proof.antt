@@ -1,10 +1,10 @@
 use mathlib.Core.Path.{refl}
-use Rattle.layout.specs.Looks.{noEntry}
+use Rattle.layout.specs.Looks.{no_entry}
 use Rattle.layout.proofs.overview.no_entry.Statement.{statement}
 use Rattle.layout.proofs.overview.no_entry.Tie as tie
 
 returns : tie.Need-returns
-unfolding noEntry
+unfolding no_entry
 returns c = refl
 
 pub no-entry-spec : {M : Type 1} → statement M

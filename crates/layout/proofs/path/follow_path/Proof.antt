@@ -1,7 +1,7 @@
 use mathlib.Core.Path.{ap, ◌∙◌}
 use native.Mathlib.Omega.{arith}
 use Rattle.layout.specs.Lists.{within}
-use Rattle.layout.specs.Directory.{goodName}
+use Rattle.layout.specs.Directory.{good_name}
 use Rattle.layout.proofs.Walks.Homes.{given-home, path-last, spotted-none, spotted-there}
 use Rattle.layout.proofs.Walks.Paths.{directory-is}
 use Rattle.layout.proofs.Walks.Visits.{self-number, at-below}
@@ -35,7 +35,7 @@ find-requires c κs =
     let e = c.before.before.before.home.ensures in
     let D = given-home a.image.now a.path.now p (λ z. c.before.before.if1.false (e ∙ z)) in
     let d = self-number a.image.now c.before.before.before.home.result _ 12 c.before.number_at.ensures in
-    let g = ap goodName c.last-part.ensures ∙ path-last a.path.now p.good in
+    let g = ap good_name c.last-part.ensures ∙ path-last a.path.now p.good in
     (rw (← e, ← d) at D, g)
 
 returns-2 : tie.Need-returns-2

@@ -8,11 +8,11 @@ use lib.ListN.{length}
 use borrow.Author.Rules.{rules}
 use borrow.Author.Tests.{not-true, not-false}
 use Rattle.layout.specs.Table.{next, chain}
-use Rattle.layout.specs.Walks.Names.{badFrom, NoteRoom}
+use Rattle.layout.specs.Walks.Names.{bad_from, NoteRoom}
 use Rattle.layout.specs.Walks.Slots.{Place, entry_at}
-use Rattle.layout.specs.Walks.Stages.{walkSlots, walkChild}
+use Rattle.layout.specs.Walks.Stages.{walk_slots, walk_child}
 use Rattle.layout.proofs.Walks.Slots.{place-below, place-entry, place-then, place-first}
-use Rattle.layout.proofs.Walks.Visits.{walkEntry-other, walkEntry-child, walkSlots-end, walkSlots-bad, bad-next, walkSlots-next, walkSlots-stop, walkEntries-end, walkEntries-slots, walkChild-none, walkChild-refused, walkChild-down, followChild-right, directory-at}
+use Rattle.layout.proofs.Walks.Visits.{walk_entry-other, walk_entry-child, walk_slots-end, walk_slots-bad, bad-next, walk_slots-next, walk_slots-stop, walk_entries-end, walk_entries-slots, walk_child-none, walk_child-refused, walk_child-down, follow_child-right, directory-at}
 use Prim.Native.Nat.{ℕ, ◌<◌}
 use borrow.Fn.Kinds.{In}
 use borrow.Fn.PlainCycle.{Measures, is, falls, and}
@@ -52,9 +52,9 @@ entry-check-below t = and 5 entry-check-kinds.ps (falls 5 entry-check-kinds.ps �
 
 abbrev directory-check-Inv-loop : directory-check-lts.invariant-loop
 directory-check-Inv-loop image t n b d left prints₀ places₀ seen₀ marks₀ bad at₀ k₀ slots₀ prints places seen marks at k slots =
-    (length marks ≡ length marks₀) × (Place (chain (next image) b d) d at k slots) × (bad ≡ badFrom image (chain (next image) b d) k slots) ×
-    (walkSlots (walkChild left image n b) image (chain (next image) b d) 1 (4 * d - 2) marks₀
-    ≡ walkSlots (walkChild left image n b) image (chain (next image) b d) k slots marks) × (NoteRoom prints places seen)
+    (length marks ≡ length marks₀) × (Place (chain (next image) b d) d at k slots) × (bad ≡ bad_from image (chain (next image) b d) k slots) ×
+    (walk_slots (walk_child left image n b) image (chain (next image) b d) 1 (4 * d - 2) marks₀
+    ≡ walk_slots (walk_child left image n b) image (chain (next image) b d) k slots marks) × (NoteRoom prints places seen)
 
 abbrev directory-check-μ-loop : directory-check-lts.decreases-loop
 directory-check-μ-loop image t n b d left prints₀ places₀ seen₀ marks₀ bad at₀ k₀ slots₀ prints places seen marks at k slots = slots
@@ -67,7 +67,7 @@ module _ (t : ℕ) where
   directory-check-end-type-requires c κs = c.before.before.before.before.before.requires.1.1
 
   directory-check-returns : directory-check-lts.Need-returns claims-directory-check (directory-check-at t) directory-check.Post directory-check-Inv-loop directory-check-μ-loop
-  directory-check-returns c = sym (walkEntries-end _ _ _ _ _ _ c.before.end-type.ensures c.if1.true)
+  directory-check-returns c = sym (walk_entries-end _ _ _ _ _ _ c.before.end-type.ensures c.if1.true)
 
   directory-check-bad-slot-requires : directory-check-lts.Need-bad-slot-requires claims-directory-check (directory-check-at t) directory-check.Post directory-check-Inv-loop directory-check-μ-loop
   directory-check-bad-slot-requires c κs = let p = c.before.before.before.before.before.before.before.before.before.before.requires.1 in (p.1, p.3)
@@ -104,8 +104,8 @@ module _ (t : ℕ) where
   directory-check-returns-2 : directory-check-lts.Need-returns-2 claims-directory-check (directory-check-at t) directory-check.Post directory-check-Inv-loop directory-check-μ-loop
   directory-check-returns-2 c =
       let l = c.before.before.loop in
-      sym (walkEntries-slots _ _ _ _ _ _ c.before.before.before.before.before.before.before.before.before.before.before.before.before.before.end-type.ensures (omega (arith, c.before.before.before.before.before.before.before.before.before.before.before.before.before.if1.false)) ∙ l.invariant.3
-      ∙ walkSlots-bad _ _ _ _ _ _ (omega arith) _ l.invariant.2 c.if2.true)
+      sym (walk_entries-slots _ _ _ _ _ _ c.before.before.before.before.before.before.before.before.before.before.before.before.before.before.end-type.ensures (omega (arith, c.before.before.before.before.before.before.before.before.before.before.before.before.before.if1.false)) ∙ l.invariant.3
+      ∙ walk_slots-bad _ _ _ _ _ _ (omega arith) _ l.invariant.2 c.if2.true)
 
   directory-check-entry-check-requires : directory-check-lts.Need-entry-check-requires claims-directory-check (directory-check-at t) directory-check.Post directory-check-Inv-loop directory-check-μ-loop
   directory-check-entry-check-requires c κs =
@@ -129,8 +129,8 @@ module _ (t : ℕ) where
   directory-check-returns-3 c =
       let e = c.before.before.before.before.before.before.before.before.before in
       let l = c.before.before.before.before.before.before.before.before.before.before.before.before.before.before.before.before.loop in
-      sym (walkEntries-slots _ _ _ _ _ _ c.before.before.before.before.before.before.before.before.before.before.before.before.before.before.before.before.before.before.before.before.before.before.before.before.before.before.before.before.end-type.ensures (omega (arith, c.before.before.before.before.before.before.before.before.before.before.before.before.before.before.before.before.before.before.before.before.before.before.before.before.before.before.before.if1.false)) ∙ l.invariant.3
-      ∙ walkSlots-stop _ _ _ _ _ _ (omega arith) _ l.invariant.2 c.before.before.before.before.before.before.before.before.before.before.before.before.before.before.if2.false (entry_at l.at l.k) (place-entry _ _ _ _ _ l.invariant.1) _ _ e.entry-check.ensures c.if3.true)
+      sym (walk_entries-slots _ _ _ _ _ _ c.before.before.before.before.before.before.before.before.before.before.before.before.before.before.before.before.before.before.before.before.before.before.before.before.before.before.before.before.end-type.ensures (omega (arith, c.before.before.before.before.before.before.before.before.before.before.before.before.before.before.before.before.before.before.before.before.before.before.before.before.before.before.before.if1.false)) ∙ l.invariant.3
+      ∙ walk_slots-stop _ _ _ _ _ _ (omega arith) _ l.invariant.2 c.before.before.before.before.before.before.before.before.before.before.before.before.before.before.if2.false (entry_at l.at l.k) (place-entry _ _ _ _ _ l.invariant.1) _ _ e.entry-check.ensures c.if3.true)
 
   directory-check-add-k : directory-check-lts.Need-overflow-add-k claims-directory-check (directory-check-at t) directory-check.Post directory-check-Inv-loop directory-check-μ-loop
   directory-check-add-k c = let d = c.before.before.before.before.before.before.before.before.before.before.before.before.before.before.before.before.before.before.before.before.before.before.before.before.before.before.before.before.before.before.before.before.before.before.requires.1.1.blocks in omega (arith, c.before.before.before.before.before.before.before.before.before.before.before.before.before.before.before.before.loop.invariant.1.left, d)
@@ -154,8 +154,8 @@ module _ (t : ℕ) where
       let a = c.before.before.before.before.before.before.before.before.before.before.before.before.before.before.before.before.before.before.before.before.before.before.before.before.before.before.before.before.before.before.before.before.before.before.before.args in (
         omega arith,
         place-then _ _ _ _ _ _ _ l.invariant.1 (omega arith) c.following.ensures,
-        bad-next (walkChild a.left a.image.now a.n a.b) _ _ _ _ l.marks (omega arith) _ l.invariant.2 c.before.before.before.before.before.before.before.before.before.before.before.before.before.before.before.if2.false,
-        l.invariant.3 ∙ walkSlots-next _ _ _ _ _ _ (omega arith) _ l.invariant.2 c.before.before.before.before.before.before.before.before.before.before.before.before.before.before.before.if2.false (entry_at l.at l.k) (place-entry _ _ _ _ _ l.invariant.1) _ _ c.before.before.before.before.before.before.before.before.before.before.entry-check.ensures (omega (arith, c.before.if3.false)),
+        bad-next (walk_child a.left a.image.now a.n a.b) _ _ _ _ l.marks (omega arith) _ l.invariant.2 c.before.before.before.before.before.before.before.before.before.before.before.before.before.before.before.if2.false,
+        l.invariant.3 ∙ walk_slots-next _ _ _ _ _ _ (omega arith) _ l.invariant.2 c.before.before.before.before.before.before.before.before.before.before.before.before.before.before.before.if2.false (entry_at l.at l.k) (place-entry _ _ _ _ _ l.invariant.1) _ _ c.before.before.before.before.before.before.before.before.before.before.entry-check.ensures (omega (arith, c.before.if3.false)),
         record { prints-room = omega (arith, l.invariant.4.prints-room); places-room = omega (arith, l.invariant.4.places-room); seen-room = omega (arith, l.invariant.4.seen-room) },
       )
 
@@ -174,7 +174,7 @@ module _ (t : ℕ) where
   directory-check-returns-4 : directory-check-lts.Need-returns-4 claims-directory-check (directory-check-at t) directory-check.Post directory-check-Inv-loop directory-check-μ-loop
   directory-check-returns-4 c =
       let l = c.before.loop in
-      sym (walkEntries-slots _ _ _ _ _ _ c.before.before.before.before.before.before.before.before.before.before.before.before.before.end-type.ensures (omega (arith, c.before.before.before.before.before.before.before.before.before.before.before.before.if1.false)) ∙ l.invariant.3 ∙ walkSlots-end _ _ _ _ _ _ (omega arith))
+      sym (walk_entries-slots _ _ _ _ _ _ c.before.before.before.before.before.before.before.before.before.before.before.before.before.end-type.ensures (omega (arith, c.before.before.before.before.before.before.before.before.before.before.before.before.if1.false)) ∙ l.invariant.3 ∙ walk_slots-end _ _ _ _ _ _ (omega arith))
 
 module _ (t : ℕ) where
   abbrev claims-entry-check : entry-check-lts.Claims
@@ -189,13 +189,13 @@ module _ (t : ℕ) where
   entry-check-returns : entry-check-lts.Need-returns claims-entry-check (entry-check-at t) entry-check.Post
   entry-check-returns c =
       let t : c.before.is-directory.result ≡ false = not-true _ c.if1.true in
-      walkEntry-other _ _ _ _ _ c.before.before.type_at.ensures (sym t ∙ c.before.is-directory.ensures)
+      walk_entry-other _ _ _ _ _ c.before.before.type_at.ensures (sym t ∙ c.before.is-directory.ensures)
 
   entry-check-returns-2 : entry-check-lts.Need-returns-2 claims-entry-check (entry-check-at t) entry-check.Post
   entry-check-returns-2 c =
       let a = c.before.before.before.before.before.before.before.before.before.args in
       let t : c.before.before.is-directory.result ≡ true = not-false _ c.before.if1.false in
-      sym (walkChild-none _ _ _ _ _ _ c.if2.true) ∙ walkEntry-child (walkChild a.left a.image.now a.n a.b) _ _ _ _ c.before.before.before.type_at.ensures (sym t ∙ c.before.before.is-directory.ensures)
+      sym (walk_child-none _ _ _ _ _ _ c.if2.true) ∙ walk_entry-child (walk_child a.left a.image.now a.n a.b) _ _ _ _ c.before.before.before.type_at.ensures (sym t ∙ c.before.before.is-directory.ensures)
 
   entry-check-child-ok-requires : entry-check-lts.Need-child-ok-requires claims-entry-check (entry-check-at t) entry-check.Post
   entry-check-child-ok-requires c κs = let p = c.before.before.before.before.before.before.before.before.before.before.requires.1 in (p.0, p.1)
@@ -209,8 +209,8 @@ module _ (t : ℕ) where
       let d = c.before.before.before.before.before.before.before in
       let t : d.is-directory.result ≡ true = not-false _ c.before.before.before.before.before.before.if1.false in
       let u : c.before.before.before.child-ok.result ≡ false = not-true _ c.if3.true in
-      sym (walkChild-refused a.left _ _ a.b _ _ (omega (arith, c.before.before.before.before.before.if2.false)) _ (rw u at c.before.before.before.child-ok.ensures))
-      ∙ walkEntry-child (walkChild a.left a.image.now a.n a.b) _ _ _ _ d.before.type_at.ensures (sym t ∙ d.is-directory.ensures)
+      sym (walk_child-refused a.left _ _ a.b _ _ (omega (arith, c.before.before.before.before.before.if2.false)) _ (rw u at c.before.before.before.child-ok.ensures))
+      ∙ walk_entry-child (walk_child a.left a.image.now a.n a.b) _ _ _ _ d.before.type_at.ensures (sym t ∙ d.is-directory.ensures)
 
   entry-check-number-at-requires : entry-check-lts.Need-number-at-requires claims-entry-check (entry-check-at t) entry-check.Post
   entry-check-number-at-requires c κs = let p = c.before.before.before.before.before.before.before.before.before.before.before.before.before.before.requires.1 in (omega arith, omega arith)
@@ -220,7 +220,7 @@ module _ (t : ℕ) where
       let a = c.before.before.before.before.before.before.before.before.before.before.before.before.before.before.before.args in
       let k = c.before.before.before.before in
       let u : k.child-ok.result ≡ true = not-false _ c.before.if3.false in
-      let r = followChild-right a.image.now _ a.b _ a.marks.now _ (rw u at k.child-ok.ensures) in
+      let r = follow_child-right a.image.now _ a.b _ a.marks.now _ (rw u at k.child-ok.ensures) in
       let h = r.inside in
       let w = c.before.before.before.before.before.before.before.before.before.before.before.before.before.before.before.requires.1.0.shape in
       (omega (arith, h, w, c.number_at.ensures), omega arith)
@@ -235,7 +235,7 @@ module _ (t : ℕ) where
       let k = c.before.before.before.before.before.before.before.before.before in
       let m = c.before.before.before.before.before in
       let u : k.child-ok.result ≡ true = not-false _ c.before.before.before.before.before.before.if3.false in
-      let r = followChild-right a.image.now _ a.b _ a.marks.now _ (rw u at k.child-ok.ensures) in
+      let r = follow_child-right a.image.now _ a.b _ a.marks.now _ (rw u at k.child-ok.ensures) in
       let e = m.number_at.ensures in (
         omega (arith, c.before.before.before.before.before.before.before.before.before.before.before.if2.false, c.before.before.before.before.before.before.before.before.before.before.before.before.before.before.before.before.before.before.before.before.requires.0),
         (
@@ -266,8 +266,8 @@ module _ (t : ℕ) where
       let t : d.is-directory.result ≡ true = not-false _ c.before.before.before.before.before.before.before.before.before.before.before.before.before.before.before.before.before.before.before.before.before.if1.false in
       let u : k.child-ok.result ≡ true = not-false _ c.before.before.before.before.before.before.before.before.before.before.before.before.before.before.before.if3.false in
       c.before.before.before.before.before.before.before.before.directory-check.ensures
-      ∙ sym (walkChild-down a.left _ _ a.b _ _ (omega (arith, c.before.before.before.before.before.before.before.before.before.before.before.before.before.before.before.before.before.before.before.before.if2.false)) _ (rw u at k.child-ok.ensures) _ _ c.before.before.before.before.before.before.before.before.before.before.before.before.before.before.number_at.ensures c.before.before.before.before.before.before.before.before.before.before.before.before.before.number-at2.ensures)
-      ∙ walkEntry-child (walkChild a.left a.image.now a.n a.b) _ _ _ _ d.before.type_at.ensures (sym t ∙ d.is-directory.ensures)
+      ∙ sym (walk_child-down a.left _ _ a.b _ _ (omega (arith, c.before.before.before.before.before.before.before.before.before.before.before.before.before.before.before.before.before.before.before.before.if2.false)) _ (rw u at k.child-ok.ensures) _ _ c.before.before.before.before.before.before.before.before.before.before.before.before.before.before.number_at.ensures c.before.before.before.before.before.before.before.before.before.before.before.before.before.number-at2.ensures)
+      ∙ walk_entry-child (walk_child a.left a.image.now a.n a.b) _ _ _ _ d.before.type_at.ensures (sym t ∙ d.is-directory.ensures)
 
 pub +directory-check-entry-check-spec : {M : Type 1} → statement M
 +directory-check-entry-check-spec =

@@ -3,7 +3,7 @@ use mathlib.Core.Bool.{true, false}
 use mathlib.Core.Path.{◌≡◌, sym, ◌∙◌}
 use native.Mathlib.Omega.{arith}
 use borrow.Author.Tests.{not-true, not-false}
-use Rattle.layout.proofs.Walks.Visits.{walkRoot-refused, walkRoot-down, directory-at}
+use Rattle.layout.proofs.Walks.Visits.{walk_root-refused, walk_root-down, directory-at}
 use borrow.Author.Rules.{rules}
 use Rattle.layout.proofs.visit.visit_with.Statement.{statement}
 use Rattle.layout.proofs.visit.visit_with.Tie as tie
@@ -22,7 +22,7 @@ returns c =
     let a = c.before.before.before.before.before.before.before.before.before.before.args in
     let p = c.before.before.before.before.before.before.before.before.before.before.requires.0 in
     let t : c.before.before.before.directory-ok.result ≡ false = not-true _ c.if1.true in
-    sym (walkRoot-refused a.image.now a.n a.marks.now _ (rw (t, p.table) at c.before.before.before.directory-ok.ensures))
+    sym (walk_root-refused a.image.now a.n a.marks.now _ (rw (t, p.table) at c.before.before.before.directory-ok.ensures))
 
 number-at-requires : tie.Need-number-at-requires
 number-at-requires c κs = let p = c.before.before.before.before.before.before.before.before.before.before.requires.0 in (omega (arith, p.shape, p.table), omega arith)
@@ -58,7 +58,7 @@ returns-2 c =
     let k = c.before.before.before.before.before.before.before.before.before.before.before.before.before.before.before.before.before in
     let t : k.directory-ok.result ≡ true = not-false _ c.before.before.before.before.before.before.before.before.before.before.before.before.before.before.if1.false in
     rw p.table at c.before.before.before.before.before.before.before.before.directory-check.ensures
-    ∙ sym (walkRoot-down a.image.now a.n a.marks.now _ (rw (t, p.table) at k.directory-ok.ensures) _ (rw p.table at c.before.before.before.before.before.before.before.before.before.before.before.before.before.number_at.ensures))
+    ∙ sym (walk_root-down a.image.now a.n a.marks.now _ (rw (t, p.table) at k.directory-ok.ensures) _ (rw p.table at c.before.before.before.before.before.before.before.before.before.before.before.before.before.number_at.ensures))
 
 pub visit-with-spec : {M : Type 1} → statement M
 visit-with-spec =

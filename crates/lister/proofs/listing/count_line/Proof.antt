@@ -3,27 +3,27 @@ use mathlib.Core.Path.{refl, ◌∙◌}
 use mathlib.Core.List.{List, [], ◌∷◌, ◌++◌}
 use Prim.Native.Nat.{ℕ}
 use native.Mathlib.Omega.{arith}
-use Rattle.layout.specs.Geometry.{blockCount}
-use Rattle.layout.specs.Listing.{decimal, countLine}
+use Rattle.layout.specs.Geometry.{block_count}
+use Rattle.layout.specs.Listing.{decimal, count_line}
 use Rattle.lister.proofs.Pieces.{Pending, begin, room, more, last}
-use Rattle.lister.proofs.Lines.{afterTotal, afterUsed, count-pieces}
+use Rattle.lister.proofs.Lines.{after_total, after_used, count-pieces}
 use borrow.Author.Rules.{rules}
 use Rattle.lister.proofs.listing.count_line.Statement.{statement}
 use Rattle.lister.proofs.listing.count_line.Tie as tie
 
 abbrev Rest : tie.After-header-number2 → List ℕ → ℕ → List ℕ → Type 0
-Rest c out p rest = let a = c.before.before.before.before.args in Pending a.out.now 0 (countLine a.image.now) out p rest
+Rest c out p rest = let a = c.before.before.before.before.args in Pending a.out.now 0 (count_line a.image.now) out p rest
 
-l₀ : (c : tie.After-header-number2) → let a = c.before.before.before.before.args in Rest c a.out.now 0 (((98 ∷ 108 ∷ 111 ∷ 99 ∷ 107 ∷ 115 ∷ 32 ∷ []) ++ decimal (blockCount a.image.now)) ++ afterTotal c.before.header-number.result c.header-number2.result)
+l₀ : (c : tie.After-header-number2) → let a = c.before.before.before.before.args in Rest c a.out.now 0 (((98 ∷ 108 ∷ 111 ∷ 99 ∷ 107 ∷ 115 ∷ 32 ∷ []) ++ decimal (block_count a.image.now)) ++ after_total c.before.header-number.result c.header-number2.result)
 l₀ c =
     let a = c.before.before.before.before.args in
-    begin a.out.now 0 (countLine a.image.now) _ (omega (arith, c.before.before.before.before.requires.1))
+    begin a.out.now 0 (count_line a.image.now) _ (omega (arith, c.before.before.before.before.requires.1))
     (count-pieces a.image.now _ _ c.before.header-number.ensures c.header-number2.ensures)
 
-l₁ : (c : tie.After-put-labelled) → let d = c.before.before.before in Rest d c.put-labelled.new.0 c.put-labelled.result (afterTotal d.before.header-number.result d.header-number2.result)
+l₁ : (c : tie.After-put-labelled) → let d = c.before.before.before in Rest d c.put-labelled.new.0 c.put-labelled.result (after_total d.before.header-number.result d.header-number2.result)
 l₁ c = more (l₀ c.before.before.before) c.put-labelled.ensures _ refl
 
-l₂ : (c : tie.After-put-labelled2) → let d = c.before.before.before.before.before.before.before.before in Rest d c.put-labelled2.new.0 c.put-labelled2.result (afterUsed d.header-number2.result)
+l₂ : (c : tie.After-put-labelled2) → let d = c.before.before.before.before.before.before.before.before in Rest d c.put-labelled2.new.0 c.put-labelled2.result (after_used d.header-number2.result)
 l₂ c = more (l₁ c.before.before.before.before.before) c.put-labelled2.ensures _ refl
 
 l₃ : (c : tie.After-put-labelled3) → let d = c.before.before.before.before.before.before.before.before.before.before.before.before.before in Rest d c.put-labelled3.new.0 c.put-labelled3.result (10 ∷ [])
@@ -41,7 +41,7 @@ slice-aggregate-put-labelled c = search rules
 put-labelled-requires : tie.Need-put-labelled-requires
 put-labelled-requires c κs =
     let a = c.before.before.before.before.before.before.args in
-    room (l₀ c.before.before) ((98 ∷ 108 ∷ 111 ∷ 99 ∷ 107 ∷ 115 ∷ 32 ∷ []) ++ decimal (blockCount a.image.now)) _ refl
+    room (l₀ c.before.before) ((98 ∷ 108 ∷ 111 ∷ 99 ∷ 107 ∷ 115 ∷ 32 ∷ []) ++ decimal (block_count a.image.now)) _ refl
 
 slice-aggregate-put-labelled-2 : tie.Need-slice-aggregate-put-labelled-2
 slice-aggregate-put-labelled-2 c = search rules

@@ -3,9 +3,9 @@ use mathlib.Core.Path.{refl, ◌∙◌}
 use mathlib.Core.List.{List, [], ◌∷◌, ◌++◌}
 use Prim.Native.Nat.{ℕ}
 use Rattle.layout.specs.Directory.{unpadded}
-use Rattle.layout.specs.Listing.{entryLine, decimal, printed}
+use Rattle.layout.specs.Listing.{entry_line, decimal, printed}
 use Rattle.lister.proofs.Pieces.{Pending, begin, room, more, last}
-use Rattle.lister.proofs.Lines.{afterSlot, afterSize, entry-pieces}
+use Rattle.lister.proofs.Lines.{after_slot, after_size, entry-pieces}
 use borrow.Author.Rules.{rules}
 use Rattle.lister.proofs.listing.entry_line.Statement.{statement}
 use Rattle.lister.proofs.listing.entry_line.Tie as tie
@@ -18,18 +18,18 @@ abbrev name : tie.After-field-at → List ℕ
 name c = unpadded c.field_at.result.now
 
 abbrev Rest : tie.After-field-at → List ℕ → ℕ → List ℕ → Type 0
-Rest c out p rest = let a = (start c).args in Pending a.out.now a.at (entryLine a.image.now (entry_at a.b a.k) a.k) out p rest
+Rest c out p rest = let a = (start c).args in Pending a.out.now a.at (entry_line a.image.now (entry_at a.b a.k) a.k) out p rest
 
-l₀ : (c : tie.After-field-at) → Rest c (start c).args.out.now (start c).args.at (decimal (start c).args.k ++ afterSlot c.before.before.number_at.result c.before.number-at2.result (name c))
+l₀ : (c : tie.After-field-at) → Rest c (start c).args.out.now (start c).args.at (decimal (start c).args.k ++ after_slot c.before.before.number_at.result c.before.number-at2.result (name c))
 l₀ c =
     let a = (start c).args in
     begin a.out.now _ _ _ (start c).requires.1
     (entry-pieces a.image.now (entry_at a.b a.k) a.k _ _ _ c.before.before.number_at.ensures c.before.number-at2.ensures c.field_at.ensures)
 
-l₁ : (c : tie.After-put-decimal) → let d = c.before.before in Rest d c.put-decimal.new.0 c.put-decimal.result (afterSlot d.before.before.number_at.result d.before.number-at2.result (name d))
+l₁ : (c : tie.After-put-decimal) → let d = c.before.before in Rest d c.put-decimal.new.0 c.put-decimal.result (after_slot d.before.before.number_at.result d.before.number-at2.result (name d))
 l₁ c = more (l₀ c.before.before) c.put-decimal.ensures _ refl
 
-l₂ : (c : tie.After-put-labelled) → let d = c.before.before.before.before.before.before.before in Rest d c.put-labelled.new.0 c.put-labelled.result (afterSize d.before.number-at2.result (name d))
+l₂ : (c : tie.After-put-labelled) → let d = c.before.before.before.before.before.before.before in Rest d c.put-labelled.new.0 c.put-labelled.result (after_size d.before.number-at2.result (name d))
 l₂ c = more (l₁ c.before.before.before.before.before) c.put-labelled.ensures _ refl
 
 l₃ : (c : tie.After-put-labelled2) → let d = c.before.before.before.before.before.before.before.before.before.before.before.before in Rest d c.put-labelled2.new.0 c.put-labelled2.result ((32 ∷ []) ++ (printed (name d) ++ (10 ∷ [])))

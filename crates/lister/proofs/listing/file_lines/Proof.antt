@@ -2,7 +2,7 @@ use mathlib.Core.Path.{refl}
 use Prim.Native.Nat.{◌+◌, ◌-◌, ◌*◌}
 use native.Mathlib.Omega.{arith}
 use Rattle.layout.specs.Table.{next, chain}
-use Rattle.lister.specs.Text.{slotLine, slotLines}
+use Rattle.lister.specs.Text.{slot_line, slot_lines}
 use Rattle.lister.proofs.Pieces.{Pending, begin, room, more, finish}
 use Rattle.lister.proofs.Lines.{lines_end, lines-turn}
 use Rattle.lister.proofs.listing.file_lines.Statement.{statement}
@@ -11,7 +11,7 @@ use Rattle.layout.specs.Walks.Slots.{Place, entry_at}
 use Rattle.layout.proofs.Walks.Slots.{place-below, place-then, place-first}
 
 abbrev invariant-loop : tie.invariant-loop
-invariant-loop image n first d out₀ at p₀ b₀ k₀ left₀ out p b k left = (Pending out₀ at (slotLines image 1 (4 * d - 2)) out p (slotLines image k left)) × (Place (chain (next image) first d) d b k left)
+invariant-loop image n first d out₀ at p₀ b₀ k₀ left₀ out p b k left = (Pending out₀ at (slot_lines image 1 (4 * d - 2)) out p (slot_lines image k left)) × (Place (chain (next image) first d) d b k left)
 
 abbrev decreases-loop : tie.decreases-loop
 decreases-loop image n first d out₀ at p₀ b₀ k₀ left₀ out p b k left = left
@@ -35,7 +35,7 @@ slot-line-requires c κs =
     let p = c.before.before.before.before.before.requires in
     let h = place-below _ _ _ _ _ _ p.0.blocks l.invariant.1 in (
       omega arith,
-      room l.invariant.0 (slotLine a.image.now (entry_at l.b l.k) l.k) (slotLines a.image.now (l.k + 1) (l.left - 1))
+      room l.invariant.0 (slot_line a.image.now (entry_at l.b l.k) l.k) (slot_lines a.image.now (l.k + 1) (l.left - 1))
           (lines-turn a.image.now l.k l.left a.first a.d l.b p.1 l.invariant.1 (omega arith)),
     )
 

@@ -5,8 +5,8 @@ use Prim.Native.Nat.{ℕ, ◌-◌, ◌*◌}
 use native.Mathlib.Omega.{arith}
 use Rattle.layout.specs.Lists.{joined}
 use Rattle.layout.specs.Directory.{files, root}
-use Rattle.layout.specs.Listing.{fileLine, countLine}
-use Rattle.lister.specs.Text.{slotLines}
+use Rattle.layout.specs.Listing.{file_line, count_line}
+use Rattle.lister.specs.Text.{slot_lines}
 use Rattle.lister.proofs.Pieces.{Pending, begin, room, more, last}
 use Rattle.lister.proofs.Lines.{list-pieces}
 use Rattle.lister.proofs.listing.list.Statement.{statement}
@@ -18,16 +18,16 @@ abbrev Rest : tie.After-number-at → List ℕ → ℕ → List ℕ → Type 0
 Rest c out p rest =
     let a = c.before.before.before.before.args in
     let s = a.image.now in
-    Pending a.out.now 0 (countLine s ++ joined (fileLine s) (files s (root s))) out p rest
+    Pending a.out.now 0 (count_line s ++ joined (file_line s) (files s (root s))) out p rest
 
-l₀ : (c : tie.After-number-at) → let a = c.before.before.before.before.args in Rest c a.out.now 0 (countLine a.image.now ++ slotLines a.image.now 1 (4 * c.number_at.result - 2))
+l₀ : (c : tie.After-number-at) → let a = c.before.before.before.before.args in Rest c a.out.now 0 (count_line a.image.now ++ slot_lines a.image.now 1 (4 * c.number_at.result - 2))
 l₀ c =
     let a = c.before.before.before.before.args in
     let s = a.image.now in
-    begin a.out.now 0 (countLine s ++ joined (fileLine s) (files s (root s))) _ (omega (arith, c.before.before.before.before.requires.1))
+    begin a.out.now 0 (count_line s ++ joined (file_line s) (files s (root s))) _ (omega (arith, c.before.before.before.before.requires.1))
     (list-pieces s c.before.before.before.before.requires.0 _ (rw c.before.root-block.ensures at c.number_at.ensures))
 
-l₁ : (c : tie.After-count-line) → let d = c.before.before in Rest d c.count-line.new.1.0 c.count-line.result (slotLines d.before.before.before.before.args.image.now 1 (4 * d.number_at.result - 2))
+l₁ : (c : tie.After-count-line) → let d = c.before.before in Rest d c.count-line.new.1.0 c.count-line.result (slot_lines d.before.before.before.before.args.image.now 1 (4 * d.number_at.result - 2))
 l₁ c = more (l₀ c.before.before) c.count-line.ensures _ refl
 
 root-block-requires : tie.Need-root-block-requires
@@ -41,7 +41,7 @@ number-at-requires c κs =
 count-line-requires : tie.Need-count-line-requires
 count-line-requires c κs =
     let h = sound-shape c.before.before.before.before.before.args.image.now c.before.before.before.before.before.requires.0 in
-    let l = room (l₀ c.before) (countLine c.before.before.before.before.before.args.image.now) _ refl in
+    let l = room (l₀ c.before) (count_line c.before.before.before.before.before.args.image.now) _ refl in
     (omega arith, omega arith)
 
 file-lines-requires : tie.Need-file-lines-requires

@@ -1,7 +1,7 @@
 use mathlib.Core.Path.{refl, ◌∙◌}
 use mathlib.Core.List.{[], ◌∷◌, ◌++◌}
 use native.Mathlib.Omega.{arith}
-use Rattle.layout.specs.Listing.{decimal, refusedLine}
+use Rattle.layout.specs.Listing.{decimal, refused_line}
 use Rattle.lister.proofs.Pieces.{begin, room, more, last}
 use Rattle.lister.proofs.Lines.{refused-pieces}
 use borrow.Author.Rules.{rules}
@@ -15,7 +15,7 @@ put-labelled-requires : tie.Need-put-labelled-requires
 put-labelled-requires c κs =
     let a = c.before.before.before.args in
     let p = c.before.before.before.requires in
-    room (begin a.out.now 0 (refusedLine a.number) _ (omega (arith, p)) (refused-pieces a.number))
+    room (begin a.out.now 0 (refused_line a.number) _ (omega (arith, p)) (refused-pieces a.number))
     ((114 ∷ 101 ∷ 102 ∷ 117 ∷ 115 ∷ 101 ∷ 100 ∷ 32 ∷ []) ++ decimal a.number) _ refl
 
 put-byte-requires : tie.Need-put-byte-requires
@@ -23,7 +23,7 @@ put-byte-requires c κs =
     let put-labelled = c.before.before.before.put-labelled in
     let a = c.before.before.before.before.before.before.before.args in
     let p = c.before.before.before.before.before.before.before.requires in
-    (more (begin a.out.now 0 (refusedLine a.number) _ (omega (arith, p)) (refused-pieces a.number)) put-labelled.ensures _ refl).fits
+    (more (begin a.out.now 0 (refused_line a.number) _ (omega (arith, p)) (refused-pieces a.number)) put-labelled.ensures _ refl).fits
 
 same_length : tie.Need-same-length
 same_length c = c.before.before.put_byte.auto.0 ∙ c.before.before.before.before.before.before.put-labelled.auto.0
@@ -34,7 +34,7 @@ returns c =
     let put-labelled = c.before.before.before.before.before.before.put-labelled in
     let a = c.before.before.before.before.before.before.before.before.before.before.args in
     let p = c.before.before.before.before.before.before.before.before.before.before.requires in
-    last (more (begin a.out.now 0 (refusedLine a.number) _ (omega (arith, p)) (refused-pieces a.number)) put-labelled.ensures _ refl)
+    last (more (begin a.out.now 0 (refused_line a.number) _ (omega (arith, p)) (refused-pieces a.number)) put-labelled.ensures _ refl)
     put_byte.ensures refl
 
 pub refused-line-spec : {M : Type 1} → statement M

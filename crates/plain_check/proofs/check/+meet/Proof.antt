@@ -5,8 +5,8 @@ use mathlib.Core.Path.{◌≡◌, refl, sym, ap, ◌∙◌}
 use native.Mathlib.Omega.{arith}
 use borrow.Author.Rules.{rules}
 use Rattle.layout.specs.Lists.{interval}
-use Rattle.layout.specs.Directory.{blocksOf, directory}
-use Rattle.plain_check.specs.Plain.{count, meet, meetSlots}
+use Rattle.layout.specs.Directory.{blocks_of, directory}
+use Rattle.plain_check.specs.Plain.{count, meet, meet_slots}
 use Rattle.plain_check.specs.Walks.{word}
 use Rattle.plain_check.proofs.Walks.Slots.{Place, place-first, place-next}
 use Rattle.plain_check.proofs.Walks.Meets.{down, meet-start, meet-end, meet-skip, meet-child, goes_down}
@@ -27,10 +27,10 @@ use Rattle.plain_check.proofs.check.+meet.Tie.{close}
 record Inv (s : List ℕ) (levels b d still before end more held e k : ℕ) : Type 0 where
   low : 2 ≤ k
   few : end ≤ 4 * word
-  whole : end ≡ 4 * blocksOf s (512 * d)
+  whole : end ≡ 4 * blocks_of s (512 * d)
   sums : more + held ≤ still + before
   place : Place s d e (k - 2)
-  equal : meet levels s b d (count still before) ≡ meetSlots (down levels s b) s (directory s d) (interval (k - 1) (end - k)) (count more held)
+  equal : meet levels s b d (count still before) ≡ meet_slots (down levels s b) s (directory s d) (interval (k - 1) (end - k)) (count more held)
 
 abbrev μ-meet : Measures 1 meet-kinds.ps ℕ
 μ-meet κs a = a.1.0

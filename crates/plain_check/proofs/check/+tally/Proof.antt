@@ -5,9 +5,9 @@ use mathlib.Core.Logic.{inl}
 use mathlib.Core.Path.{◌≡◌, refl, ap}
 use native.Mathlib.Omega.{arith}
 use borrow.Author.Rules.{rules}
-use Rattle.layout.specs.Directory.{blocksOf}
+use Rattle.layout.specs.Directory.{blocks_of}
 use Rattle.plain_check.specs.declared.check.Question.{Question}
-use Rattle.plain_check.specs.Plain.{askTree, answer}
+use Rattle.plain_check.specs.Plain.{ask_tree, answer}
 use Rattle.plain_check.specs.Walks.{word}
 use Rattle.plain_check.proofs.Walks.Slots.{Place, place-first, place-next}
 use Rattle.plain_check.proofs.Walks.Tallies.{Sofar, sofar-over, sofar-end, sofar-more, sofar-down, rest, tally-start, rest_end, rest-skip, rest-child, goes_down}
@@ -29,9 +29,9 @@ use Rattle.plain_check.proofs.check.+tally.Tie.{close}
 record Inv (s : List ℕ) (n : ℕ) (q : Question) (levels d before end sum e k : ℕ) : Type 0 where
   low : 2 ≤ k
   few : end ≤ 4 * word
-  whole : end ≡ 4 * blocksOf s (512 * d)
+  whole : end ≡ 4 * blocks_of s (512 * d)
   place : Place s d e (k - 2)
-  sums : Sofar n (before + askTree (answer q s n) levels s d) sum (rest q s n d levels k end)
+  sums : Sofar n (before + ask_tree (answer q s n) levels s d) sum (rest q s n d levels k end)
 
 abbrev μ-tally : Measures 1 tally-kinds.ps ℕ
 μ-tally κs a = a.1.1.1.0

@@ -7,11 +7,11 @@ use native.Mathlib.Omega.{arith}
 use borrow.Author.Rules.{rules}
 use borrow.Author.Tests.{not-true, not-false}
 use Rattle.layout.specs.Lists.{interval}
-use Rattle.layout.specs.Directory.{slot_at, blocksOf, directory}
-use Rattle.layout.specs.Check.{slotOk}
+use Rattle.layout.specs.Directory.{slot_at, blocks_of, directory}
+use Rattle.layout.specs.Check.{slot_ok}
 use Rattle.layout.proofs.Laws.Tests.{and_split}
 use Rattle.layout.proofs.Laws.Trees.{length-directory}
-use Rattle.plain_check.specs.Plain.{tourSlots, tourEntries, tourChild}
+use Rattle.plain_check.specs.Plain.{tour_slots, tour_entries, tour_child}
 use Rattle.plain_check.specs.Walks.{word}
 use Rattle.plain_check.proofs.Walks.Slots.{Place, place-first, place-next}
 use Rattle.plain_check.proofs.Walks.Tallies.{goes_down}
@@ -29,19 +29,19 @@ use Rattle.plain_check.proofs.check.child_ok.Reads as child-ok-reads
 use Rattle.plain_check.proofs.check.last_block.Reads as last-block-reads
 use Rattle.plain_check.proofs.check.new_name.Reads as new-name-reads
 use Rattle.plain_check.proofs.check.number.Reads as number-reads
-use Rattle.plain_check.proofs.check.slot_ok.Reads as slot-ok-reads
+use Rattle.plain_check.proofs.check.slot-ok.Reads as slot-ok-reads
 use Rattle.plain_check.proofs.check.+tour.{statement}
 use Rattle.plain_check.proofs.check.+tour.Tie.{close}
 
 record Inv (s : List ℕ) (n levels d before end met e k : ℕ) : Type 0 where
   low : 2 ≤ k
   few : end ≤ 4 * word
-  whole : end ≡ 4 * blocksOf s (512 * d)
+  whole : end ≡ 4 * blocks_of s (512 * d)
   some : 1 ≤ met
   most : met ≤ n
   place : Place s d e (k - 2)
-  right : (j : ℕ) → 1 ≤ j → j < k - 1 → slotOk s (slot_at (directory s d) j) ≡ true
-  equal : tourEntries (tourChild levels s n d) s (directory s d) before ≡ tourSlots (tourChild levels s n d) s (directory s d) (interval (k - 1) (end - k)) met
+  right : (j : ℕ) → 1 ≤ j → j < k - 1 → slot_ok s (slot_at (directory s d) j) ≡ true
+  equal : tour_entries (tour_child levels s n d) s (directory s d) before ≡ tour_slots (tour_child levels s n d) s (directory s d) (interval (k - 1) (end - k)) met
 
 abbrev μ-tour : Measures 1 tour-kinds.ps ℕ
 μ-tour κs a = a.1.1.0
@@ -113,13 +113,13 @@ module _ (t : ℕ) where
       let i = c.before.before.loop.invariant in
       let v = c.before.before.before.before.before.before.before.before.requires.1.0 in
       let S = c.before.before.before.before.before.before.before.before.requires.1.1 in
-      let h : c.before.before.loop.k < 4 * blocksOf c.before.before.before.before.before.before.before.before.args.image.now (512 * c.before.before.before.before.before.before.before.before.args.d) = omega (arith, c.before.before.loop.invariant.whole) in
+      let h : c.before.before.loop.k < 4 * blocks_of c.before.before.before.before.before.before.before.before.args.image.now (512 * c.before.before.before.before.before.before.before.before.args.d) = omega (arith, c.before.before.loop.invariant.whole) in
       let at = (place-next _ _ _ (c.before.before.loop.k - 2) (c.before.before.loop.k - 1) _ c.before.before.loop.invariant.place (omega (arith, c.before.before.loop.invariant.low)) c.after.ensures.0 c.after.ensures.1 c.after.ensures.2).here (omega (arith, h)) in
       (slot-inside _ _ _ c.before.before.loop.k _ v S i.low h at i.right, omega (arith, c.after.ensures.1))
 
   tour-new-name-requires : tour-lts.Need-new-name-requires claims-tour (tour-at t) tour.Post tour-Inv-loop tour-μ-loop
   tour-new-name-requires c κs =
-      let h : c.before.before.before.loop.k < 4 * blocksOf c.before.before.before.before.before.before.before.before.before.args.image.now (512 * c.before.before.before.before.before.before.before.before.before.args.d) = omega (arith, c.before.before.before.loop.invariant.whole) in
+      let h : c.before.before.before.loop.k < 4 * blocks_of c.before.before.before.before.before.before.before.before.before.args.image.now (512 * c.before.before.before.before.before.before.before.before.before.args.d) = omega (arith, c.before.before.before.loop.invariant.whole) in
       (omega (arith, stands-first _ _ _ c.before.before.before.before.before.before.before.before.before.requires.1.1, c.before.before.before.before.before.before.before.before.before.requires.1.0), c.before.before.before.loop.invariant.low, h, omega (arith, c.before.after.ensures.1))
 
   tour-returns-2 : tour-lts.Need-returns-2 claims-tour (tour-at t) tour.Post tour-Inv-loop tour-μ-loop
@@ -127,10 +127,10 @@ module _ (t : ℕ) where
       let i = c.before.before.before.before.before.loop.invariant in
       let v = c.before.before.before.before.before.before.before.before.before.before.before.requires.1.0 in
       let S = c.before.before.before.before.before.before.before.before.before.before.before.requires.1.1 in
-      let h : c.before.before.before.before.before.loop.k < 4 * blocksOf c.before.before.before.before.before.before.before.before.before.before.before.args.image.now (512 * c.before.before.before.before.before.before.before.before.before.before.before.args.d) = omega (arith, c.before.before.before.before.before.loop.invariant.whole) in
+      let h : c.before.before.before.before.before.loop.k < 4 * blocks_of c.before.before.before.before.before.before.before.before.before.before.before.args.image.now (512 * c.before.before.before.before.before.before.before.before.before.before.before.args.d) = omega (arith, c.before.before.before.before.before.loop.invariant.whole) in
       let at = (place-next _ _ _ (c.before.before.before.before.before.loop.k - 2) (c.before.before.before.before.before.loop.k - 1) _ c.before.before.before.before.before.loop.invariant.place (omega (arith, c.before.before.before.before.before.loop.invariant.low)) c.before.before.before.after.ensures.0 c.before.before.before.after.ensures.1 c.before.before.before.after.ensures.2).here (omega (arith, h)) in
-      let t : (c.before.before.slot_ok.result && c.before.new-name.result) ≡ false = not-true _ c.if2.true in
-      (sym (i.equal ∙ slots-bad _ _ _ _ c.before.before.before.before.before.loop.k (4 * c.before.before.before.before.before.before.before.before.before.number.result) i.low (omega arith) _ at (sym t ∙ slot-tests _ _ _ c.before.before.before.before.before.loop.k _ v S i.low h at i.right _ _ c.before.before.slot_ok.ensures c.before.new-name.ensures)), (λ z. omega arith, omega arith))
+      let t : (c.before.before.slot-ok.result && c.before.new-name.result) ≡ false = not-true _ c.if2.true in
+      (sym (i.equal ∙ slots-bad _ _ _ _ c.before.before.before.before.before.loop.k (4 * c.before.before.before.before.before.before.before.before.before.number.result) i.low (omega arith) _ at (sym t ∙ slot-tests _ _ _ c.before.before.before.before.before.loop.k _ v S i.low h at i.right _ _ c.before.before.slot-ok.ensures c.before.new-name.ensures)), (λ z. omega arith, omega arith))
 
   tour-byte-requires-2 : tour-lts.Need-byte-requires-2 claims-tour (tour-at t) tour.Post tour-Inv-loop tour-μ-loop
   tour-byte-requires-2 c κs = search rules
@@ -149,11 +149,11 @@ module _ (t : ℕ) where
       let i = c.before.before.before.before.before.before.before.before.loop.invariant in
       let v = c.before.before.before.before.before.before.before.before.before.before.before.before.before.before.requires.1.0 in
       let S = c.before.before.before.before.before.before.before.before.before.before.before.before.before.before.requires.1.1 in
-      let h : c.before.before.before.before.before.before.before.before.loop.k < 4 * blocksOf c.before.before.before.before.before.before.before.before.before.before.before.before.before.before.args.image.now (512 * c.before.before.before.before.before.before.before.before.before.before.before.before.before.before.args.d) = omega (arith, c.before.before.before.before.before.before.before.before.loop.invariant.whole) in
+      let h : c.before.before.before.before.before.before.before.before.loop.k < 4 * blocks_of c.before.before.before.before.before.before.before.before.before.before.before.before.before.before.args.image.now (512 * c.before.before.before.before.before.before.before.before.before.before.before.before.before.before.args.d) = omega (arith, c.before.before.before.before.before.before.before.before.loop.invariant.whole) in
       let at = (place-next _ _ _ (c.before.before.before.before.before.before.before.before.loop.k - 2) (c.before.before.before.before.before.before.before.before.loop.k - 1) _ c.before.before.before.before.before.before.before.before.loop.invariant.place (omega (arith, c.before.before.before.before.before.before.before.before.loop.invariant.low)) c.before.before.before.before.before.before.after.ensures.0 c.before.before.before.before.before.before.after.ensures.1 c.before.before.before.before.before.before.after.ensures.2).here (omega (arith, h)) in
-      let t : (c.before.before.before.before.before.slot_ok.result && c.before.before.before.before.new-name.result) ≡ true = not-false _ c.before.before.before.if2.false in
-      let ok = sym c.before.before.before.before.before.slot_ok.ensures ∙ (and_split c.before.before.before.before.before.slot_ok.result c.before.before.before.before.new-name.result t).0 in
-      let test = sym t ∙ slot-tests _ _ _ c.before.before.before.before.before.before.before.before.loop.k _ v S i.low h at i.right _ _ c.before.before.before.before.before.slot_ok.ensures c.before.before.before.before.new-name.ensures in
+      let t : (c.before.before.before.before.before.slot-ok.result && c.before.before.before.before.new-name.result) ≡ true = not-false _ c.before.before.before.if2.false in
+      let ok = sym c.before.before.before.before.before.slot-ok.ensures ∙ (and_split c.before.before.before.before.before.slot-ok.result c.before.before.before.before.new-name.result t).0 in
+      let test = sym t ∙ slot-tests _ _ _ c.before.before.before.before.before.before.before.before.loop.k _ v S i.low h at i.right _ _ c.before.before.before.before.before.slot-ok.ensures c.before.before.before.before.new-name.ensures in
       let u = not-true c.before.is-directory.result c.if3.true in
       record {
         low = omega (arith, i.low);
@@ -171,7 +171,7 @@ module _ (t : ℕ) where
       let i = c.before.before.before.before.before.before.before.before.loop.invariant in
       let v = c.before.before.before.before.before.before.before.before.before.before.before.before.before.before.requires.1.0 in
       let S = c.before.before.before.before.before.before.before.before.before.before.before.before.before.before.requires.1.1 in
-      let h : c.before.before.before.before.before.before.before.before.loop.k < 4 * blocksOf c.before.before.before.before.before.before.before.before.before.before.before.before.before.before.args.image.now (512 * c.before.before.before.before.before.before.before.before.before.before.before.before.before.before.args.d) = omega (arith, c.before.before.before.before.before.before.before.before.loop.invariant.whole) in
+      let h : c.before.before.before.before.before.before.before.before.loop.k < 4 * blocks_of c.before.before.before.before.before.before.before.before.before.before.before.before.before.before.args.image.now (512 * c.before.before.before.before.before.before.before.before.before.before.before.before.before.before.args.d) = omega (arith, c.before.before.before.before.before.before.before.before.loop.invariant.whole) in
       let at = (place-next _ _ _ (c.before.before.before.before.before.before.before.before.loop.k - 2) (c.before.before.before.before.before.before.before.before.loop.k - 1) _ c.before.before.before.before.before.before.before.before.loop.invariant.place (omega (arith, c.before.before.before.before.before.before.before.before.loop.invariant.low)) c.before.before.before.before.before.before.after.ensures.0 c.before.before.before.before.before.before.after.ensures.1 c.before.before.before.before.before.before.after.ensures.2).here (omega (arith, h)) in
       (v, slot-inside _ _ _ c.before.before.before.before.before.before.before.before.loop.k _ v S i.low h at i.right, i.some, i.most)
 
@@ -180,11 +180,11 @@ module _ (t : ℕ) where
       let i = c.before.before.before.before.before.before.before.before.before.before.loop.invariant in
       let v = c.before.before.before.before.before.before.before.before.before.before.before.before.before.before.before.before.requires.1.0 in
       let S = c.before.before.before.before.before.before.before.before.before.before.before.before.before.before.before.before.requires.1.1 in
-      let h : c.before.before.before.before.before.before.before.before.before.before.loop.k < 4 * blocksOf c.before.before.before.before.before.before.before.before.before.before.before.before.before.before.before.before.args.image.now (512 * c.before.before.before.before.before.before.before.before.before.before.before.before.before.before.before.before.args.d) = omega (arith, c.before.before.before.before.before.before.before.before.before.before.loop.invariant.whole) in
+      let h : c.before.before.before.before.before.before.before.before.before.before.loop.k < 4 * blocks_of c.before.before.before.before.before.before.before.before.before.before.before.before.before.before.before.before.args.image.now (512 * c.before.before.before.before.before.before.before.before.before.before.before.before.before.before.before.before.args.d) = omega (arith, c.before.before.before.before.before.before.before.before.before.before.loop.invariant.whole) in
       let at = (place-next _ _ _ (c.before.before.before.before.before.before.before.before.before.before.loop.k - 2) (c.before.before.before.before.before.before.before.before.before.before.loop.k - 1) _ c.before.before.before.before.before.before.before.before.before.before.loop.invariant.place (omega (arith, c.before.before.before.before.before.before.before.before.before.before.loop.invariant.low)) c.before.before.before.before.before.before.before.before.after.ensures.0 c.before.before.before.before.before.before.before.before.after.ensures.1 c.before.before.before.before.before.before.before.before.after.ensures.2).here (omega (arith, h)) in
-      let t : (c.before.before.before.before.before.before.before.slot_ok.result && c.before.before.before.before.before.before.new-name.result) ≡ true = not-false _ c.before.before.before.before.before.if2.false in
-      let ok = sym c.before.before.before.before.before.before.before.slot_ok.ensures ∙ (and_split c.before.before.before.before.before.before.before.slot_ok.result c.before.before.before.before.before.before.new-name.result t).0 in
-      let test = sym t ∙ slot-tests _ _ _ c.before.before.before.before.before.before.before.before.before.before.loop.k _ v S i.low h at i.right _ _ c.before.before.before.before.before.before.before.slot_ok.ensures c.before.before.before.before.before.before.new-name.ensures in
+      let t : (c.before.before.before.before.before.before.before.slot-ok.result && c.before.before.before.before.before.before.new-name.result) ≡ true = not-false _ c.before.before.before.before.before.if2.false in
+      let ok = sym c.before.before.before.before.before.before.before.slot-ok.ensures ∙ (and_split c.before.before.before.before.before.before.before.slot-ok.result c.before.before.before.before.before.before.new-name.result t).0 in
+      let test = sym t ∙ slot-tests _ _ _ c.before.before.before.before.before.before.before.before.before.before.loop.k _ v S i.low h at i.right _ _ c.before.before.before.before.before.before.before.slot-ok.ensures c.before.before.before.before.before.before.new-name.ensures in
       let u = not-false c.before.before.before.is-directory.result c.before.before.if3.false in
       (sym (i.equal ∙ slots-stop _ _ _ _ c.before.before.before.before.before.before.before.before.before.before.loop.k (4 * c.before.before.before.before.before.before.before.before.before.before.before.before.before.before.number.result) i.low (omega arith) _ at test _ c.before.before.before.before.byte2.ensures.0 (sym u ∙ c.before.before.before.is-directory.ensures) 4 0 (child-bad _ _ _ _ _ c.before.before.before.before.before.before.before.before.before.before.before.before.before.before.before.before.args.levels c.before.child-ok.result c.before.child-ok.ensures c.if4.true) (λ z. omega arith)), (λ z. omega arith, omega arith))
 
@@ -210,11 +210,11 @@ module _ (t : ℕ) where
       let i = c.before.before.before.before.before.before.before.before.before.before.before.before.before.before.loop.invariant in
       let v = c.before.before.before.before.before.before.before.before.before.before.before.before.before.before.before.before.before.before.before.before.requires.1.0 in
       let S = c.before.before.before.before.before.before.before.before.before.before.before.before.before.before.before.before.before.before.before.before.requires.1.1 in
-      let h : c.before.before.before.before.before.before.before.before.before.before.before.before.before.before.loop.k < 4 * blocksOf c.before.before.before.before.before.before.before.before.before.before.before.before.before.before.before.before.before.before.before.before.args.image.now (512 * c.before.before.before.before.before.before.before.before.before.before.before.before.before.before.before.before.before.before.before.before.args.d) = omega (arith, c.before.before.before.before.before.before.before.before.before.before.before.before.before.before.loop.invariant.whole) in
+      let h : c.before.before.before.before.before.before.before.before.before.before.before.before.before.before.loop.k < 4 * blocks_of c.before.before.before.before.before.before.before.before.before.before.before.before.before.before.before.before.before.before.before.before.args.image.now (512 * c.before.before.before.before.before.before.before.before.before.before.before.before.before.before.before.before.before.before.before.before.args.d) = omega (arith, c.before.before.before.before.before.before.before.before.before.before.before.before.before.before.loop.invariant.whole) in
       let at = (place-next _ _ _ (c.before.before.before.before.before.before.before.before.before.before.before.before.before.before.loop.k - 2) (c.before.before.before.before.before.before.before.before.before.before.before.before.before.before.loop.k - 1) _ c.before.before.before.before.before.before.before.before.before.before.before.before.before.before.loop.invariant.place (omega (arith, c.before.before.before.before.before.before.before.before.before.before.before.before.before.before.loop.invariant.low)) c.before.before.before.before.before.before.before.before.before.before.before.before.after.ensures.0 c.before.before.before.before.before.before.before.before.before.before.before.before.after.ensures.1 c.before.before.before.before.before.before.before.before.before.before.before.before.after.ensures.2).here (omega (arith, h)) in
-      let t : (c.before.before.before.before.before.before.before.before.before.before.before.slot_ok.result && c.before.before.before.before.before.before.before.before.before.before.new-name.result) ≡ true = not-false _ c.before.before.before.before.before.before.before.before.before.if2.false in
-      let ok = sym c.before.before.before.before.before.before.before.before.before.before.before.slot_ok.ensures ∙ (and_split c.before.before.before.before.before.before.before.before.before.before.before.slot_ok.result c.before.before.before.before.before.before.before.before.before.before.new-name.result t).0 in
-      let test = sym t ∙ slot-tests _ _ _ c.before.before.before.before.before.before.before.before.before.before.before.before.before.before.loop.k _ v S i.low h at i.right _ _ c.before.before.before.before.before.before.before.before.before.before.before.slot_ok.ensures c.before.before.before.before.before.before.before.before.before.before.new-name.ensures in
+      let t : (c.before.before.before.before.before.before.before.before.before.before.before.slot-ok.result && c.before.before.before.before.before.before.before.before.before.before.new-name.result) ≡ true = not-false _ c.before.before.before.before.before.before.before.before.before.if2.false in
+      let ok = sym c.before.before.before.before.before.before.before.before.before.before.before.slot-ok.ensures ∙ (and_split c.before.before.before.before.before.before.before.before.before.before.before.slot-ok.result c.before.before.before.before.before.before.before.before.before.before.new-name.result t).0 in
+      let test = sym t ∙ slot-tests _ _ _ c.before.before.before.before.before.before.before.before.before.before.before.before.before.before.loop.k _ v S i.low h at i.right _ _ c.before.before.before.before.before.before.before.before.before.before.before.slot-ok.ensures c.before.before.before.before.before.before.before.before.before.before.new-name.ensures in
       let u = not-false c.before.before.before.before.before.before.before.is-directory.result c.before.before.before.before.before.before.if3.false in
       let g = goes_down c.before.before.before.before.before.before.before.before.before.before.before.before.before.before.before.before.before.before.before.before.args.levels c.before.before.before.before.before.child-ok.result c.before.before.before.before.if4.false in
       (sym (i.equal ∙ slots-stop _ _ _ _ c.before.before.before.before.before.before.before.before.before.before.before.before.before.before.loop.k (4 * c.before.before.before.before.before.before.before.before.before.before.before.before.before.before.before.before.before.before.number.result) i.low (omega arith) _ at test _ c.before.before.before.before.before.before.before.before.byte2.ensures.0 (sym u ∙ c.before.before.before.before.before.before.before.is-directory.ensures) _ _ (c.before.before.tour.ensures.0 ∙ child-down _ _ _ _ _ _ g.0 (sym g.1 ∙ c.before.before.before.before.before.child-ok.ensures) _ c.before.before.before.number2.ensures.0) c.if5.true), c.before.before.tour.ensures.1)
@@ -230,11 +230,11 @@ module _ (t : ℕ) where
       let i = c.before.before.before.before.before.before.before.before.before.before.before.before.before.before.loop.invariant in
       let v = c.before.before.before.before.before.before.before.before.before.before.before.before.before.before.before.before.before.before.before.before.requires.1.0 in
       let S = c.before.before.before.before.before.before.before.before.before.before.before.before.before.before.before.before.before.before.before.before.requires.1.1 in
-      let h : c.before.before.before.before.before.before.before.before.before.before.before.before.before.before.loop.k < 4 * blocksOf c.before.before.before.before.before.before.before.before.before.before.before.before.before.before.before.before.before.before.before.before.args.image.now (512 * c.before.before.before.before.before.before.before.before.before.before.before.before.before.before.before.before.before.before.before.before.args.d) = omega (arith, c.before.before.before.before.before.before.before.before.before.before.before.before.before.before.loop.invariant.whole) in
+      let h : c.before.before.before.before.before.before.before.before.before.before.before.before.before.before.loop.k < 4 * blocks_of c.before.before.before.before.before.before.before.before.before.before.before.before.before.before.before.before.before.before.before.before.args.image.now (512 * c.before.before.before.before.before.before.before.before.before.before.before.before.before.before.before.before.before.before.before.before.args.d) = omega (arith, c.before.before.before.before.before.before.before.before.before.before.before.before.before.before.loop.invariant.whole) in
       let at = (place-next _ _ _ (c.before.before.before.before.before.before.before.before.before.before.before.before.before.before.loop.k - 2) (c.before.before.before.before.before.before.before.before.before.before.before.before.before.before.loop.k - 1) _ c.before.before.before.before.before.before.before.before.before.before.before.before.before.before.loop.invariant.place (omega (arith, c.before.before.before.before.before.before.before.before.before.before.before.before.before.before.loop.invariant.low)) c.before.before.before.before.before.before.before.before.before.before.before.before.after.ensures.0 c.before.before.before.before.before.before.before.before.before.before.before.before.after.ensures.1 c.before.before.before.before.before.before.before.before.before.before.before.before.after.ensures.2).here (omega (arith, h)) in
-      let t : (c.before.before.before.before.before.before.before.before.before.before.before.slot_ok.result && c.before.before.before.before.before.before.before.before.before.before.new-name.result) ≡ true = not-false _ c.before.before.before.before.before.before.before.before.before.if2.false in
-      let ok = sym c.before.before.before.before.before.before.before.before.before.before.before.slot_ok.ensures ∙ (and_split c.before.before.before.before.before.before.before.before.before.before.before.slot_ok.result c.before.before.before.before.before.before.before.before.before.before.new-name.result t).0 in
-      let test = sym t ∙ slot-tests _ _ _ c.before.before.before.before.before.before.before.before.before.before.before.before.before.before.loop.k _ v S i.low h at i.right _ _ c.before.before.before.before.before.before.before.before.before.before.before.slot_ok.ensures c.before.before.before.before.before.before.before.before.before.before.new-name.ensures in
+      let t : (c.before.before.before.before.before.before.before.before.before.before.before.slot-ok.result && c.before.before.before.before.before.before.before.before.before.before.new-name.result) ≡ true = not-false _ c.before.before.before.before.before.before.before.before.before.if2.false in
+      let ok = sym c.before.before.before.before.before.before.before.before.before.before.before.slot-ok.ensures ∙ (and_split c.before.before.before.before.before.before.before.before.before.before.before.slot-ok.result c.before.before.before.before.before.before.before.before.before.before.new-name.result t).0 in
+      let test = sym t ∙ slot-tests _ _ _ c.before.before.before.before.before.before.before.before.before.before.before.before.before.before.loop.k _ v S i.low h at i.right _ _ c.before.before.before.before.before.before.before.before.before.before.before.slot-ok.ensures c.before.before.before.before.before.before.before.before.before.before.new-name.ensures in
       let u = not-false c.before.before.before.before.before.before.before.is-directory.result c.before.before.before.before.before.before.if3.false in
       let g = goes_down c.before.before.before.before.before.before.before.before.before.before.before.before.before.before.before.before.before.before.before.before.args.levels c.before.before.before.before.before.child-ok.result c.before.before.before.before.if4.false in
       record {

@@ -2,7 +2,7 @@ use Prim.Native.Nat.{ℕ, ◌-◌, ◌≤◌}
 use mathlib.Core.Path.{◌≡◌, sym, ap, ◌∙◌}
 use native.Mathlib.Omega.{arith}
 use Rattle.layout.specs.Lists.{interval, every}
-use Rattle.layout.specs.Geometry.{rootBlock}
+use Rattle.layout.specs.Geometry.{root_block}
 use Rattle.plain_check.specs.Plain.{counted}
 use Rattle.plain_check.proofs.Walks.Tests.{each-end, each-stop, each_next}
 use Rattle.plain_check.proofs.Walks.Stages.{counted-not, counted-so}
@@ -15,7 +15,7 @@ use Rattle.plain_check.proofs.check.next.Reads as next-reads
 use Rattle.plain_check.proofs.check.tally.Reads as tally-reads
 
 abbrev invariant-loop : tie.invariant-loop
-invariant-loop image n root b₀ b = (root ≤ b) × (every (counted image) (interval (rootBlock n) (n - rootBlock n)) ≡ every (counted image) (interval b (n - b)))
+invariant-loop image n root b₀ b = (root ≤ b) × (every (counted image) (interval (root_block n) (n - root_block n)) ≡ every (counted image) (interval b (n - b)))
 
 abbrev decreases-loop : tie.decreases-loop
 decreases-loop image n root b₀ b = n - b

@@ -2,7 +2,7 @@ use mathlib.Core.Bool.{true, false}
 use mathlib.Core.Path.{◌≡◌}
 use native.Mathlib.Omega.{arith}
 use borrow.Author.Tests.{not-true, not-false}
-use Rattle.plain_check.specs.Walks.{fileAnswer}
+use Rattle.plain_check.specs.Walks.{file_answer}
 use borrow.Author.Rules.{rules}
 use Rattle.plain_check.proofs.check.ask_file.Statement.{statement}
 use Rattle.plain_check.proofs.check.ask_file.Tie as tie
@@ -23,7 +23,7 @@ is-file-requires c κs = search rules
 
 -- src/check.rt:328:9
 returns : tie.Need-returns
-unfolding fileAnswer
+unfolding file_answer
 returns c =
     let t : c.before.is-file.result ≡ false = not-true _ c.if1.true in
     (rw (← c.before.before.byte.ensures.0, ← c.before.is-file.ensures, t), omega arith)
@@ -74,7 +74,7 @@ add-result c = search rules
 
 -- src/check.rt:323:1
 returns-2 : tie.Need-returns-2
-unfolding fileAnswer
+unfolding file_answer
 returns-2 c =
     let t : c.before.before.before.before.before.before.before.is-file.result ≡ true = not-false _ c.before.before.before.before.before.before.if1.false in
     (rw (← c.before.before.before.before.before.before.before.before.byte.ensures.0, ← c.before.before.before.before.before.before.before.is-file.ensures, t, ← c.before.before.before.before.before.number.ensures.0, ← c.before.before.before.before.number2.ensures.0, ← c.before.before.number3.ensures.0, ← c.before.number4.ensures.0, c.before.before.before.ask.ensures.0, c.ask2.ensures.0), omega (arith, c.before.before.before.ask.ensures.1, c.ask2.ensures.1))

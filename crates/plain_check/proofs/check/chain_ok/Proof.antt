@@ -2,7 +2,7 @@ use Prim.Native.Nat.{ℕ, ◌-◌, ◌≤◌, ◌<◌}
 use mathlib.Core.Bool.{◌&&◌}
 use mathlib.Core.Path.{◌≡◌}
 use native.Mathlib.Omega.{arith}
-use Rattle.layout.specs.Table.{next, endsAfter}
+use Rattle.layout.specs.Table.{next, ends_after}
 use Rattle.plain_check.specs.Walks.{word}
 use Rattle.plain_check.proofs.Walks.Tests.{from_first}
 use Rattle.plain_check.proofs.Walks.Chains.{ends_next, ends-all}
@@ -13,14 +13,14 @@ use Rattle.plain_check.proofs.check.chain_ok.Lts as lts
 use Rattle.plain_check.proofs.check.next.Reads as next-reads
 
 abbrev invariant-loop : tie.invariant-loop
-invariant-loop image n first k good₀ at₀ i₀ good at i = (at < word) × (i ≤ k) × (endsAfter (next image) n first k ≡ (good && endsAfter (next image) n at (k - i)))
+invariant-loop image n first k good₀ at₀ i₀ good at i = (at < word) × (i ≤ k) × (ends_after (next image) n first k ≡ (good && ends_after (next image) n at (k - i)))
 
 abbrev decreases-loop : tie.decreases-loop
 decreases-loop image n first k good₀ at₀ i₀ good at i = k - i
 
 -- src/check.rt:92:5
 loop-holds : tie.Need-loop-init invariant-loop decreases-loop
-loop-holds c = (c.before.requires.1, omega arith, from_first (λ (x : ℕ). endsAfter (next c.before.args.image.now) c.before.args.n c.before.args.first x) _)
+loop-holds c = (c.before.requires.1, omega arith, from_first (λ (x : ℕ). ends_after (next c.before.args.image.now) c.before.args.n c.before.args.first x) _)
 
 -- src/check.rt:93:25
 add-good : tie.Need-overflow-add-good invariant-loop decreases-loop

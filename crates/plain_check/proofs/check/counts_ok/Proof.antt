@@ -5,7 +5,7 @@ use Prim.Native.Nat.{◌+◌, ◌-◌, ◌≤◌}
 use mathlib.Core.Path.{◌≡◌}
 use native.Mathlib.Omega.{arith}
 use Rattle.layout.specs.Table.{next, occupied}
-use Rattle.plain_check.proofs.Walks.Stages.{usedFrom, used_start, used-end, used-next, seven-all}
+use Rattle.plain_check.proofs.Walks.Stages.{used_from, used_start, used-end, used-next, seven-all}
 use Rattle.plain_check.proofs.check.counts_ok.Statement.{statement}
 use Rattle.plain_check.proofs.check.counts_ok.Tie as tie
 use Rattle.plain_check.proofs.check.counts_ok.Reads as reads
@@ -14,7 +14,7 @@ use Rattle.plain_check.proofs.check.next.Reads as next-reads
 use Rattle.plain_check.proofs.check.number.Reads as number-reads
 
 abbrev invariant-loop : tie.invariant-loop
-invariant-loop image n used₀ b₀ used b = (b ≤ n) × (used ≤ b) × (occupied (next image) n ≡ used + usedFrom image b n)
+invariant-loop image n used₀ b₀ used b = (b ≤ n) × (used ≤ b) × (occupied (next image) n ≡ used + used_from image b n)
 
 abbrev decreases-loop : tie.decreases-loop
 decreases-loop image n used₀ b₀ used b = n - b

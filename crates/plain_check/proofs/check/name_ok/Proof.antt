@@ -3,7 +3,7 @@ use mathlib.Core.Bool.{◌&&◌}
 use mathlib.Core.Path.{◌≡◌, refl, sym, ◌∙◌}
 use native.Mathlib.Omega.{arith}
 use Rattle.layout.specs.Lists.{interval, every}
-use Rattle.layout.specs.Directory.{nameOk}
+use Rattle.layout.specs.Directory.{name_ok}
 use Rattle.plain_check.proofs.Walks.Tests.{each_more, each_none}
 use Rattle.plain_check.proofs.Walks.Names.{follows, follows_is, name-all}
 use Rattle.plain_check.proofs.check.name_ok.Statement.{statement}
@@ -13,7 +13,7 @@ use Rattle.plain_check.proofs.check.name_ok.Lts as lts
 use Rattle.plain_check.proofs.check.byte.Reads as byte-Reads
 
 abbrev invariant-loop : tie.invariant-loop
-invariant-loop image e good₀ i₀ i-end good i = (e + 48 ≤ i) × (i ≤ i-end) × (i-end ≡ e + 127) × (nameOk image e ≡ (good && every (follows image) (interval i (i-end - i))))
+invariant-loop image e good₀ i₀ i-end good i = (e + 48 ≤ i) × (i ≤ i-end) × (i-end ≡ e + 127) × (name_ok image e ≡ (good && every (follows image) (interval i (i-end - i))))
 
 abbrev decreases-loop : tie.decreases-loop
 decreases-loop image e good₀ i₀ i-end good i = i-end - i

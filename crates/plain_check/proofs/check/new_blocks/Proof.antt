@@ -1,7 +1,7 @@
 use Prim.Native.Nat.{ℕ, ◌-◌, ◌≤◌, ◌<◌}
 use mathlib.Core.Path.{◌≡◌, sym, ◌∙◌}
 use native.Mathlib.Omega.{arith}
-use Rattle.plain_check.specs.Walks.{word, newFrom}
+use Rattle.plain_check.specs.Walks.{word, new_from}
 use Rattle.plain_check.proofs.Walks.Tests.{from_first}
 use Rattle.plain_check.proofs.Walks.Meets.{held-before, new-end, new-stop, new-next}
 use Rattle.plain_check.proofs.check.new_blocks.Statement.{statement}
@@ -13,7 +13,7 @@ use Rattle.plain_check.proofs.check.meet.Reads as meet-reads
 use Rattle.plain_check.proofs.check.next.Reads as next-reads
 
 abbrev invariant-loop : tie.invariant-loop
-invariant-loop image n met b k root at₀ i₀ at i = (at < word) × (i ≤ k) × (newFrom image met b k ≡ newFrom image met at (k - i))
+invariant-loop image n met b k root at₀ i₀ at i = (at < word) × (i ≤ k) × (new_from image met b k ≡ new_from image met at (k - i))
 
 abbrev decreases-loop : tie.decreases-loop
 decreases-loop image n met b k root at₀ i₀ at i = k - i
@@ -24,7 +24,7 @@ root-block-requires c κs = c.before.requires.0.high
 
 -- src/check.rt:184:5
 loop-holds : tie.Need-loop-init invariant-loop decreases-loop
-loop-holds c = (c.before.before.requires.3, omega arith, from_first (λ (x : ℕ). newFrom c.before.before.args.image.now c.before.before.args.met c.before.before.args.b x) _)
+loop-holds c = (c.before.before.requires.3, omega arith, from_first (λ (x : ℕ). new_from c.before.before.args.image.now c.before.before.args.met c.before.before.args.b x) _)
 
 -- src/check.rt:185:13
 meet-requires : tie.Need-meet-requires invariant-loop decreases-loop

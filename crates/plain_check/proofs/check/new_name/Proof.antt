@@ -3,7 +3,7 @@ use Prim.Native.Nat.{◌+◌, ◌-◌, ◌≤◌}
 use mathlib.Core.Path.{◌≡◌, sym, ◌∙◌}
 use native.Mathlib.Omega.{arith}
 use Rattle.layout.specs.Directory.{directory}
-use Rattle.plain_check.specs.Walks.{newField}
+use Rattle.plain_check.specs.Walks.{new_field}
 use Rattle.plain_check.proofs.Walks.Slots.{Place, place-first, place-next}
 use Rattle.plain_check.proofs.Walks.Stage5.{others, other-start, other-end, other-clash, other-next}
 use Rattle.plain_check.proofs.check.new_name.Statement.{statement}
@@ -15,7 +15,7 @@ use Rattle.plain_check.proofs.check.byte.Reads as byte-Reads
 use Rattle.plain_check.proofs.check.same_name.Reads as same-name-reads
 
 abbrev invariant-loop : tie.invariant-loop
-invariant-loop image d k e o₀ j₀ o j = (2 ≤ j) × (j ≤ k) × Place image d o (j - 2) × (newField image (directory image d) e (k - 1) ≡ others image (directory image d) e k j)
+invariant-loop image d k e o₀ j₀ o j = (2 ≤ j) × (j ≤ k) × Place image d o (j - 2) × (new_field image (directory image d) e (k - 1) ≡ others image (directory image d) e k j)
 
 abbrev decreases-loop : tie.decreases-loop
 decreases-loop image d k e o₀ j₀ o j = k - j

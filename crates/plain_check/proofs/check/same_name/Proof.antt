@@ -4,7 +4,7 @@ use native.Mathlib.Omega.{arith}
 use lib.Dec.{eqb}
 use lib.ListN.{get_or}
 use Rattle.layout.specs.Lists.{interval, every}
-use Rattle.plain_check.specs.Walks.{sameField}
+use Rattle.plain_check.specs.Walks.{same_field}
 use Rattle.plain_check.proofs.Walks.Tests.{each-end, each-stop, each_next}
 use Rattle.plain_check.proofs.Walks.Names.{byte-same, byte-other}
 use Rattle.plain_check.proofs.check.same_name.Statement.{statement}
@@ -14,14 +14,14 @@ use Rattle.plain_check.proofs.check.same_name.Lts as lts
 use Rattle.plain_check.proofs.check.byte.Reads as byte-Reads
 
 abbrev invariant-loop : tie.invariant-loop
-invariant-loop image a b i₀ i = (48 ≤ i) × (i ≤ 128) × (sameField image a b ≡ every (λ i. eqb (get_or image (a + i) 0) (get_or image (b + i) 0)) (interval i (128 - i)))
+invariant-loop image a b i₀ i = (48 ≤ i) × (i ≤ 128) × (same_field image a b ≡ every (λ i. eqb (get_or image (a + i) 0) (get_or image (b + i) 0)) (interval i (128 - i)))
 
 abbrev decreases-loop : tie.decreases-loop
 decreases-loop image a b i₀ i = 128 - i
 
 -- src/check.rt:141:5
 loop-holds : tie.Need-loop-init invariant-loop decreases-loop
-unfolding sameField
+unfolding same_field
 loop-holds c = (omega arith, omega arith, refl)
 
 -- src/check.rt:142:24

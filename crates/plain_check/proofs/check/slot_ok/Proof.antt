@@ -1,9 +1,9 @@
 use Rattle.plain_check.proofs.Walks.Stage5.{slot-all}
 use borrow.Author.Rules.{rules}
-use Rattle.plain_check.proofs.check.slot_ok.Statement.{statement}
-use Rattle.plain_check.proofs.check.slot_ok.Tie as tie
-use Rattle.plain_check.proofs.check.slot_ok.Reads as reads
-use Rattle.plain_check.proofs.check.slot_ok.Lts as lts
+use Rattle.plain_check.proofs.check.slot-ok.Statement.{statement}
+use Rattle.plain_check.proofs.check.slot-ok.Tie as tie
+use Rattle.plain_check.proofs.check.slot-ok.Reads as reads
+use Rattle.plain_check.proofs.check.slot-ok.Lts as lts
 use Rattle.layout.proofs.directory.is_directory.Reads as is-directory-reads
 use Rattle.layout.proofs.directory.is_file.Reads as is-file-reads
 use Rattle.plain_check.proofs.check.byte.Reads as byte-Reads

@@ -3,7 +3,7 @@ use mathlib.Core.Path.{sym, ap, ◌∙◌}
 use Rattle.salvage.proofs.Walks.Turns.{ended-left, ended-set}
 use Rattle.salvage.proofs.Walks.Claims.{ends-none, ends-right, ends-wrong, last-is}
 use Prim.Native.Nat.{ℕ, ◌-◌}
-use Rattle.layout.specs.Table.{setNext}
+use Rattle.layout.specs.Table.{set_next}
 use borrow.Author.Rules.{rules}
 use Rattle.salvage.proofs.chains.end_chain.Statement.{statement}
 use Rattle.salvage.proofs.chains.end_chain.Tie as tie
@@ -58,7 +58,7 @@ returns-3 c =
     let if1 = c.before.before.before.before.before.before.before.before.before.if1 in
     let a = c.before.before.before.before.before.before.before.before.before.before.before.args in
     let e = ends-wrong a.image.now a.first a.k if1.false _ nth.ensures _ entry.ensures if2.false in
-    (e, set-entry.ensures ∙ ap (λ (x : ℕ). setNext a.image.now x 1) (last-is a.image.now a.first a.k if1.false _ nth.ensures) ∙ sym (ended-set _ _ (sym e)))
+    (e, set-entry.ensures ∙ ap (λ (x : ℕ). set_next a.image.now x 1) (last-is a.image.now a.first a.k if1.false _ nth.ensures) ∙ sym (ended-set _ _ (sym e)))
 
 pub end-chain-spec : {M : Type 1} → statement M
 end-chain-spec =

@@ -5,13 +5,13 @@ use borrow.Author.Rules.{rules}
 use Rattle.layout.specs.Table.{next, chain}
 use Rattle.layout.specs.Walks.Slots.{Place, entry_at}
 use Rattle.layout.proofs.Walks.Slots.{place-below, place-entry, place-then, place-first}
-use Rattle.salvage.specs.Walks.{noDirectory}
+use Rattle.salvage.specs.Walks.{no_directory}
 use Rattle.salvage.proofs.Walks.Refusals.{plain_end, plain-next, plain-stop}
 use Rattle.salvage.proofs.salvage.no_directory.Statement.{statement}
 use Rattle.salvage.proofs.salvage.no_directory.Tie as tie
 
 abbrev invariant-loop : tie.invariant-loop
-invariant-loop image n first d b₀ k₀ left₀ b k left = (Place (chain (next image) first d) d b k left) × (noDirectory image (chain (next image) first d) 1 (4 * d - 2) ≡ noDirectory image (chain (next image) first d) k left)
+invariant-loop image n first d b₀ k₀ left₀ b k left = (Place (chain (next image) first d) d b k left) × (no_directory image (chain (next image) first d) 1 (4 * d - 2) ≡ no_directory image (chain (next image) first d) k left)
 
 abbrev decreases-loop : tie.decreases-loop
 decreases-loop image n first d b₀ k₀ left₀ b k left = left

@@ -1,6 +1,6 @@
 use borrow.Author.Rules.{rules}
 use mathlib.Core.Path.{◌≡◌, sym, ◌∙◌}
-use Rattle.layout.specs.Walks.Stages.{headStage}
+use Rattle.layout.specs.Walks.Stages.{head_stage}
 use Rattle.layout.proofs.Walks.Stages.{stage1-shape}
 use Rattle.salvage.proofs.Walks.Refusals.{head-right, head-wrong, refused}
 use Rattle.salvage.proofs.salvage.salvage.Statement.{statement}
@@ -25,7 +25,7 @@ small-body-requires c κs =
     let head = c.before.before.before.before.head in
     let a = c.before.before.before.before.before.before.before.before.args in
     let s = a.image.now in
-    let e : headStage s ≡ 0 = sym head.ensures ∙ if1.false in
+    let e : head_stage s ≡ 0 = sym head.ensures ∙ if1.false in
     (stage1-shape s (sym (head-right s e).0), e, if2.true)
 
 same-length-2 : tie.Need-same-length-2
@@ -43,7 +43,7 @@ large-body-requires c κs =
     let head = c.before.before.before.before.head in
     let a = c.before.before.before.before.before.before.before.before.args in
     let s = a.image.now in
-    let e : headStage s ≡ 0 = sym head.ensures ∙ if1.false in
+    let e : head_stage s ≡ 0 = sym head.ensures ∙ if1.false in
     (stage1-shape s (sym (head-right s e).0), e)
 
 same-length-4 : tie.Need-same-length-4

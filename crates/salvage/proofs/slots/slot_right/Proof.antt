@@ -1,7 +1,7 @@
 use mathlib.Core.Path.{◌≡◌, refl, sym, ◌∙◌}
 use mathlib.Core.Bool.{true, false}
 use borrow.Author.Tests.{not-true, not-false}
-use Rattle.layout.proofs.Walks.Fingerprints.{newName-used}
+use Rattle.layout.proofs.Walks.Fingerprints.{new_name-used}
 use Rattle.salvage.proofs.Walks.Slots.{right-first, right-both}
 use borrow.Author.Rules.{rules}
 use Rattle.salvage.proofs.slots.slot_right.Statement.{statement}
@@ -28,7 +28,7 @@ returns-2 c =
     let slot-ok-at = c.before.before.slot-ok-at in
     let p = c.before.before.before.before.before.before.requires in
     let t : slot-ok-at.result ≡ true = not-false _ if1.false in
-    right-both _ _ _ (sym t ∙ slot-ok-at.ensures) (newName-used _ _ _ _ p.0.slot _ refl p.1 _ c.name_in.ensures)
+    right-both _ _ _ (sym t ∙ slot-ok-at.ensures) (new_name-used _ _ _ _ p.0.slot _ refl p.1 _ c.name_in.ensures)
 
 pub slot-right-spec : {M : Type 1} → statement M
 slot-right-spec = tie.close (tie.spec slot-ok-at-requires returns name-in-requires returns-2)

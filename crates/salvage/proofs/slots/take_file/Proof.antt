@@ -2,7 +2,7 @@ use mathlib.Core.Path.{refl}
 use native.Mathlib.Omega.{arith}
 use borrow.Author.Tests.{not-true, not-false}
 use Rattle.layout.specs.Walks.Slots.{entry_at}
-use Rattle.layout.proofs.Walks.Shapes.{shape-blockCount}
+use Rattle.layout.proofs.Walks.Shapes.{shape-block_count}
 use Rattle.salvage.proofs.Walks.Slots.{claimed-as, file-cleared, file-kept}
 use borrow.Author.Rules.{rules}
 use Rattle.salvage.proofs.slots.take_file.Statement.{statement}
@@ -48,7 +48,7 @@ returns c =
     let a = c.before.before.before.before.before.before.before.before.before.before.before.before.before.before.before.before.before.before.before.before.before.before.args in
     let p = c.before.before.before.before.before.before.before.before.before.before.before.before.before.before.before.before.before.before.before.before.before.before.requires in
     let k = attribute-chain.ensures in
-    file-cleared a.image.now a.marks.now a.n (entry_at a.b a.k) (shape-blockCount _ _ p.0.shape) _ _ number_at.ensures number-at2.ensures _ end-chain.ensures.1 _ _
+    file-cleared a.image.now a.marks.now a.n (entry_at a.b a.k) (shape-block_count _ _ p.0.shape) _ _ number_at.ensures number-at2.ensures _ end-chain.ensures.1 _ _
     (claimed-as claim.ensures k.0 k.1 (not-true _ if1.true)) set-attribute-fields.ensures
 
 end-chain-requires-2 : tie.Need-end-chain-requires-2
@@ -80,7 +80,7 @@ returns-2 c =
     let a = c.before.before.before.before.before.before.before.before.before.before.before.before.before.before.before.before.before.before.before.before.before.before.before.args in
     let p = c.before.before.before.before.before.before.before.before.before.before.before.before.before.before.before.before.before.before.before.before.before.before.before.requires in
     let k = attribute-chain.ensures in
-    file-kept a.image.now a.marks.now a.n (entry_at a.b a.k) (shape-blockCount _ _ p.0.shape) _ _ number_at.ensures number-at2.ensures _ end-chain.ensures.1 _ _
+    file-kept a.image.now a.marks.now a.n (entry_at a.b a.k) (shape-block_count _ _ p.0.shape) _ _ number_at.ensures number-at2.ensures _ end-chain.ensures.1 _ _
     _ _ k (claimed-as claim.ensures refl refl (not-false _ if1.false)) end-chain2.ensures.1 _ _ end-chain.ensures.0 end-chain2.ensures.0 _ c.file-code.ensures
 
 pub take-file-spec : {M : Type 1} → statement M

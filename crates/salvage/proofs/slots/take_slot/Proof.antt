@@ -4,7 +4,7 @@ use native.Mathlib.Omega.{arith}
 use borrow.Author.Tests.{not-true, not-false}
 use Rattle.layout.specs.Table.{next, chain}
 use Rattle.layout.specs.Walks.Slots.{entry_at}
-use Rattle.layout.proofs.Walks.Shapes.{shape-blockCount}
+use Rattle.layout.proofs.Walks.Shapes.{shape-block_count}
 use Rattle.salvage.proofs.Walks.Slots.{claimed-as, taken_free, taken-broken, taken-lost, taken-file}
 use borrow.Author.Rules.{rules}
 use Rattle.salvage.proofs.slots.take_slot.Statement.{statement}
@@ -21,7 +21,7 @@ returns c =
     let type_at = c.before.type_at in
     let a = c.before.before.before.before.before.before.before.args in
     let p = c.before.before.before.before.before.before.before.requires in
-    taken_free a.image.now a.marks.now (chain (next a.image.now) a.first a.d) a.n (entry_at a.b a.k) a.k p.2.slot.place (shape-blockCount _ _ p.0.shape) (sym type_at.ensures ∙ c.if1.true)
+    taken_free a.image.now a.marks.now (chain (next a.image.now) a.first a.d) a.n (entry_at a.b a.k) a.k p.2.slot.place (shape-block_count _ _ p.0.shape) (sym type_at.ensures ∙ c.if1.true)
 
 slot-right-requires : tie.Need-slot-right-requires
 slot-right-requires c κs =
@@ -46,7 +46,7 @@ returns-2 c =
     let a = c.before.before.before.before.before.before.before.before.before.before.before.before.before.before.args in
     let p = c.before.before.before.before.before.before.before.before.before.before.before.before.before.before.requires in
     let t : slot-right.result ≡ false = not-true _ if2.true in
-    taken-broken a.image.now a.marks.now (chain (next a.image.now) a.first a.d) a.n (entry_at a.b a.k) a.k p.2.slot.place (shape-blockCount _ _ p.0.shape) (λ z. if1.false (type_at.ensures ∙ z)) _
+    taken-broken a.image.now a.marks.now (chain (next a.image.now) a.first a.d) a.n (entry_at a.b a.k) a.k p.2.slot.place (shape-block_count _ _ p.0.shape) (λ z. if1.false (type_at.ensures ∙ z)) _
     (sym t ∙ slot-right.ensures) clear-slot.ensures
 
 number-at-requires : tie.Need-number-at-requires
@@ -81,7 +81,7 @@ returns-3 c =
     let a = c.before.before.before.before.before.before.before.before.before.before.before.before.before.before.before.before.before.before.before.before.before.before.before.before.args in
     let p = c.before.before.before.before.before.before.before.before.before.before.before.before.before.before.before.before.before.before.before.before.before.before.before.before.requires in
     let t : slot-right.result ≡ true = not-false _ if2.false in
-    taken-lost a.image.now a.marks.now (chain (next a.image.now) a.first a.d) a.n (entry_at a.b a.k) a.k p.2.slot.place (shape-blockCount _ _ p.0.shape) (λ z. if1.false (type_at.ensures ∙ z)) _
+    taken-lost a.image.now a.marks.now (chain (next a.image.now) a.first a.d) a.n (entry_at a.b a.k) a.k p.2.slot.place (shape-block_count _ _ p.0.shape) (λ z. if1.false (type_at.ensures ∙ z)) _
     (sym t ∙ slot-right.ensures) _ (claimed-as claim.ensures number_at.ensures number-at2.ensures (not-true _ if3.true)) clear-slot2.ensures
 
 take-file-requires : tie.Need-take-file-requires
@@ -114,7 +114,7 @@ returns-4 c =
     let a = c.before.before.before.before.before.before.before.before.before.before.before.before.before.before.before.before.before.before.before.before.before.before.before.before.before.before.before.args in
     let p = c.before.before.before.before.before.before.before.before.before.before.before.before.before.before.before.before.before.before.before.before.before.before.before.before.before.before.before.requires in
     let t : slot-right.result ≡ true = not-false _ if2.false in
-    taken-file a.image.now a.marks.now (chain (next a.image.now) a.first a.d) a.n (entry_at a.b a.k) a.k p.2.slot.place (shape-blockCount _ _ p.0.shape) (λ z. if1.false (type_at.ensures ∙ z)) _
+    taken-file a.image.now a.marks.now (chain (next a.image.now) a.first a.d) a.n (entry_at a.b a.k) a.k p.2.slot.place (shape-block_count _ _ p.0.shape) (λ z. if1.false (type_at.ensures ∙ z)) _
     (sym t ∙ slot-right.ensures) _ _ _ (claimed-as claim.ensures number_at.ensures number-at2.ensures (not-false _ if3.false)) take-file.ensures
 
 pub take-slot-spec : {M : Type 1} → statement M

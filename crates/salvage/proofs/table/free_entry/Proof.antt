@@ -2,7 +2,7 @@ use native.Mathlib.Omega.{arith}
 use mathlib.Core.Path.{sym, ap, ◌∙◌}
 use Prim.Native.Nat.{ℕ}
 use mathlib.Core.List.{List}
-use Rattle.layout.specs.Table.{setNext}
+use Rattle.layout.specs.Table.{set_next}
 use Rattle.salvage.proofs.Walks.Table.{freed-marked, freed-free, freed-padding, freed-block}
 use borrow.Author.Rules.{rules}
 use Rattle.salvage.proofs.table.free_entry.Statement.{statement}
@@ -59,7 +59,7 @@ returns-4 c =
     let if2 = c.before.before.before.before.before.before.before.before.before.if2 in
     let entry = c.before.before.before.before.before.before.before.before.before.before.entry in
     let p = c.before.before.before.before.before.before.before.before.before.before.before.before.before.before.before.before.requires in
-    let a = c.before.before.before.before.before.before.before.before.before.before.before.before.before.before.before.before.args in freed-block a.image.now a.marks.now a.n a.b p.0 (omega arith) (λ z. if2.false (entry.ensures ∙ z)) _ (omega arith) (set-entry2.ensures ∙ ap (λ (x : List ℕ). setNext x a.b 0) clear-block.ensures)
+    let a = c.before.before.before.before.before.before.before.before.before.before.before.before.before.before.before.before.args in freed-block a.image.now a.marks.now a.n a.b p.0 (omega arith) (λ z. if2.false (entry.ensures ∙ z)) _ (omega arith) (set-entry2.ensures ∙ ap (λ (x : List ℕ). set_next x a.b 0) clear-block.ensures)
 
 pub free-entry-spec : {M : Type 1} → statement M
 free-entry-spec =

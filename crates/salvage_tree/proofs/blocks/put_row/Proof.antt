@@ -2,14 +2,14 @@ use native.Mathlib.Omega.{arith}
 use Prim.Native.Nat.{◌+◌, ◌-◌, ◌≤◌}
 use mathlib.Core.Path.{◌≡◌, refl, sym, ◌∙◌}
 use lib.ListN.{length, take, length-set}
-use Rattle.layout.specs.Limits.{maxDirectory}
+use Rattle.layout.specs.Limits.{max_directory}
 use Rattle.layout.specs.Lists.{interval}
 use Rattle.salvage_tree.proofs.Walks.Blocks.{row_written, row-whole}
 use Rattle.salvage_tree.proofs.blocks.put_row.Statement.{statement}
 use Rattle.salvage_tree.proofs.blocks.put_row.Tie as tie
 
 abbrev invariant-loop : tie.invariant-loop
-invariant-loop b d blocks₀ k₀ blocks k = (take k blocks ≡ interval b k) × (k ≤ d) × (length blocks ≡ maxDirectory)
+invariant-loop b d blocks₀ k₀ blocks k = (take k blocks ≡ interval b k) × (k ≤ d) × (length blocks ≡ max_directory)
 
 abbrev decreases-loop : tie.decreases-loop
 decreases-loop b d blocks₀ k₀ blocks k = d - k

@@ -2,7 +2,7 @@ use native.Mathlib.Omega.{arith}
 use Prim.Native.Nat.{◌-◌}
 use mathlib.Core.Path.{sym, ◌∙◌}
 use borrow.Author.Tests.{not-true, not-false}
-use Rattle.layout.specs.Limits.{maxDirectory}
+use Rattle.layout.specs.Limits.{max_directory}
 use Rattle.salvage_tree.proofs.Walks.Blocks.{Running, running-start, running_more, ran-bad, ran-met, ran-all}
 use Rattle.salvage_tree.proofs.blocks.run.Statement.{statement}
 use Rattle.salvage_tree.proofs.blocks.run.Tie as tie
@@ -11,7 +11,7 @@ abbrev invariant-loop : tie.invariant-loop
 invariant-loop image t n b marks blocks₀ c₀ k₀ blocks c k = Running image n b marks blocks k c
 
 abbrev decreases-loop : tie.decreases-loop
-decreases-loop image t n b marks blocks₀ c₀ k₀ blocks c k = maxDirectory - k
+decreases-loop image t n b marks blocks₀ c₀ k₀ blocks c k = max_directory - k
 
 loop-holds : tie.Need-loop-init invariant-loop decreases-loop
 loop-holds c = running-start _ _ _ _ _ c.before.before.before.requires.1

@@ -6,7 +6,7 @@ use mathlib.Core.List.{List}
 use Prim.Native.Nat.{ℕ, ◌/◌}
 use mathlib.Core.Path.{◌≡◌}
 use borrow.Author.Tests.{not-true, not-false}
-use Rattle.layout.specs.Directory.{goodName}
+use Rattle.layout.specs.Directory.{good_name}
 use Rattle.salvage_tree.proofs.Walks.Names.{right-name, right-broken, right_new}
 use Rattle.salvage_tree.proofs.names.slot_right.Statement.{statement}
 use Rattle.salvage_tree.proofs.names.slot_right.Tie as tie
@@ -24,7 +24,7 @@ name-at-requires : tie.Need-name-at-requires
 name-at-requires c κs = let g = c.before.before.before.before.requires.1.below (c.before.before.before.before.args.k / 4) (omega (arith, c.before.before.before.before.requires.3)) in omega (arith, g, c.before.before.before.before.requires.4, c.before.before.before.before.requires.0)
 
 is-new-requires : tie.Need-is-new-requires
-is-new-requires c κs = (c.before.before.before.before.before.requires.0, c.before.before.before.before.before.requires.1, omega (arith, c.before.before.before.before.before.requires.3), subst (λ (x : List ℕ). goodName x ≡ true) (sym c.name-at.ensures) (right-name _ _ (sym c.before.before.slot-ok-at.ensures ∙ not-false _ c.before.if1.false) c.before.before.before.before.before.requires.5))
+is-new-requires c κs = (c.before.before.before.before.before.requires.0, c.before.before.before.before.before.requires.1, omega (arith, c.before.before.before.before.before.requires.3), subst (λ (x : List ℕ). good_name x ≡ true) (sym c.name-at.ensures) (right-name _ _ (sym c.before.before.slot-ok-at.ensures ∙ not-false _ c.before.if1.false) c.before.before.before.before.before.requires.5))
 
 returns-2 : tie.Need-returns-2
 returns-2 c = right_new _ _ _ _ c.before.before.before.before.before.before.requires.4 c.before.before.before.before.before.before.requires.5 _ c.before.before.before.slot-ok-at.ensures (not-false _ c.before.before.if1.false) _ c.before.name-at.ensures _ c.is-new.ensures

@@ -1,6 +1,6 @@
 use borrow.Author.Rules.{rules}
 use native.Mathlib.Omega.{arith}
-use Rattle.layout.proofs.Walks.Shapes.{shape-blockCount}
+use Rattle.layout.proofs.Walks.Shapes.{shape-block_count}
 use Rattle.salvage_tree.proofs.Walks.Rest.{header-steps}
 use Rattle.salvage_tree.proofs.rest.put_header.Statement.{statement}
 use Rattle.salvage_tree.proofs.rest.put_header.Tie as tie
@@ -27,7 +27,7 @@ same_length : tie.Need-same-length
 same_length c = search rules
 
 returns : tie.Need-returns
-returns c = header-steps _ _ _ _ _ _ _ _ (shape-blockCount _ _ c.before.before.before.before.before.before.before.before.before.before.before.before.before.before.before.before.before.before.before.before.before.requires.0) c.before.before.before.before.before.before.before.before.before.before.before.before.before.before.before.before.before.before.before.before.before.requires.1 c.before.before.before.before.before.before.before.before.before.before.before.before.before.before.before.before.before.before.sign.ensures c.before.before.before.before.before.before.before.before.before.before.before.before.before.before.put-number.ensures c.before.before.before.before.before.before.before.before.before.before.put-number2.ensures c.before.before.before.before.before.before.put-number3.ensures c.before.before.put-counts.ensures
+returns c = header-steps _ _ _ _ _ _ _ _ (shape-block_count _ _ c.before.before.before.before.before.before.before.before.before.before.before.before.before.before.before.before.before.before.before.before.before.requires.0) c.before.before.before.before.before.before.before.before.before.before.before.before.before.before.before.before.before.before.before.before.before.requires.1 c.before.before.before.before.before.before.before.before.before.before.before.before.before.before.before.before.before.before.sign.ensures c.before.before.before.before.before.before.before.before.before.before.before.before.before.before.put-number.ensures c.before.before.before.before.before.before.before.before.before.before.put-number2.ensures c.before.before.before.before.before.before.put-number3.ensures c.before.before.put-counts.ensures
 
 pub put-header-spec : {M : Type 1} → statement M
 put-header-spec = tie.close (tie.spec sign-requires put-number-requires put-number-requires-2 add-put-number put-number-requires-3 put-counts-requires same_length returns)

@@ -1,13 +1,13 @@
 use native.Mathlib.Omega.{arith}
 use Prim.Native.Nat.{◌-◌}
 use lib.ListN.{length}
-use Rattle.salvage_tree.specs.Walks.{hungHere}
+use Rattle.salvage_tree.specs.Walks.{hung_here}
 use Rattle.salvage_tree.proofs.Walks.Counts.{Over, over-start, over-more, over-end}
 use Rattle.salvage_tree.proofs.salvage_tree.count_over.Statement.{statement}
 use Rattle.salvage_tree.proofs.salvage_tree.count_over.Tie as tie
 
 abbrev invariant-loop : tie.invariant-loop
-invariant-loop codes used count₀ i₀ count i = Over (hungHere codes used) (length codes) count i
+invariant-loop codes used count₀ i₀ count i = Over (hung_here codes used) (length codes) count i
 
 abbrev decreases-loop : tie.decreases-loop
 decreases-loop codes used count₀ i₀ count i = length codes - i

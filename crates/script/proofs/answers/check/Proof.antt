@@ -1,6 +1,6 @@
 use mathlib.Core.Path.{◌∙◌}
 use Rattle.script.specs.Script.{encoded}
-use Rattle.journal.specs.Run.{lookAnswer}
+use Rattle.journal.specs.Run.{look_answer}
 use borrow.Author.Rules.{rules}
 use Rattle.script.proofs.answers.check.Statement.{statement}
 use Rattle.script.proofs.answers.check.Tie as tie
@@ -16,7 +16,7 @@ same_length : tie.Need-same-length
 same_length c = search rules
 
 returns : tie.Need-returns
-unfolding encoded lookAnswer
+unfolding encoded look_answer
 returns c =
     let put-numbers = c.before.before.put-numbers in
     let check = c.before.before.before.before.check in

@@ -1,5 +1,5 @@
 use mathlib.Core.Path.{◌∙◌}
-use Rattle.journal.specs.Run.{lookAnswer}
+use Rattle.journal.specs.Run.{look_answer}
 use borrow.Author.Rules.{rules}
 use Rattle.script.proofs.answers.lookup.Statement.{statement}
 use Rattle.script.proofs.answers.lookup.Tie as tie
@@ -21,7 +21,7 @@ same_length : tie.Need-same-length
 same_length c = search rules
 
 returns : tie.Need-returns
-unfolding lookAnswer
+unfolding look_answer
 returns c =
     let put-numbers = c.before.before.put-numbers in
     let found-numbers = c.before.before.before.found-numbers in

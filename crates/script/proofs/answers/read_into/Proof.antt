@@ -1,7 +1,7 @@
 use mathlib.Core.Path.{◌∙◌, sym, ap}
 use lib.ListN.{length}
 use borrow.Author.Tests.{eq-eqb, ne_eqb}
-use Rattle.script.specs.Walks.Scripts.{filledAt}
+use Rattle.script.specs.Walks.Scripts.{filled_at}
 use Rattle.script.proofs.Walks.Scripts.{length-data}
 use borrow.Author.Rules.{rules}
 use Rattle.script.proofs.answers.read_into.Statement.{statement}
@@ -28,7 +28,7 @@ same_length : tie.Need-same-length
 same_length c = search rules
 
 returns : tie.Need-returns
-unfolding filledAt
+unfolding filled_at
 returns c =
     let read-attributes = c.before.before.read-attributes in
     let copy = c.before.before.before.before.before.before.before.before.before.copy in
@@ -49,7 +49,7 @@ same-length-2 : tie.Need-same-length-2
 same-length-2 c = search rules
 
 returns-2 : tie.Need-returns-2
-unfolding filledAt
+unfolding filled_at
 returns-2 c =
     let read = c.before.before.read in
     let get64 = c.before.before.before.before.get64 in

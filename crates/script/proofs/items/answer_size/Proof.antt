@@ -1,6 +1,6 @@
 use mathlib.Core.Path.{sym, ◌∙◌}
 use native.Mathlib.Omega.{arith}
-use Rattle.script.specs.Script.{opAt}
+use Rattle.script.specs.Script.{op_at}
 use Rattle.script.proofs.Walks.Scripts.{room-show, head_small}
 use borrow.Author.Rules.{rules}
 use Rattle.script.proofs.items.answer_size.Statement.{statement}
@@ -30,7 +30,7 @@ cast-result c = search rules
 add-result : tie.Need-overflow-add-result
 add-result c =
     let a = c.before.before.before.before.before.before.before.args in
-    let h = head_small (opAt a.script.now a.at) c.before.head-size.result c.before.head-size.ensures in
+    let h = head_small (op_at a.script.now a.at) c.before.head-size.result c.before.head-size.ensures in
     omega (arith, h)
 
 returns : tie.Need-returns

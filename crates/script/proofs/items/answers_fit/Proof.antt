@@ -5,13 +5,13 @@ use native.Mathlib.Omega.{arith}
 use lib.Dec.{leb}
 use lib.ListN.{length}
 use Rattle.layout.specs.Lists.{every}
-use Rattle.script.specs.Script.{itemOk, itemsFrom, calls_of, callsFrom, answersSize}
+use Rattle.script.specs.Script.{item_ok, items_from, calls_of, calls_from, answers_size}
 use Rattle.script.proofs.items.answers_fit.Statement.{statement}
 use Rattle.script.proofs.items.answers_fit.Tie as tie
 use Rattle.script.proofs.Walks.Scripts.{next, room-short, room-step, room-none}
 
 abbrev invariant-loop : tie.invariant-loop
-invariant-loop script room at₀ left₀ at left = (every (itemOk script) (itemsFrom script at) ≡ true) × (leb (answersSize (calls_of script)) room ≡ leb (answersSize (callsFrom script at)) left)
+invariant-loop script room at₀ left₀ at left = (every (item_ok script) (items_from script at) ≡ true) × (leb (answers_size (calls_of script)) room ≡ leb (answers_size (calls_from script at)) left)
 
 abbrev decreases-loop : tie.decreases-loop
 decreases-loop script room at₀ left₀ at left = length script - at

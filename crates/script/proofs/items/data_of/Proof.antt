@@ -1,7 +1,7 @@
 use Prim.Native.Nat.{◌+◌, ◌-◌}
 use mathlib.Core.Path.{◌≡◌}
 use native.Mathlib.Omega.{arith}
-use Rattle.script.specs.Script.{dataAt, dataLength}
+use Rattle.script.specs.Script.{data_at, data_length}
 use borrow.Author.Rules.{rules}
 use Rattle.script.proofs.items.data_of.Statement.{statement}
 use Rattle.script.proofs.items.data_of.Tie as tie
@@ -43,11 +43,11 @@ part-result-end : tie.Need-slice-bounds-result-end
 part-result-end c = search rules
 
 returns : tie.Need-returns
-unfolding dataAt
+unfolding data_at
 returns c =
     let get32 = c.before.before.get32 in
     let a = c.before.before.before.before.args in
-    let e : a.at + 33 + get32.result + c.before.get322.result - (a.at + 33 + get32.result) ≡ dataLength a.script.now a.at = omega (arith, c.before.get322.ensures) in
+    let e : a.at + 33 + get32.result + c.before.get322.result - (a.at + 33 + get32.result) ≡ data_length a.script.now a.at = omega (arith, c.before.get322.ensures) in
     rw (e, get32.ensures)
 
 pub data-of-spec : {M : Type 1} → statement M

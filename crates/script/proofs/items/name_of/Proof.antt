@@ -1,7 +1,7 @@
 use Prim.Native.Nat.{◌+◌, ◌-◌}
 use mathlib.Core.Path.{◌≡◌}
 use native.Mathlib.Omega.{arith}
-use Rattle.script.specs.Script.{name_at, nameLength}
+use Rattle.script.specs.Script.{name_at, name_length}
 use borrow.Author.Rules.{rules}
 use Rattle.script.proofs.items.name_of.Statement.{statement}
 use Rattle.script.proofs.items.name_of.Tie as tie
@@ -34,7 +34,7 @@ returns : tie.Need-returns
 unfolding name_at
 returns c =
     let a = c.before.before.before.args in
-    let e : a.at + 33 + c.before.get32.result - (a.at + 33) ≡ nameLength a.script.now a.at = omega (arith, c.before.get32.ensures) in
+    let e : a.at + 33 + c.before.get32.result - (a.at + 33) ≡ name_length a.script.now a.at = omega (arith, c.before.get32.ensures) in
     rw e
 
 pub name-of-spec : {M : Type 1} → statement M

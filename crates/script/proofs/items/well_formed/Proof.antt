@@ -5,13 +5,13 @@ use native.Mathlib.Omega.{arith}
 use borrow.Author.Tests.{not-true, not-false}
 use lib.ListN.{length}
 use Rattle.layout.specs.Lists.{every}
-use Rattle.script.specs.Script.{itemOk, itemsFrom}
+use Rattle.script.specs.Script.{item_ok, items_from}
 use Rattle.script.proofs.items.well_formed.Statement.{statement}
 use Rattle.script.proofs.items.well_formed.Tie as tie
 use Rattle.script.proofs.Walks.Scripts.{item-fits, every-step, every-bad, every-end}
 
 abbrev invariant-loop : tie.invariant-loop
-invariant-loop script at₀ at = (at ≤ length script) × (every (itemOk script) (itemsFrom script 0) ≡ every (itemOk script) (itemsFrom script at))
+invariant-loop script at₀ at = (at ≤ length script) × (every (item_ok script) (items_from script 0) ≡ every (item_ok script) (items_from script at))
 
 abbrev decreases-loop : tie.decreases-loop
 decreases-loop script at₀ at = length script - at

@@ -1,4 +1,4 @@
-use Rattle.script.specs.Script.{entryHead}
+use Rattle.script.specs.Script.{entry_head}
 use Rattle.script.proofs.Walks.Encoding.{length-numbers, four-groups}
 use borrow.Author.Rules.{rules}
 use Rattle.script.proofs.overview.put_entry.Statement.{statement}
@@ -32,7 +32,7 @@ same_length : tie.Need-same-length
 same_length c = search rules
 
 returns : tie.Need-returns
-unfolding entryHead
+unfolding entry_head
 returns c =
     let a = c.before.before.before.before.before.before.before.before.before.before.before.before.before.before.before.before.before.before.before.before.before.args in
     let p = c.before.before.before.before.before.before.before.before.before.before.before.before.before.before.before.before.before.before.places.ensures in

@@ -1,4 +1,4 @@
-use Rattle.script.specs.Script.{volumeHead}
+use Rattle.script.specs.Script.{volume_head}
 use Rattle.script.proofs.Walks.Encoding.{length-numbers, two-groups}
 use borrow.Author.Rules.{rules}
 use Rattle.script.proofs.overview.put_volume.Statement.{statement}
@@ -14,7 +14,7 @@ same_length : tie.Need-same-length
 same_length c = search rules
 
 returns : tie.Need-returns
-unfolding volumeHead
+unfolding volume_head
 returns c =
     let a = c.before.before.before.before.before.before.before.before.before.args in
     rw (c.before.before.put-group2.ensures, c.before.before.before.before.before.before.put-group.ensures)

@@ -1,6 +1,6 @@
 use mathlib.Core.Path.{◌∙◌}
 use borrow.Author.Tests.{eq-eqb, ne_eqb}
-use Rattle.journal.specs.Run.{lookAnswer}
+use Rattle.journal.specs.Run.{look_answer}
 use Rattle.script.proofs.Walks.Scripts.{size-show, shows-volume, shows-entry, shows-settings}
 use borrow.Author.Rules.{rules}
 use Rattle.script.proofs.overview.show.Statement.{statement}
@@ -19,7 +19,7 @@ same_length : tie.Need-same-length
 same_length c = search rules
 
 returns : tie.Need-returns
-unfolding lookAnswer
+unfolding look_answer
 returns c =
     let a = c.before.before.before.before.before.before.before.before.before.args in
     c.before.before.info.ensures ∙ rw (shows-volume a.script.now a.at c.before.before.before.before.if1.true)
@@ -37,7 +37,7 @@ same-length-2 : tie.Need-same-length-2
 same-length-2 c = search rules
 
 returns-2 : tie.Need-returns-2
-unfolding lookAnswer
+unfolding look_answer
 returns-2 c =
     let a = c.before.before.before.before.before.before.before.before.before.before.before.args in
     c.before.before.entry.ensures ∙ rw (shows-entry a.script.now a.at c.before.before.before.before.if2.true)
@@ -52,7 +52,7 @@ same-length-3 : tie.Need-same-length-3
 same-length-3 c = search rules
 
 returns-3 : tie.Need-returns-3
-unfolding lookAnswer
+unfolding look_answer
 returns-3 c =
     let a = c.before.before.before.before.before.before.before.before.before.before.before.args in
     c.before.before.get.ensures ∙ rw (shows-settings a.script.now a.at c.before.before.before.before.before.before.if1.false c.before.before.before.before.if2.false)

@@ -1,6 +1,6 @@
 use mathlib.Core.Path.{◌∙◌}
 use borrow.Author.Tests.{ne_eqb}
-use Rattle.script.specs.Script.{changeAt}
+use Rattle.script.specs.Script.{change_at}
 use borrow.Author.Rules.{rules}
 use Rattle.script.proofs.runner.change_of.Statement.{statement}
 use Rattle.script.proofs.runner.change_of.Tie as tie
@@ -18,7 +18,7 @@ file-of-requires : tie.Need-file-of-requires
 file-of-requires c κs = search rules
 
 returns : tie.Need-returns
-unfolding changeAt
+unfolding change_at
 returns c = c.file-of.ensures ∙ rw (c.before.if1.true, c.before.before.get64.ensures)
 
 add-get64-2 : tie.Need-overflow-add-get64-2
@@ -28,34 +28,34 @@ get64-requires-2 : tie.Need-get64-requires-2
 get64-requires-2 c κs = search rules
 
 returns-2 : tie.Need-returns-2
-unfolding changeAt
+unfolding change_at
 returns-2 c = rw (c.before.if2.true, c.before.before.before.get64.ensures, c.get642.ensures)
 
 directory-of-requires : tie.Need-directory-of-requires
 directory-of-requires c κs = search rules
 
 returns-3 : tie.Need-returns-3
-unfolding changeAt
+unfolding change_at
 returns-3 c = c.directory-of.ensures ∙ rw (c.before.if3.true, c.before.before.before.before.get64.ensures)
 
 returns-4 : tie.Need-returns-4
-unfolding changeAt
+unfolding change_at
 returns-4 c = rw c.if4.true
 
 returns-5 : tie.Need-returns-5
-unfolding changeAt
+unfolding change_at
 returns-5 c = rw c.if5.true
 
 returns-6 : tie.Need-returns-6
-unfolding changeAt
+unfolding change_at
 returns-6 c = rw c.if6.true
 
 returns-7 : tie.Need-returns-7
-unfolding changeAt
+unfolding change_at
 returns-7 c = rw c.if7.true
 
 returns-8 : tie.Need-returns-8
-unfolding changeAt
+unfolding change_at
 returns-8 c = rw (c.if8.true, c.before.before.before.before.before.before.before.before.get64.ensures)
 
 renew-of-requires : tie.Need-renew-of-requires
@@ -63,7 +63,7 @@ renew-of-requires c κs = search rules
 
 -- none of the ops above
 returns-9 : tie.Need-returns-9
-unfolding changeAt
+unfolding change_at
 returns-9 c =
     let d = c.before in
     let b = d.before.before in

@@ -1,8 +1,8 @@
 use mathlib.Core.Path.{◌≡◌, sym, ap, ◌∙◌}
 use native.Mathlib.Omega.{arith}
 use Rattle.journal.specs.Run.{state}
-use Rattle.script.specs.Script.{opAt, encoded}
-use Rattle.script.proofs.Walks.Scripts.{size-read, size_low, size-look-in-place, is-check, is-lookup, is-look-in-place, read_answer, last-look}
+use Rattle.script.specs.Script.{op_at, encoded}
+use Rattle.script.proofs.Walks.Scripts.{size-read, size_low, size-look-in-place, is-check, is-lookup, is-look-in-place, read-answer, last-look}
 use Rattle.script.proofs.Walks.Making.{look-answered}
 use borrow.Author.Rules.{rules}
 use Rattle.script.proofs.runner.look.Statement.{statement}
@@ -27,7 +27,7 @@ returns c =
     let read = c.before.before.read in
     let a = c.before.before.before.before.before.before.before.before.before.before.args in
     let f = sym c.before.before.before.before.before.fills.ensures ∙ c.before.before.before.before.if1.true in
-    λ j. read.ensures ∙ sym (ap encoded (read_answer a.script.now a.at (state a.image.now j) f))
+    λ j. read.ensures ∙ sym (ap encoded (read-answer a.script.now a.at (state a.image.now j) f))
 
 shared-slice-read-if2 : tie.Need-shared-slice-read-if2
 shared-slice-read-if2 c = search rules
@@ -73,7 +73,7 @@ look-in-place-requires c κs =
     let if3 = c.before.if3 in
     let a = c.before.before.before.before.before.before.before.before.before.before.before.args in
     let p = c.before.before.before.before.before.before.before.before.before.before.before.requires in
-    let op : opAt a.script.now a.at ≡ 4 = last-look a.script.now a.at p.2 (sym fills.ensures ∙ if1.false) p.1 if2.false if3.false in
+    let op : op_at a.script.now a.at ≡ 4 = last-look a.script.now a.at p.2 (sym fills.ensures ∙ if1.false) p.1 if2.false if3.false in
     (p.0.fits, p.0.room ∙ size-look-in-place _ _ op)
 
 same-length-4 : tie.Need-same-length-4
@@ -88,7 +88,7 @@ returns-4 c =
     let look-in-place = c.before.before.look-in-place in
     let a = c.before.before.before.before.before.before.before.before.before.before.before.before.before.before.args in
     let p = c.before.before.before.before.before.before.before.before.before.before.before.before.before.before.requires in
-    let op : opAt a.script.now a.at ≡ 4 = last-look a.script.now a.at p.2 (sym fills.ensures ∙ if1.false) p.1 if2.false if3.false in
+    let op : op_at a.script.now a.at ≡ 4 = last-look a.script.now a.at p.2 (sym fills.ensures ∙ if1.false) p.1 if2.false if3.false in
     λ j. look-answered _ j _ _ _ (is-look-in-place _ _ op) look-in-place.ensures
 
 pub look_spec : {M : Type 1} → statement M

@@ -1,4 +1,4 @@
-use Rattle.script.specs.Script.{answerSize}
+use Rattle.script.specs.Script.{answer_size}
 use Rattle.script.proofs.Walks.Making.{item-put, change-made}
 use borrow.Author.Rules.{rules}
 use Rattle.script.proofs.runner.put_in.Statement.{statement}
@@ -38,7 +38,7 @@ same-length-3 : tie.Need-same-length-3
 same-length-3 c = search rules
 
 returns : tie.Need-returns
-unfolding answerSize
+unfolding answer_size
 returns c =
     let put-numbers = c.before.before.put-numbers in
     let changed-numbers = c.before.before.before.changed-numbers in

@@ -4,7 +4,7 @@ use borrow.Author.Tests.{not-true, not-false, leb-true}
 use borrow.Author.Rules.{rules}
 use Rattle.script.proofs.runner.run.Statement.{statement}
 use Rattle.script.proofs.runner.run.Tie as tie
-use Rattle.script.proofs.Walks.Running.{bad-script, no_room, all-run}
+use Rattle.script.proofs.Walks.Running.{bad-script, no-room, all-run}
 use Rattle.script.proofs.Walks.Replaying.{replays}
 
 well-formed-requires : tie.Need-well-formed-requires
@@ -24,7 +24,7 @@ returns-2 : tie.Need-returns-2
 returns-2 c =
     let e : c.before.before.before.well-formed.result ≡ true = not-false _ c.before.before.if1.left in
     let f : c.before.answers-fit.result ≡ false = not-true _ c.if2.taken in
-    replays _ _ _ _ _ (no_room _ _ _ _ (sym c.before.before.before.well-formed.ensures ∙ e) (sym c.before.answers-fit.ensures ∙ f))
+    replays _ _ _ _ _ (no-room _ _ _ _ (sym c.before.before.before.well-formed.ensures ∙ e) (sym c.before.answers-fit.ensures ∙ f))
 
 execute-requires : tie.Need-execute-requires
 execute-requires c κs =

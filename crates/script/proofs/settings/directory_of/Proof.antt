@@ -1,7 +1,7 @@
 use Prim.Native.Nat.{◌+◌, ◌-◌}
 use mathlib.Core.Path.{◌≡◌}
 use native.Mathlib.Omega.{arith}
-use Rattle.script.specs.Script.{directoryAt, directoryLength}
+use Rattle.script.specs.Script.{directory_at, directory_length}
 use borrow.Author.Rules.{rules}
 use Rattle.script.proofs.settings.directory_of.Statement.{statement}
 use Rattle.script.proofs.settings.directory_of.Tie as tie
@@ -25,10 +25,10 @@ part-result-end : tie.Need-slice-bounds-result-end
 part-result-end c = search rules
 
 returns : tie.Need-returns
-unfolding directoryAt
+unfolding directory_at
 returns c =
     let a = c.before.before.before.args in
-    let e : a.at + 33 + c.before.directory-length.result - (a.at + 33) ≡ directoryLength a.script.now a.at = omega (arith, c.before.directory-length.ensures) in
+    let e : a.at + 33 + c.before.directory-length.result - (a.at + 33) ≡ directory_length a.script.now a.at = omega (arith, c.before.directory-length.ensures) in
     rw e
 
 pub directory-of-spec : {M : Type 1} → statement M

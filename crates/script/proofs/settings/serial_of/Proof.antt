@@ -1,7 +1,7 @@
 use Prim.Native.Nat.{◌+◌, ◌-◌}
 use mathlib.Core.Path.{◌≡◌}
 use native.Mathlib.Omega.{arith}
-use Rattle.script.specs.Script.{serialAt, nameLength, directoryLength}
+use Rattle.script.specs.Script.{serial_at, name_length, directory_length}
 use borrow.Author.Rules.{rules}
 use Rattle.script.proofs.settings.serial_of.Statement.{statement}
 use Rattle.script.proofs.settings.serial_of.Tie as tie
@@ -40,11 +40,11 @@ part-result-end : tie.Need-slice-bounds-result-end
 part-result-end c = search rules
 
 returns : tie.Need-returns
-unfolding serialAt
+unfolding serial_at
 returns c =
     let a = c.before.before.before.before.args in
     let k = c.before.before.directory-length in
-    let e : a.at + 33 + c.before.get32.result - (a.at + 33 + k.result) ≡ nameLength a.script.now a.at - directoryLength a.script.now a.at = omega (arith, k.ensures, c.before.get32.ensures) in
+    let e : a.at + 33 + c.before.get32.result - (a.at + 33 + k.result) ≡ name_length a.script.now a.at - directory_length a.script.now a.at = omega (arith, k.ensures, c.before.get32.ensures) in
     rw (e, k.ensures)
 
 pub serial-of-spec : {M : Type 1} → statement M

@@ -1,5 +1,5 @@
 use borrow.Author.Rules.{rules}
-use Rattle.store.specs.Change.{refusal, after, slotGiven}
+use Rattle.store.specs.Change.{refusal, after, slot_given}
 use Rattle.store.specs.Walks.Targets.{Target}
 use Rattle.store.proofs.change.make.Statement.{statement}
 use Rattle.store.proofs.change.make.Tie as tie
@@ -28,14 +28,14 @@ same_length : tie.Need-same-length
 same_length c = search rules
 
 returns : tie.Need-returns
-unfolding after slotGiven
+unfolding after slot_given
 returns c = rw c.before.before.before.before.before.what.given.1 c.before.before.make.ensures
 
 same-length-2 : tie.Need-same-length-2
 same-length-2 c = search rules
 
 returns-2 : tie.Need-returns-2
-unfolding after slotGiven
+unfolding after slot_given
 returns-2 c = rw c.before.before.before.before.before.what2.given.1 c.before.before.put.ensures
 
 pub make_spec : {M : Type 1} → statement M

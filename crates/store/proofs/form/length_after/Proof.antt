@@ -1,5 +1,5 @@
 use Rattle.store.proofs.Walks.Rewriting.{dropped-most}
-use Rattle.store.specs.Walks.Forms.{lengthAfter}
+use Rattle.store.specs.Walks.Forms.{length_after}
 use native.Mathlib.Omega.{arith}
 use Prim.Native.Nat.{ℕ, ◌+◌, ◌-◌}
 use mathlib.Core.Path.{ap}
@@ -20,7 +20,7 @@ add-result-2 : tie.Need-overflow-add-result-2
 add-result-2 c = search rules
 
 returns : tie.Need-returns
-unfolding lengthAfter
+unfolding length_after
 returns c = ap (λ (d : ℕ). c.before.before.args.form.used - d + 5 + c.before.before.args.size) c.before.dropped.ensures
 
 pub length-after-spec : {M : Type 1} → statement M

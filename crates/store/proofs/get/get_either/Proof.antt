@@ -1,7 +1,7 @@
 use mathlib.Core.Path.{sym, ap, ◌∙◌}
 use borrow.Author.Tests.{leb-true}
 use lib.ListN.{length}
-use Rattle.store.specs.Walks.Forms.{maxForm}
+use Rattle.store.specs.Walks.Forms.{max_form}
 use Rattle.layout.proofs.Laws.Bytes.{length-zeros}
 use Rattle.layout.proofs.Walks.Looks.{located-below}
 use Rattle.store.proofs.Laws.Serials.{addressed}
@@ -52,7 +52,7 @@ get-from-requires c κs =
     let l = o.file z in
     let r = sym o.number_is ∙ z in
     let ok = sym c.before.before.before.before.before.before.before.before.before.check.ensures ∙ c.before.before.before.before.before.before.before.before.if1.false in
-    (located-below l r ok, located_fits l r ok, ap length c.before.before.empty-room.ensures ∙ length-zeros maxForm, leb-true _ _ (addressed _ _ _ (sym c.before.before.before.before.before.before.before.address-refusal.ensures ∙ c.before.before.before.before.before.before.if2.false)).1)
+    (located-below l r ok, located_fits l r ok, ap length c.before.before.empty-room.ensures ∙ length-zeros max_form, leb-true _ _ (addressed _ _ _ (sym c.before.before.before.before.before.before.before.address-refusal.ensures ∙ c.before.before.before.before.before.before.if2.false)).1)
 
 same_length : tie.Need-same-length
 same_length c = search rules

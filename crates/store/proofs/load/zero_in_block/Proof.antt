@@ -1,5 +1,5 @@
 use Rattle.layout.proofs.Laws.Bytes.{part-part}
-use Rattle.layout.specs.Walks.Entries.{allZero}
+use Rattle.layout.specs.Walks.Entries.{all_zero}
 use native.Mathlib.Omega.{arith}
 use Prim.Native.Nat.{◌+◌, ◌-◌, ◌*◌}
 use mathlib.Core.Path.{◌≡◌, ap, ◌∙◌}
@@ -29,7 +29,7 @@ returns : tie.Need-returns
 returns c =
     let a = c.before.before.before.before.args in
     let e : a.o + a.m - a.o ≡ a.m = omega arith in
-    c.all-zero.ensures ∙ ap allZero (rw (c.before.before.block.ensures.0, e) (part-part a.image.now (512 * a.b) 512 a.o a.m c.before.before.before.before.requires.0 c.before.before.before.before.requires.1))
+    c.all-zero.ensures ∙ ap all_zero (rw (c.before.before.block.ensures.0, e) (part-part a.image.now (512 * a.b) 512 a.o a.m c.before.before.before.before.requires.0 c.before.before.before.before.requires.1))
 
 pub zero-in-block-spec : {M : Type 1} → statement M
 zero-in-block-spec =

@@ -2,7 +2,7 @@ use mathlib.Core.Path.{ap, ◌∙◌}
 use Prim.Native.Nat.{ℕ}
 use native.Mathlib.Omega.{arith}
 use Rattle.layout.specs.Walks.Slots.{entry_at}
-use Rattle.volume.specs.Write.{writeNamed}
+use Rattle.volume.specs.Write.{write_named}
 use Rattle.volume.specs.Walks.Marks.{marked}
 use Rattle.store.proofs.Walks.Puts.{file-small, file-blocks, spare-accepted, spare-named}
 use Rattle.store.proofs.Walks.Prepares.{more-weighed}
@@ -45,7 +45,7 @@ returns-2 : tie.Need-returns-2
 returns-2 c =
     let a = c.before.before.before.before.before.before.before.before.before.before.before.args in
     let w = c.before.before.before.before.weigh.ensures in
-    c.before.before.write-at-named2.ensures ∙ ap (λ (k : ℕ). marked a.marks.now (writeNamed a.image.now (entry_at a.found.block a.found.slot) 0 k)) (w.size_is (more-weighed w c.before.before.before.before.before.before.before.before.before.before.before.requires.3).0)
+    c.before.before.write-at-named2.ensures ∙ ap (λ (k : ℕ). marked a.marks.now (write_named a.image.now (entry_at a.found.block a.found.slot) 0 k)) (w.size_is (more-weighed w c.before.before.before.before.before.before.before.before.before.before.before.requires.3).0)
 
 pub more-named-spec : {M : Type 1} → statement M
 more-named-spec =

@@ -2,7 +2,7 @@ use mathlib.Core.Path.{ap, ◌∙◌}
 use mathlib.Core.List.{List, []}
 use Prim.Native.Nat.{ℕ}
 use Rattle.layout.specs.Walks.Slots.{entry_at}
-use Rattle.volume.specs.Write.{writeAt}
+use Rattle.volume.specs.Write.{write_at}
 use Rattle.store.specs.Settings.{encoded, added}
 use Rattle.store.proofs.Laws.Put.{put-serial, put-short}
 use Rattle.store.proofs.Walks.Firsts.{first-sound, first-standing, first-accepted, first-image, first-revision}
@@ -34,7 +34,7 @@ returns c =
     let a = c.before.before.before.before.before.before.before.before.before.before.before.before.before.before.args in
     let none = target-absent p.2 c.before.before.before.before.before.before.before.before.if1.true in
     let v = (p.2.place none).0 in
-    (first-revision a.image.now a.directory.now a.serial.now a.time a.bytes.now p.0 p.1 none, c.before.before.put_first.ensures ∙ ap (λ (x : List ℕ). writeAt x (entry_at a.found.block a.found.slot) 0 (encoded (added [] a.bytes.now) 0) a.time) c.before.before.before.before.before.before.create-file.ensures ∙ first-image a.image.now a.directory.now a.serial.now a.time a.bytes.now p.0 p.1 none _ _ _ v)
+    (first-revision a.image.now a.directory.now a.serial.now a.time a.bytes.now p.0 p.1 none, c.before.before.put_first.ensures ∙ ap (λ (x : List ℕ). write_at x (entry_at a.found.block a.found.slot) 0 (encoded (added [] a.bytes.now) 0) a.time) c.before.before.before.before.before.before.create-file.ensures ∙ first-image a.image.now a.directory.now a.serial.now a.time a.bytes.now p.0 p.1 none _ _ _ v)
 
 put-more-requires : tie.Need-put-more-requires
 put-more-requires c κs =

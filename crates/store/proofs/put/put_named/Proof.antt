@@ -3,10 +3,10 @@ use native.Mathlib.Omega.{arith}
 use mathlib.Core.List.{List, ◌++◌}
 use Prim.Native.Nat.{ℕ}
 use lib.ListN.{take}
-use Rattle.layout.specs.Geometry.{blockCount}
-use Rattle.layout.specs.Table.{next, freeBlocks}
-use Rattle.volume.specs.Entries.{entriesNamed}
-use Rattle.volume.specs.Write.{changedEntries}
+use Rattle.layout.specs.Geometry.{block_count}
+use Rattle.layout.specs.Table.{next, free_blocks}
+use Rattle.volume.specs.Entries.{entries_named}
+use Rattle.volume.specs.Write.{changed_entries}
 use Rattle.volume.specs.Walks.Marks.{marked}
 use Rattle.layout.proofs.Walks.Shapes.{sound-shape}
 use Rattle.store.proofs.Walks.Firsts.{first-room, first-named}
@@ -35,8 +35,8 @@ returns c =
     let p = c.before.before.before.before.before.before.before.before.before.before.before.before.before.before.before.requires in
     let a = c.before.before.before.before.before.before.before.before.before.before.before.before.before.before.before.args in
     let none = target-absent p.2 c.before.before.before.before.before.before.before.before.if1.true in
-    let free = take 1 (freeBlocks (next a.image.now) (blockCount a.image.now)) in
-    c.before.before.mark-grown.ensures ∙ ap (λ (m : List ℕ). marked m (free ++ entriesNamed (changedEntries 0 free))) c.before.before.before.before.before.before.mark.ensures
+    let free = take 1 (free_blocks (next a.image.now) (block_count a.image.now)) in
+    c.before.before.mark-grown.ensures ∙ ap (λ (m : List ℕ). marked m (free ++ entries_named (changed_entries 0 free))) c.before.before.before.before.before.before.mark.ensures
     ∙ first-named a.image.now a.directory.now a.serial.now a.time a.bytes.now p.0 p.1 none _ _ _ (p.2.place none).0 a.marks.now
 
 more-named-requires : tie.Need-more-named-requires

@@ -1,6 +1,6 @@
 use mathlib.Core.Path.{sym, ◌∙◌}
 use borrow.Author.Tests.{leb-true}
-use Rattle.store.specs.Put.{pathOf}
+use Rattle.store.specs.Put.{path_of}
 use Rattle.store.proofs.Laws.Serials.{addressed}
 use Rattle.store.proofs.Walks.Refusals.{address-refused, there-if, absent-if}
 use Rattle.store.proofs.Walks.Prepares.{prepared-refused, prepared-first, prepared-more, there-more}
@@ -40,7 +40,7 @@ more-refusal-requires c κs =
     let o = c.before.before.open-file.ensures in
     let z = c.if2.false in
     let right = addressed a.directory.now a.serial.now _ (sym c.before.before.before.before.address-refusal.ensures ∙ c.before.before.before.if1.false) in
-    (c.before.before.before.before.before.before.before.before.before.requires, record { path = pathOf a.directory.now a.serial.now; accepted = sym o.number_is ∙ z; located = o.file z }, leb-true _ _ right.1)
+    (c.before.before.before.before.before.before.before.before.before.requires, record { path = path_of a.directory.now a.serial.now; accepted = sym o.number_is ∙ z; located = o.file z }, leb-true _ _ right.1)
 
 refused-requires-2 : tie.Need-refused-requires-2
 refused-requires-2 c κs = search rules

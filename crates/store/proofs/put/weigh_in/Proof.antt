@@ -2,7 +2,7 @@ use Prim.Native.Nat.{◌<◌, max}
 use mathlib.Core.Path.{ap, ◌∙◌}
 use native.Mathlib.Omega.{arith}
 use borrow.Author.Tests.{not-true, not-false}
-use Rattle.store.specs.Settings.{maxNumber}
+use Rattle.store.specs.Settings.{max_number}
 use Rattle.store.proofs.Walks.Rewriting.{oldest-most}
 use Rattle.store.proofs.Walks.Puts.{file-below, file-inside, weighed-form, weighed-last, weighed-size}
 use borrow.Author.Rules.{rules}
@@ -49,7 +49,7 @@ same-length-3 c = search rules
 returns-3 : tie.Need-returns-3
 returns-3 c =
     let p = c.before.before.before.before.before.before.before.before.before.before.before.before.before.requires in
-    let low : c.before.before.before.before.before.before.before.before.load.result.last < maxNumber = omega (arith, c.before.before.if2.false) in
+    let low : c.before.before.before.before.before.before.before.before.load.result.last < max_number = omega (arith, c.before.before.if2.false) in
     weighed-size p.1 p.0 _ _ _ _ _ _ c.before.before.before.before.before.before.before.before.load.ensures (not-false _ c.before.before.before.before.if1.false) _ p.2 (λ i. omega (arith, c.before.before.before.before.before.before.slice-known2.given i)) (c.before.before.before.before.before.before.before.before.load.auto.1.1.0 ∙ p.3) low _ (c.larger.ensures ∙ ap (max c.before.before.before.before.before.before.before.before.before.before.before.before.before.args.found.size) c.before.length-after.ensures)
 
 pub weigh-in-spec : {M : Type 1} → statement M

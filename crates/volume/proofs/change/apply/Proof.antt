@@ -3,7 +3,7 @@ use mathlib.Core.Path.{◌∙◌}
 use native.Mathlib.Omega.{arith}
 use Rattle.layout.proofs.Walks.Shapes.{sound-shape}
 use Rattle.volume.specs.Change.{refusal, after}
-use Rattle.volume.specs.Flags.{clearFlagsAt}
+use Rattle.volume.specs.Flags.{clear_flags_at}
 use Rattle.volume.specs.Walks.Targets.{Target}
 use Rattle.volume.proofs.Laws.Places.{create-given, write-at}
 use Rattle.volume.proofs.Walks.Delete.{file-droppable, dropped-image}
@@ -188,7 +188,7 @@ same-length-8 : tie.Need-same-length-8
 same-length-8 c = search rules
 
 returns-8 : tie.Need-returns-8
-unfolding after Target clearFlagsAt
+unfolding after Target clear_flags_at
 returns-8 c =
     let t = rw c.before.before.before.before.enum-told5.given.1 at c.before.before.before.before.before.before.before.before.before.requires.2 in
     rw c.before.before.before.before.enum-told5.given.1 (c.before.before.clear-bytes.ensures ∙ rw t.place)

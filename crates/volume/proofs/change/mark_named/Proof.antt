@@ -3,7 +3,7 @@ use mathlib.Core.Path.{◌∙◌}
 use native.Mathlib.Omega.{arith}
 use Rattle.layout.proofs.Walks.Looks.{located-block}
 use Rattle.volume.specs.Change.{refusal, named}
-use Rattle.volume.specs.Flags.{clearFlagsNamed}
+use Rattle.volume.specs.Flags.{clear_flags_named}
 use Rattle.volume.specs.Walks.Targets.{Target}
 use Rattle.volume.proofs.Laws.Places.{write-at, create-directory-given}
 use Rattle.volume.proofs.Walks.Create.{create-marked}
@@ -190,7 +190,7 @@ same-length-8 : tie.Need-same-length-8
 same-length-8 c = search rules
 
 returns-8 : tie.Need-returns-8
-unfolding named Target clearFlagsNamed
+unfolding named Target clear_flags_named
 returns-8 c =
     let t = rw c.before.before.before.before.enum-told6.given.1 at c.before.before.before.before.before.before.before.before.before.before.requires.2 in
     rw c.before.before.before.before.enum-told6.given.1 (c.before.before.mark2.ensures ∙ rw (located-block t))

@@ -1,6 +1,6 @@
 use borrow.Author.Rules.{rules}
 use Rattle.volume.specs.Change.{refusal}
-use Rattle.volume.specs.Replace.{replaceRefusal}
+use Rattle.volume.specs.Replace.{replace_refusal}
 use Rattle.volume.specs.Walks.Targets.{Target}
 use Rattle.volume.proofs.change.refusal.Statement.{statement}
 use Rattle.volume.proofs.change.refusal.Tie as tie
@@ -108,7 +108,7 @@ unfolding refusal Target
 returns-9 c = rw c.before.before.what4.given.1 (record { number_is = c.shorten-refusal.ensures.number_is; target = c.shorten-refusal.ensures.file })
 
 returns-10 : tie.Need-returns-10
-unfolding refusal Target replaceRefusal
+unfolding refusal Target replace_refusal
 returns-10 c = rw c.before.enum-told6.given.1 (record { number_is = c.write-refusal2.ensures.number_is; target = c.write-refusal2.ensures.file })
 
 returns-11 : tie.Need-returns-11

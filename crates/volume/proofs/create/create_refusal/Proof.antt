@@ -5,7 +5,7 @@ use Prim.Native.Nat.{ℕ}
 use native.Mathlib.Omega.{arith}
 use borrow.Author.Tests.{not-true, not-false}
 use Rattle.layout.proofs.Walks.Looks.{form-given}
-use Rattle.volume.specs.Walks.Places.{broughtRefusal}
+use Rattle.volume.specs.Walks.Places.{brought_refusal}
 use Rattle.volume.proofs.Walks.Places.{brought-fine, refused-place, place-as}
 use Rattle.volume.proofs.Walks.Create.{refused-kind, refused-brought, by_place}
 use Rattle.volume.proofs.create.create_refusal.Statement.{statement}
@@ -40,7 +40,7 @@ returns-2 c =
     let n = c.refused2.ensures.0 in
     refused-place
     (n ∙ refused-brought a.image.now a.path.now a.kind a.flags (sym f ∙ c.before.before.before.before.before.is-file.ensures) _
-    (c.before.before.brought-refusal.ensures ∙ ap (λ (x : ℕ). broughtRefusal x a.flags) c.before.before.before.path-refusal.ensures) c.before.if2.true)
+    (c.before.before.brought-refusal.ensures ∙ ap (λ (x : ℕ). brought_refusal x a.flags) c.before.before.before.path-refusal.ensures) c.before.if2.true)
     (λ z. c.before.if2.true (sym n ∙ z))
 
 find-place-requires : tie.Need-find-place-requires

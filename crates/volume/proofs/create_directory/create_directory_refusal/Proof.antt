@@ -6,7 +6,7 @@ use native.Mathlib.Omega.{arith}
 use borrow.Author.Tests.{not-true, not-false}
 use Rattle.layout.proofs.Walks.Looks.{whole-given}
 use Rattle.layout.proofs.Walks.Shapes.{sound-shape}
-use Rattle.volume.specs.Walks.Places.{broughtRefusal}
+use Rattle.volume.specs.Walks.Places.{brought_refusal}
 use Rattle.volume.proofs.Walks.Places.{brought-fine, refused-place, place-as}
 use Rattle.volume.proofs.Walks.CreateDirectory.{create-directory-shape, create-directory-brought, create-directory-place, create-directory-full, create-directory-fine}
 use Rattle.volume.proofs.create_directory.create_directory_refusal.Statement.{statement}
@@ -41,7 +41,7 @@ returns-2 c =
     let n = c.refused2.ensures.0 in
     refused-place
     (n ∙ create-directory-brought a.image.now a.path.now a.kind a.flags a.d (sym f ∙ c.before.before.before.before.before.shaped.ensures) _
-    (c.before.before.brought-refusal.ensures ∙ ap (λ (x : ℕ). broughtRefusal x a.flags) c.before.before.before.whole-path-refusal.ensures) c.before.if2.true)
+    (c.before.before.brought-refusal.ensures ∙ ap (λ (x : ℕ). brought_refusal x a.flags) c.before.before.before.whole-path-refusal.ensures) c.before.if2.true)
     (λ z. c.before.if2.true (sym n ∙ z))
 
 find-place-requires : tie.Need-find-place-requires

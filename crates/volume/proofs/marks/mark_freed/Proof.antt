@@ -2,7 +2,7 @@ use mathlib.Core.Path.{sym, ◌∙◌}
 use borrow.Author.Rules.{rules}
 use Rattle.volume.proofs.marks.mark_freed.Statement.{statement}
 use Rattle.volume.proofs.marks.mark_freed.Tie as tie
-use Rattle.volume.specs.Entries.{blocksNamed}
+use Rattle.volume.specs.Entries.{blocks_named}
 use Rattle.volume.proofs.Walks.Marks.{marked_append}
 
 mark-chain-requires : tie.Need-mark-chain-requires
@@ -15,7 +15,7 @@ same_length : tie.Need-same-length
 same_length c = search rules
 
 returns : tie.Need-returns
-unfolding blocksNamed
+unfolding blocks_named
 returns c =
     c.before.before.mark-entries.ensures ∙ rw c.before.before.before.before.before.before.mark-chain.ensures (sym (marked_append _ _ _))
 

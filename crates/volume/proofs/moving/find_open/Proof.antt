@@ -2,9 +2,9 @@ use mathlib.Core.Path.{◌≡◌, refl, ◌∙◌}
 use Prim.Native.Nat.{◌-◌, ◌*◌, ◌≤◌}
 use native.Mathlib.Omega.{arith}
 use Rattle.layout.specs.Table.{next, chain}
-use Rattle.layout.specs.Walks.Slots.{Place, slotFrom, entry_at}
-use Rattle.layout.proofs.Walks.Slots.{place-below, place-entry, place-then, place-first, slotFrom-end, slotFrom-here, slotFrom-next, stands_here, stands-none}
-use Rattle.volume.specs.Walks.Moves.{slotOpen}
+use Rattle.layout.specs.Walks.Slots.{Place, slot_from, entry_at}
+use Rattle.layout.proofs.Walks.Slots.{place-below, place-entry, place-then, place-first, slot_from-end, slot_from-here, slot_from-next, stands_here, stands-none}
+use Rattle.volume.specs.Walks.Moves.{slot_open}
 use Rattle.volume.proofs.Walks.Move.{open-from, slot-open}
 use Rattle.volume.proofs.moving.find_open.Statement.{statement}
 use Rattle.volume.proofs.moving.find_open.Tie as tie
@@ -14,7 +14,7 @@ use Rattle.layout.proofs.directory.following.Reads as following-reads
 use Rattle.layout.proofs.directory.type_at.Reads as type-at-reads
 
 abbrev invariant-loop : tie.invariant-loop
-invariant-loop image n first d own b₀ slot₀ left₀ b slot left = (Place (chain (next image) first d) d b slot left) × (slotFrom (slotOpen image own) (chain (next image) first d) 1 (4 * d - 2) ≡ slotFrom (slotOpen image own) (chain (next image) first d) slot left) × (1 ≤ slot)
+invariant-loop image n first d own b₀ slot₀ left₀ b slot left = (Place (chain (next image) first d) d b slot left) × (slot_from (slot_open image own) (chain (next image) first d) 1 (4 * d - 2) ≡ slot_from (slot_open image own) (chain (next image) first d) slot left) × (1 ≤ slot)
 
 abbrev decreases-loop : tie.decreases-loop
 decreases-loop image n first d own b₀ slot₀ left₀ b slot left = left
@@ -61,7 +61,7 @@ returns c =
     let p = c.before.before.before.before.before.requires in
     let bs = p.blocks in
     stands_here _ _ a.d _ _ _ _ bs l.invariant.0 l.invariant.2
-    (open-from a.image.now _ a.own a.d bs.size ∙ l.invariant.1 ∙ slotFrom-here (slotOpen a.image.now a.own) _ _ _ (entry_at l.b l.slot)
+    (open-from a.image.now _ a.own a.d bs.size ∙ l.invariant.1 ∙ slot_from-here (slot_open a.image.now a.own) _ _ _ (entry_at l.b l.slot)
     (place-entry _ _ _ _ _ l.invariant.0) (omega arith) (slot-open a.image.now (entry_at l.b l.slot) a.own _ _ c.before.type_at.ensures refl _ c.if1.true))
 
 -- src/moving.rt:52:16
@@ -88,7 +88,7 @@ loop-again : tie.Need-loop-preserved invariant-loop decreases-loop
 loop-again c =
     let l = c.before.before.before.before.loop in
     let a = c.before.before.before.before.before.before.args in
-    (place-then _ _ _ _ _ _ _ l.invariant.0 (omega arith) c.following.ensures, l.invariant.1 ∙ slotFrom-next (slotOpen a.image.now a.own) _ _ _ (entry_at l.b l.slot) (place-entry _ _ _ _ _ l.invariant.0) (omega arith) (slot-open a.image.now (entry_at l.b l.slot) a.own _ _ c.before.before.type_at.ensures refl _ c.before.if1.false), omega arith)
+    (place-then _ _ _ _ _ _ _ l.invariant.0 (omega arith) c.following.ensures, l.invariant.1 ∙ slot_from-next (slot_open a.image.now a.own) _ _ _ (entry_at l.b l.slot) (place-entry _ _ _ _ _ l.invariant.0) (omega arith) (slot-open a.image.now (entry_at l.b l.slot) a.own _ _ c.before.before.type_at.ensures refl _ c.before.if1.false), omega arith)
 
 -- src/moving.rt:37:1
 returns-2 : tie.Need-returns-2 invariant-loop decreases-loop
@@ -96,7 +96,7 @@ returns-2 c =
     let a = c.before.before.before.args in
     let p = c.before.before.before.requires in
     let l = c.before.loop in
-    stands-none _ _ _ (open-from a.image.now _ a.own a.d p.blocks.size ∙ l.invariant.1 ∙ slotFrom-end (slotOpen a.image.now a.own) _ _ _ (omega arith))
+    stands-none _ _ _ (open-from a.image.now _ a.own a.d p.blocks.size ∙ l.invariant.1 ∙ slot_from-end (slot_open a.image.now a.own) _ _ _ (omega arith))
 
 pub find-open-spec : {M : Type 1} → statement M
 find-open-spec =

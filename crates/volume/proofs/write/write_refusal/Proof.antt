@@ -1,7 +1,7 @@
 use borrow.Author.Rules.{rules}
 use mathlib.Core.Path.{sym, ◌∙◌}
 use native.Mathlib.Omega.{arith}
-use Rattle.layout.specs.Directory.{isFile}
+use Rattle.layout.specs.Directory.{is_file}
 use Rattle.layout.proofs.Walks.Looks.{opens-refused, opens_as}
 use Rattle.volume.proofs.Walks.Write.{data-long, path-refused, by-entry}
 use Rattle.volume.proofs.write.write_refusal.Statement.{statement}
@@ -13,7 +13,7 @@ refused-requires c κs = search rules
 returns : tie.Need-returns
 returns c =
     let f = c.refused.ensures in
-    opens-refused isFile _ _ (f.0 ∙ data-long _ _ _ _ c.before.if1.true) (λ z. omega (arith, f.0)) f.1
+    opens-refused is_file _ _ (f.0 ∙ data-long _ _ _ _ c.before.if1.true) (λ z. omega (arith, f.0)) f.1
 
 open-file-requires : tie.Need-open-file-requires
 open-file-requires c κs = search rules
@@ -21,7 +21,7 @@ open-file-requires c κs = search rules
 returns-2 : tie.Need-returns-2
 returns-2 c =
     let o = c.before.open-file.ensures in
-    opens_as isFile _ _ (path-refused _ _ _ _ (omega arith) (λ z. c.if2.true (o.number_is ∙ z))) o
+    opens_as is_file _ _ (path-refused _ _ _ _ (omega arith) (λ z. c.if2.true (o.number_is ∙ z))) o
 
 write-at-refusal-requires : tie.Need-write-at-refusal-requires
 write-at-refusal-requires c κs =
@@ -37,14 +37,14 @@ returns-3 c =
     let o = c.before.before.before.before.open-file.ensures in
     let z = c.before.before.before.if2.false in
     let f = c.refused2.ensures in
-    opens-refused isFile _ _ (f.0 ∙ c.before.before.write-at-refusal.ensures ∙ by-entry _ _ _ _ (omega arith) (sym o.number_is ∙ z) (o.file z)) (λ q. c.before.if3.true (sym f.0 ∙ q)) f.1
+    opens-refused is_file _ _ (f.0 ∙ c.before.before.write-at-refusal.ensures ∙ by-entry _ _ _ _ (omega arith) (sym o.number_is ∙ z) (o.file z)) (λ q. c.before.if3.true (sym f.0 ∙ q)) f.1
 
 returns-4 : tie.Need-returns-4
 returns-4 c =
     let o = c.before.before.before.open-file.ensures in
     let z = c.before.before.if2.false in
     let found = sym o.number_is ∙ z in
-    opens_as isFile _ _ (found ∙ sym c.if3.false ∙ c.before.write-at-refusal.ensures ∙ by-entry _ _ _ _ (omega arith) found (o.file z)) o
+    opens_as is_file _ _ (found ∙ sym c.if3.false ∙ c.before.write-at-refusal.ensures ∙ by-entry _ _ _ _ (omega arith) found (o.file z)) o
 
 pub write-refusal-spec : {M : Type 1} → statement M
 write-refusal-spec =

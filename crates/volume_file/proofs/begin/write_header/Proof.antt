@@ -1,7 +1,7 @@
 use mathlib.Core.Path.{refl}
 use native.Mathlib.Omega.{arith}
 use Rattle.layout.proofs.Laws.Bytes.{lent}
-use Rattle.volume_file.specs.Format.{fileSignature}
+use Rattle.volume_file.specs.Format.{file_signature}
 use Rattle.volume_file.proofs.Laws.Begins.{header_made}
 use borrow.Author.Rules.{rules}
 use Rattle.volume_file.proofs.begin.write_header.Statement.{statement}
@@ -49,7 +49,7 @@ same_length c = search rules
 returns : tie.Need-returns
 returns c =
     let a = c.before.before.before.before.before.before.before.before.before.before.before.before.before.before.before.before.before.before.before.before.before.before.args in
-    header_made a.file.now _ _ _ _ _ a.n a.m a.x 488 (omega arith) (lent a.file.now 0 12 _ fileSignature c.before.before.before.before.before.before.before.before.before.before.before.before.before.before.before.before.before.before.copy.ensures refl) c.before.before.before.before.before.before.before.before.before.before.before.before.before.before.put32.ensures c.before.before.before.before.before.before.before.before.before.before.put322.ensures c.before.before.before.before.before.before.put323.ensures c.before.before.clear.ensures refl
+    header_made a.file.now _ _ _ _ _ a.n a.m a.x 488 (omega arith) (lent a.file.now 0 12 _ file_signature c.before.before.before.before.before.before.before.before.before.before.before.before.before.before.before.before.before.before.copy.ensures refl) c.before.before.before.before.before.before.before.before.before.before.before.before.before.before.put32.ensures c.before.before.before.before.before.before.before.before.before.before.put322.ensures c.before.before.before.before.before.before.put323.ensures c.before.before.clear.ensures refl
 
 pub write-header-spec : {M : Type 1} → statement M
 write-header-spec =

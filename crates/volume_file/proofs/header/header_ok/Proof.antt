@@ -1,4 +1,4 @@
-use Rattle.volume_file.specs.Format.{headerOk}
+use Rattle.volume_file.specs.Format.{header_ok}
 use borrow.Author.Rules.{rules}
 use Rattle.volume_file.proofs.header.header_ok.Statement.{statement}
 use Rattle.volume_file.proofs.header.header_ok.Tie as tie
@@ -43,7 +43,7 @@ all-zero-requires : tie.Need-all-zero-requires
 all-zero-requires c κs = search rules
 
 returns : tie.Need-returns
-unfolding headerOk
+unfolding header_ok
 returns c = rw (c.before.before.before.before.before.before.equal.ensures, c.before.before.sizes-ok.ensures, c.before.before.before.before.before.get32.ensures, c.before.before.before.before.get322.ensures, c.before.before.before.get323.ensures, c.all-zero.ensures)
 
 pub header-ok-spec : {M : Type 1} → statement M

@@ -1,4 +1,4 @@
-use Rattle.volume_file.specs.Format.{homeSectors}
+use Rattle.volume_file.specs.Format.{home_sectors}
 use borrow.Author.Rules.{rules}
 use Rattle.volume_file.proofs.header.home_sectors.Statement.{statement}
 use Rattle.volume_file.proofs.header.home_sectors.Tie as tie
@@ -31,7 +31,7 @@ add-result-2 : tie.Need-overflow-add-result-2
 add-result-2 c = search rules
 
 returns : tie.Need-returns
-unfolding homeSectors
+unfolding home_sectors
 returns c = rw (c.before.before.get32.ensures, c.before.get322.ensures, c.get323.ensures, c.before.before.before.block.ensures.0)
 
 pub home-sectors-spec : {M : Type 1} → statement M

@@ -1,7 +1,7 @@
 use Prim.Native.Nat.{ℕ}
 use mathlib.Core.Path.{ap, ◌∙◌}
 use Rattle.layout.specs.Bytes.{be32}
-use Rattle.volume_file.specs.Format.{countAt, logCount}
+use Rattle.volume_file.specs.Format.{count_at, log_count}
 use borrow.Author.Rules.{rules}
 use Rattle.volume_file.proofs.log.log_count.Statement.{statement}
 use Rattle.volume_file.proofs.log.log_count.Tie as tie
@@ -19,8 +19,8 @@ cast-result : tie.Need-overflow-cast-result
 cast-result c = search rules
 
 returns : tie.Need-returns
-unfolding logCount
-returns c = c.get32.ensures ∙ ap (λ (h : ℕ). be32 c.before.before.args.file.now (countAt h)) c.before.before.requires.2
+unfolding log_count
+returns c = c.get32.ensures ∙ ap (λ (h : ℕ). be32 c.before.before.args.file.now (count_at h)) c.before.before.requires.2
 
 pub log-count-spec : {M : Type 1} → statement M
 log-count-spec = tie.close (tie.spec add_at mul_at get32-requires cast-result returns)

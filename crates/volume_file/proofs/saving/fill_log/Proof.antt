@@ -1,14 +1,14 @@
 use Prim.Native.Nat.{◌-◌}
 use mathlib.Core.Path.{◌∙◌}
 use native.Mathlib.Omega.{arith}
-use Rattle.volume_file.specs.Save.{homeWith}
+use Rattle.volume_file.specs.Save.{home_with}
 use Rattle.volume_file.proofs.Walks.Logging.{together-long, Logging, log-start, log-test, log-skip, log-room, log-take, log-count, log-few, log-end}
 use Rattle.volume_file.proofs.Walks.Turns.{test-true, test-false}
 use Rattle.volume_file.proofs.saving.fill_log.Statement.{statement}
 use Rattle.volume_file.proofs.saving.fill_log.Tie as tie
 
 abbrev invariant-loop : tie.invariant-loop
-invariant-loop file₀ image journal own h k₀ i₀ file k i = Logging file₀ (homeWith image journal own) h file k i
+invariant-loop file₀ image journal own h k₀ i₀ file k i = Logging file₀ (home_with image journal own) h file k i
 
 abbrev decreases-loop : tie.decreases-loop
 decreases-loop file₀ image journal own h k₀ i₀ file k i = h - i

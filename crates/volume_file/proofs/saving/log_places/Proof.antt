@@ -1,8 +1,8 @@
 use Prim.Native.Nat.{ℕ, ◌*◌, ◌+◌}
 use mathlib.Core.Path.{◌≡◌, ap}
 use native.Mathlib.Omega.{arith}
-use Rattle.volume_file.specs.Format.{numberSectors, saved_at}
-use Rattle.volume_file.specs.Answers.{prepareAnswered, logPlaces}
+use Rattle.volume_file.specs.Format.{number_sectors, saved_at}
+use Rattle.volume_file.specs.Answers.{prepare_answered, log_places}
 use borrow.Author.Rules.{rules}
 use Rattle.volume_file.proofs.saving.log_places.Statement.{statement}
 use Rattle.volume_file.proofs.saving.log_places.Tie as tie
@@ -50,12 +50,12 @@ cast-t16 : tie.Need-overflow-cast-t16
 cast-t16 c = search rules
 
 returns : tie.Need-returns
-unfolding logPlaces
+unfolding log_places
 returns c =
     let h : ℕ = c.args.h in
     let k : ℕ = c.args.k in
-    let e : 2 + h + numberSectors h ≡ saved_at h 0 = omega arith in
-    ap (λ (a : ℕ). prepareAnswered 0 k (512 * (2 + h)) (512 * numberSectors k) (512 * a) (512 * k)) e
+    let e : 2 + h + number_sectors h ≡ saved_at h 0 = omega arith in
+    ap (λ (a : ℕ). prepare_answered 0 k (512 * (2 + h)) (512 * number_sectors k) (512 * a) (512 * k)) e
 
 pub log-places-spec : {M : Type 1} → statement M
 log-places-spec =

@@ -1,7 +1,7 @@
 use mathlib.Core.Path.{◌≡◌}
 use native.Mathlib.Omega.{arith}
 use Prim.Native.Nat.{◌-◌, ◌≤◌}
-use Rattle.write_list.specs.List.{maxList}
+use Rattle.write_list.specs.List.{max_list}
 use lib.ListN.{length}
 use mathlib.Core.Path.{refl}
 use borrow.Author.Rules.{rules}
@@ -13,7 +13,7 @@ use Rattle.write_list.proofs.call.write_items.Tie as tie
 
 abbrev invariant-loop : tie.invariant-loop
 invariant-loop image₀ journal₀ list done₀ at₀ image journal done at =
-    Midway (state image₀ journal₀) list (state image journal) done at × (length image ≡ length image₀) × (length journal ≡ length journal₀) × (length list ≤ maxList)
+    Midway (state image₀ journal₀) list (state image journal) done at × (length image ≡ length image₀) × (length journal ≡ length journal₀) × (length list ≤ max_list)
 
 abbrev decreases-loop : tie.decreases-loop
 decreases-loop image₀ journal₀ list done₀ at₀ image journal done at = length list - at

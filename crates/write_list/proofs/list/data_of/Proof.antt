@@ -1,6 +1,6 @@
 use native.Mathlib.Omega.{arith}
 use Rattle.write_list.proofs.Laws.Items.{item}
-use Rattle.write_list.specs.List.{dataAt}
+use Rattle.write_list.specs.List.{data_at}
 use mathlib.Core.Path.{◌≡◌}
 use Prim.Native.Nat.{◌+◌, ◌-◌}
 use borrow.Author.Rules.{rules}
@@ -51,7 +51,7 @@ part-result-end c =
     omega (arith, i.ends, i.room, c.get32.ensures)
 
 returns : tie.Need-returns
-unfolding dataAt
+unfolding data_at
 returns c =
     let a = c.before.before.before.before.args in
     let get32 = c.before.get32 in

@@ -1,5 +1,5 @@
 use native.Mathlib.Omega.{arith}
-use Rattle.write_list.specs.List.{pathLength}
+use Rattle.write_list.specs.List.{path_length}
 use borrow.Author.Rules.{rules}
 use Rattle.write_list.proofs.list.path_length.Statement.{statement}
 use Rattle.write_list.proofs.list.path_length.Tie as tie
@@ -29,7 +29,7 @@ add-result : tie.Need-overflow-add-result
 add-result c = search rules
 
 returns : tie.Need-returns
-unfolding pathLength
+unfolding path_length
 returns c = (rw (c.before.before.wide.ensures.0, c.wide2.ensures.0), omega arith)
 
 pub path-length-spec : {M : Type 1} → statement M

@@ -1,6 +1,6 @@
 use native.Mathlib.Omega.{arith}
 use Rattle.write_list.proofs.Laws.Items.{item}
-use Rattle.write_list.specs.List.{pathAt}
+use Rattle.write_list.specs.List.{path_at}
 use mathlib.Core.Path.{◌≡◌}
 use Prim.Native.Nat.{◌+◌, ◌-◌}
 use borrow.Author.Rules.{rules}
@@ -34,7 +34,7 @@ part-result-end c =
     omega (arith, i.ends, i.room, c.path-length.ensures.0)
 
 returns : tie.Need-returns
-unfolding pathAt
+unfolding path_at
 returns c =
     let a = c.before.before.before.args in
     let e : a.at + 18 + c.before.path-length.result - (a.at + 18) ≡ c.before.path-length.result = omega arith in
