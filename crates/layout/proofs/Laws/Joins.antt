@@ -14,6 +14,7 @@ use Rattle.layout.proofs.Laws.Lists.{In, in_left, in_right, in-append, distinct_
 
 -- a range
 pub in-interval : (a k x : ℕ) → In x (interval a k) → (a ≤ x) × (x < a + k)
+in-interval a zero x x3 = elim x3 [ ]
 in-interval a (suc k) x (inl e) = (omega arith, omega arith)
 in-interval a (suc k) x (inr m) = let r = in-interval (suc a) k x m in (omega arith, omega arith)
 
@@ -24,6 +25,7 @@ interval-in (suc k) a x h g = ⊎_elim (λ e. inl (sym e)) (λ l. inr (interval-
 -- what passes a test, of any list
 module _ (p : ℕ → Bool) where
   pub in-select : (xs : List ℕ) (x : ℕ) → In x (select p xs) → In x xs × (p x ≡ true)
+  in-select [] x m = elim m [ ]
   in-select (y ∷ xs) x m = go (p y) refl (in-select xs x) m
     where
       go : (t : Bool) → p y ≡ t → (In x (select p xs) → In x xs × (p x ≡ true)) → In x (keep t y (select p xs)) → In x (y ∷ xs) × (p x ≡ true)
@@ -32,6 +34,7 @@ module _ (p : ℕ → Bool) where
       go false e ih q = let r = ih q in (inr r.0, r.1)
 
   pub select_has : (xs : List ℕ) (x : ℕ) → In x xs → p x ≡ true → In x (select p xs)
+  select_has [] x m t = elim m [ ]
   select_has (y ∷ xs) x m t = go (p y) refl (λ i. select_has xs x i t) m
     where
       go : (u : Bool) → p y ≡ u → (In x xs → In x (select p xs)) → In x (y ∷ xs) → In x (keep u y (select p xs))
@@ -55,10 +58,12 @@ select-agree p q (x ∷ xs) f = rw (f x (inl refl), select-agree p q xs (λ y m.
 -- a map
 module _ {A B : Type 0} (f : A → B) where
   pub of_map : (y : B) (xs : List A) → In y (map f xs) → (x : A) × In x xs × (y ≡ f x)
+  of_map y [] x' = elim x' [ ]
   of_map y (x ∷ xs) (inl e) = (x, inl refl, e)
   of_map y (x ∷ xs) (inr i) = let r = of_map y xs i in (r.0, inr r.1, r.2)
 
   pub to_map : (x : A) (xs : List A) → In x xs → In (f x) (map f xs)
+  to_map x [] x'' = elim x'' [ ]
   to_map x (y ∷ xs) (inl e) = inl (ap f e)
   to_map x (y ∷ xs) (inr i) = inr (to_map x xs i)
 
@@ -69,9 +74,11 @@ map-agree f g (x ∷ xs) h = rw (h x (inl refl), map-agree f g xs (λ y m. h y (
 -- members of a join
 module _ {A B : Type 0} (g : A → List B) where
   pub of-join : (xs : List A) (y : B) → In y (joined g xs) → (x : A) × In x xs × In y (g x)
+  of-join [] y m = elim m [ ]
   of-join (x ∷ xs) y m = ⊎_elim (λ i. (x, inl refl, i)) (λ i. let r = of-join xs y i in (r.0, inr r.1, r.2)) (in-append y (g x) (joined g xs) m)
 
   pub to-join : (xs : List A) (x : A) (y : B) → In x xs → In y (g x) → In y (joined g xs)
+  to-join [] x y x4 i = elim x4 [ ]
   to-join (z ∷ xs) x y (inl e) i = in_left y (g z) (joined g xs) (subst (λ (w : A). In y (g w)) e i)
   to-join (z ∷ xs) x y (inr m) i = in_right y (g z) (joined g xs) (to-join xs x y m i)
 
@@ -82,10 +89,12 @@ module _ {A B : Type 0} (g : A → List B) where
   -- no element in two of the lists
   module _ (eq : B → B → Bool) (eq-true : (x y : B) → eq x y ≡ true → x ≡ y) (true-eq : (x : B) → eq x x ≡ true) where
     pub join-part : (xs : List A) → distinct eq (joined g xs) ≡ true → (x : A) → In x xs → distinct eq (g x) ≡ true
+    join-part [] d x x4 = elim x4 [ ]
     join-part (z ∷ xs) d x (inl e) = subst (λ (w : A). distinct eq (g w) ≡ true) (sym e) (distinct-left eq eq-true true-eq (g z) (joined g xs) d)
     join-part (z ∷ xs) d x (inr m) = join-part xs (distinct-right eq eq-true true-eq (g z) (joined g xs) d) x m
 
     pub join_apart : (xs : List A) → distinct eq (joined g xs) ≡ true → (x y : A) → In x xs → In y xs → x ≢ y → (b : B) → In b (g x) → In b (g y) → ⊥
+    join_apart [] d x y x8 _ ne b i j = elim x8 [ ]
     join_apart (z ∷ xs) d x y (inl p) (inl q) ne b i j = ne (p ∙ sym q)
     join_apart (z ∷ xs) d x y (inl p) (inr q) ne b i j =
         distinct_apart eq eq-true true-eq (g z) (joined g xs) d b (subst (λ (w : A). In b (g w)) p i) (to-join xs y b q j)

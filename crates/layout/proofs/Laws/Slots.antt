@@ -77,6 +77,7 @@ pub child-below : (s : List ℕ) (left r b j e : ℕ) → In (b, suc j) (below s
 child-below s zero r b j e i m = one (rw (below-is s zero r) at i)
   where
     one : In {A = ℕ × ℕ} (b, suc j) ((r, zero) ∷ []) → In (first_block s e, j) (below s zero r)
+    one (inr x3) = elim x3 [ ]
     one (inl q) = let z : suc j ≡ zero = ap (λ (w : ℕ × ℕ). w.1) q in absurd (omega arith)
 child-below s (suc left) r b j e i m = one (λ a p. child-below s left (first_block s a) b j e p m) (rw (below-is s (suc left) r) at i)
   where

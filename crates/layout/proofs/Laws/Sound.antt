@@ -120,6 +120,7 @@ quads-in bs e i a = to-join quad bs (e / 512) e i (four (e / 128 % 4) refl)
 
 in-quad : (q e : ℕ) → In e (quad q) → (e / 512 ≡ q) × (e % 128 ≡ 0)
 unfolding quad
+in-quad q e (inr (inr (inr (inr x4)))) = elim x4 [ ]
 in-quad q e (inl p) = (omega arith, omega arith)
 in-quad q e (inr (inl p)) = (omega arith, omega arith)
 in-quad q e (inr (inr (inl p))) = (omega arith, omega arith)
@@ -356,6 +357,9 @@ two-distinct es lined d =
     join-distinct two es d (λ e i. rw (ne_eqb e (e + 28) (λ q. omega arith))) (λ x y i j ne b p q. let h = lined x i in let g = lined y j in ne (go x y b h g p q))
   where
     go : (x y b : ℕ) → x % 128 ≡ 0 → y % 128 ≡ 0 → In b (two x) → In b (two y) → x ≡ y
+    go x y b h g (inl p) (inr (inr x5)) = elim x5 [ ]
+    go x y b h g (inr (inl p)) (inr (inr x8)) = elim x8 [ ]
+    go x y b h g (inr (inr x7)) _ = elim x7 [ ]
     go x y b h g (inl p) (inl q) = omega arith
     go x y b h g (inl p) (inr (inl q)) = absurd (omega arith)
     go x y b h g (inr (inl p)) (inl q) = absurd (omega arith)
@@ -382,6 +386,7 @@ module _ (s : List ℕ) (n : ℕ) (T : Tree s n) (least : min_blocks ≤ n) wher
     in-of a i = let r = of-join two (joined quad bs) a i in go r.0 (entry_of r.0 r.1) r.2
       where
         go : (e : ℕ) → Entry s e → In a (two e) → Owner s a
+        go e E (inr (inr x'')) = elim x'' [ ]
         go e E (inl q) = inl (rw q E)
         go e E (inr (inl q)) = rw q (second-owner s (dirs s) e E)
 

@@ -21,6 +21,7 @@ pub below-level : (s : List ℕ) (left b : ℕ) (d : ℕ × ℕ) → In d (below
 below-level s zero b d i = first (rw (below-is s zero b) at i)
   where
     first : In d ((b, zero) ∷ []) → d.1 ≤ zero
+    first (inr x'') = elim x'' [ ]
     first (inl e) = let z : d.1 ≡ zero = ap (λ (w : ℕ × ℕ). w.1) e in omega arith
 below-level s (suc left) b d i = first (λ c. below-level s left c d) (rw (below-is s (suc left) b) at i)
   where
@@ -33,6 +34,7 @@ pub below-trans : (s : List ℕ) (left r b i : ℕ) (d : ℕ × ℕ) → In (b, 
 below-trans s zero r b i d m j = first (rw (below-is s zero r) at m)
   where
     first : In {A = ℕ × ℕ} (b, i) ((r, zero) ∷ []) → In d (below s zero r)
+    first (inr x3) = elim x3 [ ]
     first (inl e) =
         let p : b ≡ r = ap (λ (w : ℕ × ℕ). w.0) e in
         let q : i ≡ zero = ap (λ (w : ℕ × ℕ). w.1) e in
@@ -50,6 +52,7 @@ below-trans s (suc left) r b i d m j = first (λ c n. below-trans s left c b i d
 
 -- a list at one of its elements
 pub split_at : {A : Type 0} (x : A) (xs : List A) → In x xs → (ps : List A) × (qs : List A) × (xs ≡ ps ++ (x ∷ qs))
+split_at {A = A} x [] x'' = elim x'' [ ]
 split_at {A} x (y ∷ xs) (inl e) = ([], xs, ap (λ (z : A). z ∷ xs) (sym e))
 split_at {A} x (y ∷ xs) (inr m) = let r = split_at x xs m in (y ∷ r.0, r.1, ap (λ (z : List A). y ∷ z) r.2)
 
@@ -145,6 +148,7 @@ module _ (x y : List ℕ) (b₀ j : ℕ) where
       spread zero r sub once i = first (rw (below-is x zero r) at i)
         where
           first : In d₀ ((r, zero) ∷ []) → Rel (below x zero r) (below y zero r)
+          first (inr x5) = elim x5 [ ]
           first (inl e) = let z : suc j ≡ zero = ap (λ (w : ℕ × ℕ). w.1) e in absurd (omega arith)
       spread (suc left) r sub once i = first (λ c. spread left c) (rw (below-is x (suc left) r) at i)
         where

@@ -111,6 +111,7 @@ module _ (s : List ℕ) (n : ℕ) where
   stage-four zero b p ok f d i = first (rw (below-is s zero b) at i)
     where
       first : In d ((b, zero) ∷ []) → (q : ℕ) × (directory_ok s n d.0 q ≡ true)
+      first (inr x4) = elim x4 [ ]
       first (inl e) = (p, subst (λ (x : ℕ × ℕ). directory_ok s n x.0 p ≡ true) (sym e) ok)
   stage-four (suc left) b p ok f d i =
       first (λ e m. stage-four left (first_block s e) b (child_ok-directory s n b e ((f (b, suc left) (rw (below-is s (suc left) b) (inl refl))).child e m))
