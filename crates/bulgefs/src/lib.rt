@@ -1,5 +1,7 @@
 // The C entry points: numbers, byte buffers and runs of 32-bit numbers only. Each call says, field by field, what the call below it says; include/bulgefs.h documents them
 // for C. Nothing is asked of the caller but buffers that do not overlap.
+#![tactic(auto)]
+
 ghost use Rattle.std.specs.Prelude.{◌+◌, ◌≡◌};
 ghost use Rattle.layout.specs.Check.{check};
 ghost use Rattle.layout.specs.Looks.{LookupAnswer, ReadAnswer, Extent, lookup, read, extent_of, read_attributes, volume_info, next_entry};

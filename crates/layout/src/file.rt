@@ -12,6 +12,7 @@ use super::directory::number_at;
 use super::limits::MAX_LEVELS;
 
 // An entry that was looked for: the number of the refusal, or 0, where its entry is, and the entry's numbers.
+#[derive(Clone, Copy)]
 #[derive(Drop)]
 pub struct File {
     pub number: u32,

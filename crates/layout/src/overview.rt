@@ -151,6 +151,7 @@ fn used_slot(image: &[u8], n: usize, b: usize, start: usize) -> super::directory
 }
 
 // An entry of a directory: the number of the refusal, or 0; its slot, 0 if there is none; its fields.
+#[derive(Clone, Copy)]
 #[repr(C)]
 #[derive(Drop)]
 pub struct EntryInfo {

@@ -1,4 +1,6 @@
 // The lister: reads an image from standard input, and writes its listing or the refusal to standard output. A read that fails ends the input.
+#![tactic(auto)]
+
 ghost use Rattle.std.specs.Prelude.{◌≡◌, length};
 ghost use Rattle.lister.specs.Text.{max_listing};
 

@@ -302,6 +302,7 @@ fn tour(image: &[u8], n: usize, levels: usize, d: usize, before: usize) -> Visit
 }
 
 // What is asked of a chain: how many blocks it claims, or whether it holds a block.
+#[derive(Clone, Copy)]
 #[derive(Drop)]
 enum Question {
     Claims,

@@ -1,5 +1,7 @@
 // Runs a script on a fresh volume: reads it from standard input, formats 16 blocks with a root of two, starts a journal, and writes one
 // byte that says whether the script was run, then image, journal and answers. For tests: everything that it shows is made by `script::runner::run`.
+#![tactic(auto)]
+
 const INPUT: usize = 65536;
 
 const IMAGE: usize = 8192;

@@ -1,4 +1,6 @@
 // Salvage of a broken volume with directories. The call is `salvage_tree::salvage_tree`, on any bytes.
+#![tactic(auto)]
+
 mod blocks;
 mod lost;
 mod names;

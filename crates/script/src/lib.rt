@@ -1,4 +1,6 @@
 // Scripts: the calls of a run as bytes, run in order.
+#![tactic(auto)]
+
 mod answers;
 mod items;
 mod marks;

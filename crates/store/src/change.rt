@@ -9,6 +9,7 @@ ghost use Rattle.store.specs.Walks.Targets.{Target, Prepared};
 
 use layout::file::File;
 
+#[derive(Clone, Copy)]
 #[derive(Drop)]
 pub enum Change {
     Volume(volume::change::Change),

@@ -24,6 +24,7 @@ pub fn empty_room() -> [u8; MAX_FORM]
 }
 
 // Whether a file is of the form, its used length, how many revisions it has, the number of the latest and the length of the oldest record.
+#[derive(Clone, Copy)]
 #[derive(Drop)]
 pub struct Form {
     pub ok: bool,

@@ -19,6 +19,7 @@ use super::write::write_at;
 use layout::file::File;
 
 // The kind of a change, with its numbers.
+#[derive(Clone, Copy)]
 #[derive(Drop)]
 pub enum Change {
     Create(Given),

@@ -9,6 +9,7 @@ use super::slot::Fields;
 use layout::file::File;
 
 // The fields that a new entry is given.
+#[derive(Clone, Copy)]
 #[derive(Drop)]
 pub struct Given {
     pub kind: u8,

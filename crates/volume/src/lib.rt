@@ -2,6 +2,8 @@
 // refusal, its named blocks as marks and the change itself, on an image that the caller has checked. `place`, `create`, `write` and `marks` have what a
 // change of a crate above is made of too: of a file that was found, or of a place for one. `number` writes numbers, `table` and `file` the parts of an
 // image that salvage puts right too.
+#![tactic(auto)]
+
 mod attributes;
 pub mod change;
 pub mod create;

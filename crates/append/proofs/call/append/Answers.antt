@@ -1,0 +1,38 @@
+use mathlib.Core.Path.{sym, ◌∙◌}
+use Rattle.journal.proofs.Walks.Changes.{ready}
+use Rattle.append.proofs.Laws.Turns.{append-unready, append-empty, append-some}
+use borrow.Author.Rules.{rules}
+use Rattle.append.proofs.call.append.Goals as goal
+
+pub returns-then-unready-ne0 : goal.returns-then-unready-ne0
+returns-then-unready-ne0 c =
+    let d = append-unready _ _ _ _ _ _ c.ready_refusal-unready.ensures c.if-unready-ne0.true in
+    (d.0, (d.1, c.if-unready-ne0.true))
+
+pub file_end-end-requires : goal.file_end-end-requires
+file_end-end-requires c =
+    let w = ready _ _ (sym c.ready_refusal-unready.ensures ∙ c.if-unready-ne0.false) in
+    w.sound
+
+pub append_nothing-requires : goal.append_nothing-requires
+append_nothing-requires c =
+    let w = ready _ _ (sym c.ready_refusal-unready.ensures ∙ c.if-unready-ne0.false) in
+    w.sound
+
+pub returns-then-piece-eq0 : goal.returns-then-piece-eq0
+returns-then-piece-eq0 c =
+    let w = ready _ _ (sym c.ready_refusal-unready.ensures ∙ c.if-unready-ne0.false) in
+    let n = c.append_nothing.ensures in
+    let d = append-empty _ _ _ _ w _ c.if-piece-eq0.true _ c.file_end-end.ensures n.0 in
+    (d.0, (d.1, n.1))
+
+pub change_ready-requires : goal.change_ready-requires
+change_ready-requires c =
+    let w = ready _ _ (sym c.ready_refusal-unready.ensures ∙ c.if-unready-ne0.false) in
+    w
+
+pub returns : goal.returns
+returns c =
+    let n = c.change_ready.ensures in
+    let d = append-some _ _ _ _ _ c.if-piece-eq0.false _ c.file_end-end.ensures n.0 n.1.0 in
+    (d.0, (d.1, n.1.1))

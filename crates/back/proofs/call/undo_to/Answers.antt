@@ -1,0 +1,29 @@
+-- Each exit is one law of Turns.
+use mathlib.Core.Path.{◌≡◌, sym, ◌∙◌}
+use mathlib.Core.Bool.{true, false}
+use borrow.Author.Rules.{rules}
+use borrow.Author.Tests.{not-true, not-false}
+use Rattle.journal.proofs.Walks.Changes.{ready}
+use Rattle.back.proofs.Laws.Turns.{right-ready, back-unready, back-unmarked, back_done}
+use Rattle.back.proofs.call.undo_to.Goals as goal
+
+pub returns-then-unready-ne0 : goal.returns-then-unready-ne0
+returns-then-unready-ne0 c = back-unready _ _ _ c.ready_refusal-unready.ensures c.if-unready-ne0.true
+
+pub had_mark-requires : goal.had_mark-requires
+had_mark-requires c = right-ready (ready _ _ (sym c.ready_refusal-unready.ensures ∙ c.if-unready-ne0.false))
+
+pub returns-then-not-had_mark : goal.returns-then-not-had_mark
+returns-then-not-had_mark c =
+    let t : c.had_mark.result ≡ false = not-true _ c.if-not-had_mark.true-raw in
+    back-unmarked _ _ (ready _ _ (sym c.ready_refusal-unready.ensures ∙ c.if-unready-ne0.false)) (sym c.had_mark.ensures ∙ t)
+
+pub take_to-done-requires : goal.take_to-done-requires
+take_to-done-requires c =
+    let t : c.had_mark.result ≡ true = not-false _ c.if-not-had_mark.false-raw in
+    (ready _ _ (sym c.ready_refusal-unready.ensures ∙ c.if-unready-ne0.false), sym c.had_mark.ensures ∙ t)
+
+pub returns : goal.returns
+returns c =
+    let t : c.had_mark.result ≡ true = not-false _ c.if-not-had_mark.false-raw in
+    c.take_to-done.ensures ∙ back_done _ _ (ready _ _ (sym c.ready_refusal-unready.ensures ∙ c.if-unready-ne0.false)) (sym c.had_mark.ensures ∙ t)

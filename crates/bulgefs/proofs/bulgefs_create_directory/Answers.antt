@@ -1,0 +1,6 @@
+use mathlib.Core.Path.{◌∙◌}
+use borrow.Author.Rules.{rules}
+use Rattle.bulgefs.proofs.bulgefs_create_directory.Goals as goal
+
+pub returns : goal.returns
+returns c = let call = c.create_directory in record { answer = c.with_slot.ensures ∙ call.ensures.0; state = call.ensures.1.0 }

@@ -1,0 +1,10 @@
+use mathlib.Core.Path.{ap, sym, ◌∙◌}
+use Rattle.layout.specs.Answers.{lookup_answer}
+use borrow.Author.Rules.{rules}
+use Rattle.bulgefs.proofs.bulgefs_lookup.Goals as goal
+
+pub returns-in-File : goal.returns-in-File
+returns-in-File c = ap lookup_answer (sym c.slot-1.given.1) ∙ c.lookup.ensures.answer
+
+pub returns-in-Refused : goal.returns-in-Refused
+returns-in-Refused c = ap lookup_answer (sym c.number-1.given.1) ∙ c.lookup.ensures.answer

@@ -1,0 +1,9 @@
+use mathlib.Core.Path.{refl}
+use Rattle.volume.specs.Change as volume
+use Rattle.store.specs.Change.{slot_given}
+use borrow.Author.Rules.{rules}
+use Rattle.bulgefs.proofs.bulgefs_replace.Goals as goal
+
+pub returns : goal.returns
+unfolding slot_given volume.slot_given
+returns c = let replace = c.replace in record { answer = c.slotless.ensures _ _ refl replace.ensures.0; state = replace.ensures.1.0 }

@@ -1,0 +1,9 @@
+use Rattle.bulgefs.proofs.Bounds.{change-case, no_slot}
+use borrow.Author.Rules.{rules}
+use Rattle.bulgefs.proofs.slotless.Goals as goal
+
+pub returns-in-Done : goal.returns-in-Done
+returns-in-Done c = λ p x z h. no_slot p x z _ _ (change-case _ c.c-1.given.1 h)
+
+pub returns-in-Refused : goal.returns-in-Refused
+returns-in-Refused c = λ p x z h. change-case _ c.c-in-Refused-1.given.1 h

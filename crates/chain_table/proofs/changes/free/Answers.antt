@@ -1,0 +1,7 @@
+use Rattle.chain_table.specs.Numbers.{freed_in}
+use borrow.Author.Rules.{rules}
+use Rattle.chain_table.proofs.changes.free.Goals as goal
+
+pub returns : goal.returns
+unfolding freed_in
+returns c = c.set.ensures

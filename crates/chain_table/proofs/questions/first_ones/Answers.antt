@@ -1,0 +1,37 @@
+use Prim.Native.Nat.{◌+◌}
+use mathlib.Core.Path.{◌≡◌, refl, sym, ◌∙◌}
+use native.Mathlib.Omega.{arith}
+use lib.ListN.{length}
+use borrow.Author.Rules.{rules}
+use Rattle.layout.specs.Geometry.{table_blocks}
+use Rattle.layout.specs.Table.{all_ones}
+use Rattle.layout.proofs.Walks.Chains.{all_ones-end, all_ones-next, all_ones-stop}
+use Rattle.chain_table.specs.Numbers.{value_in}
+use Rattle.chain_table.proofs.questions.first_ones.Goals as goal
+
+pub overflow_add-left : goal.overflow_add-left
+overflow_add-left c = omega arith
+
+pub overflow_add-left-2 : goal.overflow_add-left-2
+overflow_add-left-2 c = omega arith
+
+pub loop-left-init : goal.loop-left-init
+loop-left-init c = (omega arith, refl)
+
+pub returns-then-value-ne1 : goal.returns-then-value-ne1
+returns-then-value-ne1 c = sym (c.loop-left.invariant.1 ∙ all_ones-stop _ _ _ (omega arith) (λ z. c.if-value-ne1.true (c.value.ensures ∙ z)))
+
+pub overflow_add-b : goal.overflow_add-b
+overflow_add-b c = omega arith
+
+pub overflow_sub-left : goal.overflow_sub-left
+overflow_sub-left c = omega arith
+
+pub loop-left-smaller : goal.loop-left-smaller
+loop-left-smaller c = omega arith
+
+pub loop-left-preserved : goal.loop-left-preserved
+loop-left-preserved c = (omega arith, c.loop-left.invariant.1 ∙ all_ones-next _ _ _ (omega arith) (sym c.value.ensures ∙ c.if-value-ne1.false))
+
+pub returns : goal.returns
+returns c = sym (c.loop-left.invariant.1 ∙ all_ones-end _ _ _ (omega arith))

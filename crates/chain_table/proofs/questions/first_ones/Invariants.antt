@@ -1,0 +1,16 @@
+use Prim.Native.Nat.{◌+◌}
+use mathlib.Core.Path.{◌≡◌, refl, sym, ◌∙◌}
+use native.Mathlib.Omega.{arith}
+use lib.ListN.{length}
+use borrow.Author.Rules.{rules}
+use Rattle.layout.specs.Geometry.{table_blocks}
+use Rattle.layout.specs.Table.{all_ones}
+use Rattle.layout.proofs.Walks.Chains.{all_ones-end, all_ones-next, all_ones-stop}
+use Rattle.chain_table.specs.Numbers.{value_in}
+use Rattle.chain_table.proofs.questions.first_ones.Given as goal
+
+abbrev pub invariant-loop-left : goal.invariant-loop-left
+invariant-loop-left l = (l.b + l.left ≡ table_blocks (length l.numbers) + 1) × (all_ones (value_in l.numbers) 0 (table_blocks (length l.numbers) + 1) ≡ all_ones (value_in l.numbers) l.b l.left)
+
+abbrev pub decreases-loop-left : goal.decreases-loop-left
+decreases-loop-left l = l.left

@@ -1,0 +1,14 @@
+use Prim.Native.Nat.{◌-◌}
+use mathlib.Core.Path.{◌≡◌, refl, sym, ◌∙◌}
+use native.Mathlib.Omega.{arith}
+use lib.ListN.{length}
+use Rattle.volume.specs.Search.{lowest_free}
+use Rattle.chain_table.specs.Numbers.{value_in}
+use Rattle.chain_table.proofs.Laws.Turns.{search-next, search-here, search-end}
+use Rattle.chain_table.proofs.questions.lowest_free.Given as goal
+
+abbrev pub invariant-loop-b : goal.invariant-loop-b
+invariant-loop-b l = (l.n ≡ length l.numbers) × (lowest_free (value_in l.numbers) l.from l.n ≡ lowest_free (value_in l.numbers) l.b l.n)
+
+abbrev pub decreases-loop-b : goal.decreases-loop-b
+decreases-loop-b l = l.n - l.b

@@ -1,0 +1,15 @@
+use Prim.Native.Nat.{ℕ, ◌≤◌, ◌<◌, ◌-◌}
+use mathlib.Core.Path.{◌≡◌, refl}
+use native.Mathlib.Omega.{arith}
+use lib.ListN.{length, length-set}
+use Rattle.layout.specs.Walks.Chains.{entry_in}
+use Rattle.chain_table.specs.Numbers.{value_in}
+use Rattle.chain_table.proofs.Laws.Turns.{fill_more}
+use Rattle.chain_table.proofs.Laws.Numbers.{entries-are}
+use Rattle.chain_table.proofs.transfer.load_block.Given as goal
+
+abbrev pub invariant-loop-j : goal.invariant-loop-j
+invariant-loop-j l = (l.j ≤ l.j-end) × (l.j-end ≡ length l.initial.numbers) × (length l.numbers ≡ length l.initial.numbers) × ((i : ℕ) → i < l.j → value_in l.numbers i ≡ entry_in l.block i)
+
+abbrev pub decreases-loop-j : goal.decreases-loop-j
+decreases-loop-j l = l.j-end - l.j

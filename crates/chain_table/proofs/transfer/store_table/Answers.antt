@@ -1,0 +1,12 @@
+use Rattle.chain_table.proofs.Laws.Outcomes.{fits, store-not, store-done}
+use borrow.Author.Rules.{rules}
+use Rattle.chain_table.proofs.transfer.store_table.Goals as goal
+
+pub returns-then-number-ne0 : goal.returns-then-number-ne0
+returns-then-number-ne0 c = store-not _ _ _ c.refusal-number.ensures c.if-number-ne0.true
+
+pub store-requires : goal.store-requires
+store-requires c = fits c.args.image.now c.args.numbers.now _ c.refusal-number.ensures c.if-number-ne0.false
+
+pub returns : goal.returns
+returns c = store-done _ _ _ c.refusal-number.ensures c.if-number-ne0.false _ c.store.ensures

@@ -1,0 +1,42 @@
+-- Each exit is one law of Changes.
+use mathlib.Core.Path.{sym, ◌∙◌}
+use native.Mathlib.Omega.{arith}
+use Rattle.journal.proofs.Walks.Changes.{change-refused, change-full, change-done}
+use borrow.Author.Rules.{rules}
+use Rattle.journal.proofs.calls.change_ready_in.Goals as goal
+
+pub refusal-found-requires : goal.refusal-found-requires
+refusal-found-requires c = c.requires.sound
+
+pub returns-then-refusal-ne0 : goal.returns-then-refusal-ne0
+returns-then-refusal-ne0 c =
+    let p = c.requires in
+    let d = change-refused _ _ _ p _ c.refusal-found.ensures.number_is c.if-refusal-ne0.true in
+    (d.0, (d.1, c.if-refusal-ne0.true))
+
+pub record_change-size-requires : goal.record_change-size-requires
+record_change-size-requires c =
+    let refusal = c.refusal-found in
+    (c.requires, sym refusal.ensures.number_is ∙ c.if-refusal-ne0.false, refusal.ensures.target c.if-refusal-ne0.false)
+
+pub returns-then-size-eq0 : goal.returns-then-size-eq0
+returns-then-size-eq0 c =
+    let record-change = c.record_change-size in
+    let refusal = c.refusal-found in
+    let p = c.requires in
+    let d = change-full _ _ _ p (sym refusal.ensures.number_is ∙ c.if-refusal-ne0.false) _ _ record-change.ensures c.if-size-eq0.true in
+    (d.0, (d.1, λ e. omega arith))
+
+pub make-slot-requires : goal.make-slot-requires
+make-slot-requires c =
+    let refusal = c.refusal-found in
+    (c.requires.sound, sym refusal.ensures.number_is ∙ c.if-refusal-ne0.false, refusal.ensures.target c.if-refusal-ne0.false)
+
+pub returns : goal.returns
+returns c =
+    let make = c.make-slot in
+    let record-change = c.record_change-size in
+    let refusal = c.refusal-found in
+    let p = c.requires in
+    let d = change-done _ _ _ p (sym refusal.ensures.number_is ∙ c.if-refusal-ne0.false) _ _ record-change.ensures c.if-size-eq0.false _ make.ensures.0 _ make.ensures.1 in
+    (d.0, (d.1, tt))

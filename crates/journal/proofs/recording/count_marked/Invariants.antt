@@ -1,0 +1,15 @@
+-- The count so far and that of the marked blocks from b on make the whole.
+use mathlib.Core.Path.{◌≡◌, ap}
+use Prim.Native.Nat.{◌≤◌, ◌+◌, ◌-◌}
+use native.Mathlib.Omega.{arith}
+use borrow.Author.Rules.{rules}
+use lib.ListN.{length}
+use Rattle.journal.specs.Walks.Saves.{marked_from}
+use Rattle.journal.proofs.Walks.Marked.{marked_next, marked-done}
+use Rattle.journal.proofs.recording.count_marked.Given as goal
+
+abbrev pub invariant-loop-b : goal.invariant-loop-b
+invariant-loop-b l = (l.b ≤ l.e) × (l.a + l.count ≤ l.b) × (l.count + length (marked_from l.marks l.b (l.e - l.b)) ≡ length (marked_from l.marks l.a (l.e - l.a)))
+
+abbrev pub decreases-loop-b : goal.decreases-loop-b
+decreases-loop-b l = l.e - l.b

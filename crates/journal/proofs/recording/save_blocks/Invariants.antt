@@ -1,0 +1,13 @@
+-- What is left to save, saved from here, gives what all gives from the start.
+use mathlib.Core.Path.{sym, ◌∙◌}
+use Prim.Native.Nat.{◌+◌, ◌-◌}
+use native.Mathlib.Omega.{arith}
+use Rattle.journal.specs.Walks.Saves.{marked_from}
+use Rattle.journal.proofs.Walks.Saves.{marks-fewer, Saving, save-all, save-room, save-more, save-none}
+use Rattle.journal.proofs.recording.save_blocks.Given as goal
+
+abbrev pub invariant-loop-b : goal.invariant-loop-b
+invariant-loop-b l = Saving l.image l.marks l.initial.journal (marked_from l.marks 0 l.n) l.at l.n l.journal l.p l.b
+
+abbrev pub decreases-loop-b : goal.decreases-loop-b
+decreases-loop-b l = l.n - l.b

@@ -1,0 +1,17 @@
+use native.Mathlib.Omega.{arith}
+use mathlib.Core.Path.{sym, ◌∙◌}
+use Rattle.layout.proofs.Walks.Owned.{follow_slot-file, follow_slot-none, follow_slot-self}
+use borrow.Author.Rules.{rules}
+use Rattle.layout.proofs.chains.follow_slot.Goals as goal
+
+pub returns-then-is_file : goal.returns-then-is_file
+returns-then-is_file c =
+    c.follow_file.ensures ∙ follow_slot-file _ _ _ _ _ c.type_at-ty.ensures (sym c.if-is_file.true ∙ c.is_file.ensures)
+
+pub returns-then-ty-ne1 : goal.returns-then-ty-ne1
+returns-then-ty-ne1 c =
+    follow_slot-none _ _ _ _ _ c.type_at-ty.ensures (sym c.if-is_file.false ∙ c.is_file.ensures) c.if-ty-ne1.true
+
+pub returns : goal.returns
+returns c =
+    c.follow_own.ensures ∙ follow_slot-self _ _ _ _ _ c.type_at-ty.ensures (sym c.if-is_file.false ∙ c.is_file.ensures) (omega arith)

@@ -1,0 +1,56 @@
+use mathlib.Core.Logic.{⊎_elim}
+use mathlib.Core.Path.{refl, ◌∙◌}
+use native.Mathlib.Omega.{arith}
+use borrow.Author.Rules.{rules}
+use Rattle.layout.proofs.Walks.Content.{below-nth, Reading, least-cases, reading-here, reading-pass, reading_step, reading-end}
+use Rattle.layout.proofs.content.read_chain.Goals as goal
+
+pub loop-rest-init : goal.loop-rest-init
+loop-rest-init c = record { long = refl; place = omega arith; enough = omega arith; inside = below-nth _ _ _ _ c.requires.0; whole = refl }
+
+pub overflow_sub-o-else-o-ge512 : goal.overflow_sub-o-else-o-ge512
+overflow_sub-o-else-o-ge512 c = omega arith
+
+pub copy_block-requires : goal.copy_block-requires
+copy_block-requires c =
+    let l = c.loop-rest in
+    let p = c.requires in
+    let h = reading-here _ _ _ _ _ _ _ _ _ _ _ _ p.0.shape.whole l.invariant (omega arith) in
+    let f = least-cases _ _ _ (omega arith) c.least-m.ensures in
+    (omega arith, omega arith, omega arith)
+
+pub overflow_add-p : goal.overflow_add-p
+overflow_add-p c = omega arith
+
+pub overflow_sub-rest : goal.overflow_sub-rest
+overflow_sub-rest c = omega arith
+
+pub entry-b-requires : goal.entry-b-requires
+entry-b-requires c =
+    let h = reading-here _ _ _ _ _ _ _ _ _ _ _ _ c.requires.0.shape.whole c.loop-rest.invariant
+    (omega arith) in
+    omega arith
+
+pub overflow_sub-left : goal.overflow_sub-left
+overflow_sub-left c = omega arith
+
+pub loop-rest-smaller : goal.loop-rest-smaller
+loop-rest-smaller c = omega arith
+
+pub loop-rest-preserved : goal.loop-rest-preserved
+loop-rest-preserved c =
+    let i = c.loop-rest.invariant in
+    let s = c.requires.0.shape.whole in
+    ⊎_elim
+    (λ w. rw (w.1, w.2, w.3, w.4, c.entry-b.ensures) (reading-pass _ _ _ _ _ _ _ _ _ _ _ _ s i (omega arith) w.0.taken))
+    (λ w. rw (w.6 ∙ w.3.ensures, w.7, w.8, w.9, c.entry-b.ensures)
+    (reading_step _ _ _ _ _ _ _ _ _ _ _ _ s _ (least-cases _ _ _ w.0.left w.1.ensures) i (omega arith)))
+    c.if-o-ge512.branch
+
+pub shape_of-buf : goal.shape_of-buf
+shape_of-buf c = c.loop-rest.invariant.long
+
+pub returns : goal.returns
+returns c =
+    reading-end _ _ _ _ _ _ _ _ _ _ _ _ c.requires.0.shape.whole c.loop-rest.invariant (omega arith)
+    (below-nth _ _ _ _ c.requires.0) c.requires.1

@@ -1,0 +1,13 @@
+use Prim.Native.Nat.{◌-◌, ◌*◌}
+use mathlib.Core.Path.{◌≡◌, refl, sym, ◌∙◌}
+use native.Mathlib.Omega.{arith}
+use Rattle.layout.specs.Table.{next, chain}
+use Rattle.layout.specs.Walks.Slots.{Place, all_free, entry_at}
+use Rattle.layout.proofs.Walks.Slots.{place-below, place-entry, place-then, place-first, all_free-end, all_free-next, all_free-stop}
+use Rattle.layout.proofs.directory.all_free.Given as goal
+
+abbrev pub invariant-loop-left : goal.invariant-loop-left
+invariant-loop-left l = (Place (chain (next l.image) l.first l.d) l.d l.b l.k l.left) × (all_free l.image (chain (next l.image) l.first l.d) 1 (4 * l.d - 2) ≡ all_free l.image (chain (next l.image) l.first l.d) l.k l.left)
+
+abbrev pub decreases-loop-left : goal.decreases-loop-left
+decreases-loop-left l = l.left

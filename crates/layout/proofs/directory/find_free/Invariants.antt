@@ -1,0 +1,13 @@
+use mathlib.Core.Path.{◌≡◌, refl, ◌∙◌}
+use Prim.Native.Nat.{◌-◌, ◌*◌, ◌≤◌}
+use native.Mathlib.Omega.{arith}
+use Rattle.layout.specs.Table.{next, chain}
+use Rattle.layout.specs.Walks.Slots.{Place, slot_free, slot_from, entry_at}
+use Rattle.layout.proofs.Walks.Slots.{place-below, place-entry, place-then, place-first, slot_from-end, slot_from-here, slot_from-next, free_slot-from, type-free, type-used, stands_here, stands-none}
+use Rattle.layout.proofs.directory.find_free.Given as goal
+
+abbrev pub invariant-loop-left : goal.invariant-loop-left
+invariant-loop-left l = (Place (chain (next l.image) l.first l.d) l.d l.b l.slot l.left) × (slot_from (slot_free l.image) (chain (next l.image) l.first l.d) 1 (4 * l.d - 2) ≡ slot_from (slot_free l.image) (chain (next l.image) l.first l.d) l.slot l.left) × (1 ≤ l.slot)
+
+abbrev pub decreases-loop-left : goal.decreases-loop-left
+decreases-loop-left l = l.left

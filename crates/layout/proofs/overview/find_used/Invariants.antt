@@ -1,0 +1,14 @@
+use mathlib.Core.Path.{◌≡◌, refl, sym, ◌∙◌}
+use Prim.Native.Nat.{◌-◌, ◌*◌, ◌≤◌}
+use native.Mathlib.Omega.{arith}
+use Rattle.layout.specs.Table.{next, chain}
+use Rattle.layout.specs.Walks.Slots.{Place, used_from, entry_at}
+use Rattle.layout.proofs.Walks.Slots.{place-below, place-entry, place-then, place-first, stands_here, stands-none}
+use Rattle.layout.proofs.Walks.Listed.{used_from-end, used_from-here, used_from-next, used_slot-from}
+use Rattle.layout.proofs.overview.find_used.Given as goal
+
+abbrev pub invariant-loop-left : goal.invariant-loop-left
+invariant-loop-left l = (Place (chain (next l.image) l.first l.d) l.d l.b l.k l.left) × (used_from l.start l.image (chain (next l.image) l.first l.d) 1 (4 * l.d - 2) ≡ used_from l.start l.image (chain (next l.image) l.first l.d) l.k l.left) × (1 ≤ l.k)
+
+abbrev pub decreases-loop-left : goal.decreases-loop-left
+decreases-loop-left l = l.left

@@ -1,0 +1,14 @@
+use native.Mathlib.Omega.{arith}
+use Rattle.layout.proofs.Walks.Homes.{at_read}
+use Rattle.layout.proofs.Walks.Listed.{used-read}
+use Rattle.layout.proofs.Walks.Visits.{at-below}
+use Rattle.layout.proofs.overview.used_slot.Goals as goal
+
+pub number_at-d-requires : goal.number_at-d-requires
+number_at-d-requires c = let h = at-below c.requires in (omega (arith, h, c.requires.shape), omega arith)
+
+pub find_used-requires : goal.find_used-requires
+find_used-requires c = at_read c.args.image.now c.args.n c.args.b _ c.number_at-d.ensures c.requires
+
+pub returns : goal.returns
+returns c = let a = c.args in used-read a.image.now a.n a.b _ a.start c.number_at-d.ensures _ _ c.find_used.ensures

@@ -1,0 +1,32 @@
+-- The one proof of the cycle {directory_check, entry_check}. A directory calls its entries with the levels that are left, an entry its child's directory
+-- with one less: the falling number is 2·left + 1 for a directory and 2·left for an entry. The loop over the slots falls by the slots that are left.
+use Prim.Native.Nat.{ℕ, ◌+◌, ◌-◌, ◌*◌, ◌<◌}
+use mathlib.Core.Bool.{true, false}
+use mathlib.Core.Path.{◌≡◌, refl, sym, ◌∙◌}
+use native.Mathlib.Omega.{arith}
+use lib.ListN.{length}
+use borrow.Author.Rules.{rules}
+use borrow.Author.Tests.{not-true, not-false}
+use Rattle.layout.specs.Table.{next, chain}
+use Rattle.layout.specs.Walks.Names.{bad_from, NoteRoom}
+use Rattle.layout.specs.Walks.Slots.{Place, entry_at}
+use Rattle.layout.specs.Walks.Stages.{walk_slots, walk_child}
+use Rattle.layout.proofs.Walks.Slots.{place-below, place-entry, place-then, place-first}
+use Rattle.layout.proofs.Walks.Visits.{walk_entry-other, walk_entry-child, walk_slots-end, walk_slots-bad, bad-next, walk_slots-next, walk_slots-stop, walk_entries-end, walk_entries-slots, walk_child-none, walk_child-refused, walk_child-down, follow_child-right, directory-at}
+use Prim.Native.Nat.{ℕ, ◌<◌}
+use Rattle.layout.proofs.visit.+directory_check_entry_check.Given as goal
+
+abbrev pub invariant-directory_check-loop-slots : goal.invariant-directory_check-loop-slots
+invariant-directory_check-loop-slots l =
+    (length l.marks ≡ length l.initial.marks) × (Place (chain (next l.image) l.b l.d) l.d l.at l.k l.slots) × (l.bad ≡ bad_from l.image (chain (next l.image) l.b l.d) l.k l.slots) ×
+    (walk_slots (walk_child l.left l.image l.n l.b) l.image (chain (next l.image) l.b l.d) 1 (4 * l.d - 2) l.initial.marks
+    ≡ walk_slots (walk_child l.left l.image l.n l.b) l.image (chain (next l.image) l.b l.d) l.k l.slots l.marks) × (NoteRoom l.prints l.places l.seen)
+
+abbrev pub decreases-directory_check-loop-slots : goal.decreases-directory_check-loop-slots
+decreases-directory_check-loop-slots l = l.slots
+
+abbrev pub decreases-directory_check : goal.decreases-directory_check
+decreases-directory_check l = 2 * l.left + 1
+
+abbrev pub decreases-entry_check : goal.decreases-entry_check
+decreases-entry_check l = 2 * l.left

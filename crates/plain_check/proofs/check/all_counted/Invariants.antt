@@ -1,0 +1,15 @@
+use Prim.Native.Nat.{ℕ, ◌-◌, ◌≤◌}
+use mathlib.Core.Path.{◌≡◌, sym, ap, ◌∙◌}
+use native.Mathlib.Omega.{arith}
+use Rattle.layout.specs.Lists.{interval, every}
+use Rattle.layout.specs.Geometry.{root_block}
+use Rattle.plain_check.specs.Plain.{counted}
+use Rattle.plain_check.proofs.Walks.Tests.{each-end, each-stop, each_next}
+use Rattle.plain_check.proofs.Walks.Stages.{counted-not, counted-so}
+use Rattle.plain_check.proofs.check.all_counted.Given as goal
+
+abbrev pub invariant-loop-b : goal.invariant-loop-b
+invariant-loop-b l = (l.root ≤ l.b) × (every (counted l.image) (interval (root_block l.n) (l.n - root_block l.n)) ≡ every (counted l.image) (interval l.b (l.n - l.b)))
+
+abbrev pub decreases-loop-b : goal.decreases-loop-b
+decreases-loop-b l = l.n - l.b

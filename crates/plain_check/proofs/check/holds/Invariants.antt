@@ -1,0 +1,15 @@
+use Prim.Native.Nat.{ℕ, ◌-◌, ◌≤◌, ◌<◌}
+use mathlib.Core.Path.{◌≡◌, sym, ap, ◌∙◌}
+use native.Mathlib.Omega.{arith}
+use Rattle.layout.specs.Table.{next}
+use Rattle.plain_check.specs.Plain.{one, holds}
+use Rattle.plain_check.specs.Walks.{word}
+use Rattle.plain_check.proofs.Walks.Tests.{from_first}
+use Rattle.plain_check.proofs.Walks.Chains.{holds-end, holds-stop, holds-next}
+use Rattle.plain_check.proofs.check.holds.Given as goal
+
+abbrev pub invariant-loop-i : goal.invariant-loop-i
+invariant-loop-i l = (l.at < word) × (l.i ≤ l.k) × (holds (next l.image) l.b l.first l.k ≡ holds (next l.image) l.b l.at (l.k - l.i))
+
+abbrev pub decreases-loop-i : goal.decreases-loop-i
+decreases-loop-i l = l.k - l.i

@@ -1,0 +1,13 @@
+use Prim.Native.Nat.{ℕ, ◌-◌, ◌≤◌, ◌<◌}
+use mathlib.Core.Path.{◌≡◌, sym, ◌∙◌}
+use native.Mathlib.Omega.{arith}
+use Rattle.plain_check.specs.Walks.{word, new_from}
+use Rattle.plain_check.proofs.Walks.Tests.{from_first}
+use Rattle.plain_check.proofs.Walks.Meets.{held-before, new-end, new-stop, new-next}
+use Rattle.plain_check.proofs.check.new_blocks.Given as goal
+
+abbrev pub invariant-loop-i : goal.invariant-loop-i
+invariant-loop-i l = (l.at < word) × (l.i ≤ l.k) × (new_from l.image l.met l.b l.k ≡ new_from l.image l.met l.at (l.k - l.i))
+
+abbrev pub decreases-loop-i : goal.decreases-loop-i
+decreases-loop-i l = l.k - l.i

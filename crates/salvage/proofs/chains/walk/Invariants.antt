@@ -1,0 +1,11 @@
+use native.Mathlib.Omega.{arith}
+use Prim.Native.Nat.{◌-◌, ◌≤◌}
+use mathlib.Core.Logic.{inl, inr}
+use Rattle.layout.specs.Table.{next}
+use Rattle.salvage.proofs.chains.walk.Given as goal
+
+abbrev pub invariant-loop-met : goal.invariant-loop-met
+invariant-loop-met l = (Walking (next l.image) l.n l.first l.initial.marks l.marks l.met l.b) × (l.met ≤ l.k)
+
+abbrev pub decreases-loop-met : goal.decreases-loop-met
+decreases-loop-met l = l.k - l.met

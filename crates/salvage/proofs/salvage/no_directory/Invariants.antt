@@ -1,0 +1,16 @@
+use Prim.Native.Nat.{◌-◌, ◌*◌}
+use mathlib.Core.Path.{◌≡◌, refl, sym, ◌∙◌}
+use native.Mathlib.Omega.{arith}
+use borrow.Author.Rules.{rules}
+use Rattle.layout.specs.Table.{next, chain}
+use Rattle.layout.specs.Walks.Slots.{Place, entry_at}
+use Rattle.layout.proofs.Walks.Slots.{place-below, place-entry, place-then, place-first}
+use Rattle.salvage.specs.Walks.{no_directory}
+use Rattle.salvage.proofs.Walks.Refusals.{plain_end, plain-next, plain-stop}
+use Rattle.salvage.proofs.salvage.no_directory.Given as goal
+
+abbrev pub invariant-loop-left : goal.invariant-loop-left
+invariant-loop-left l = (Place (chain (next l.image) l.first l.d) l.d l.b l.k l.left) × (no_directory l.image (chain (next l.image) l.first l.d) 1 (4 * l.d - 2) ≡ no_directory l.image (chain (next l.image) l.first l.d) l.k l.left)
+
+abbrev pub decreases-loop-left : goal.decreases-loop-left
+decreases-loop-left l = l.left

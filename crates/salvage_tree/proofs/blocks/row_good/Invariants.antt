@@ -1,0 +1,10 @@
+use native.Mathlib.Omega.{arith}
+use borrow.Author.Tests.{not-true, not-false}
+use Rattle.salvage_tree.proofs.Walks.Blocks.{Rowing, rowing_start, row-bad, row_more, row-all}
+use Rattle.salvage_tree.proofs.blocks.row_good.Given as goal
+
+abbrev pub invariant-loop-left : goal.invariant-loop-left
+invariant-loop-left l = Rowing l.n l.b l.d l.marks l.x l.left
+
+abbrev pub decreases-loop-left : goal.decreases-loop-left
+decreases-loop-left l = l.left

@@ -1,0 +1,19 @@
+use borrow.Author.Rules.{rules}
+use native.Mathlib.Omega.{arith}
+use Rattle.salvage_tree.proofs.Walks.Lost.{hung-steps}
+use Rattle.salvage_tree.proofs.lost.put_hung.Goals as goal
+
+pub set_byte-requires : goal.set_byte-requires
+set_byte-requires c = omega (arith, c.requires)
+
+pub clear_bytes-requires : goal.clear_bytes-requires
+clear_bytes-requires c = (omega (arith, c.requires), omega arith)
+
+pub clear_bytes-requires-2 : goal.clear_bytes-requires-2
+clear_bytes-requires-2 c = (omega (arith, c.requires), omega arith)
+
+pub shape_of-image : goal.shape_of-image
+shape_of-image c = omega arith
+
+pub returns : goal.returns
+returns c = hung-steps _ _ _ _ _ _ _ _ _ _ c.requires.0 c.requires.1 c.no_entry-entry.ensures c.copy_part.ensures c.copy_part-2.ensures c.set_byte.ensures c.clear_bytes.ensures c.clear_bytes-2.ensures

@@ -1,0 +1,13 @@
+use native.Mathlib.Omega.{arith}
+use Prim.Native.Nat.{◌-◌}
+use mathlib.Core.Path.{refl}
+use lib.ListN.{length}
+use Rattle.salvage_tree.specs.SalvageTree.{linked}
+use Rattle.salvage_tree.proofs.Walks.Puts.{Writing, writing_start, writing-on, writing-end, linked_long}
+use Rattle.salvage_tree.proofs.put.link.Given as goal
+
+abbrev pub invariant-loop-i : goal.invariant-loop-i
+invariant-loop-i l = Writing (linked l.initial.image l.blocks) l.image l.blocks l.b l.i
+
+abbrev pub decreases-loop-i : goal.decreases-loop-i
+decreases-loop-i l = length l.blocks - l.i

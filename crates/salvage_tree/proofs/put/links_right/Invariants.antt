@@ -1,0 +1,11 @@
+use native.Mathlib.Omega.{arith}
+use Prim.Native.Nat.{◌-◌}
+use lib.ListN.{length}
+use Rattle.salvage_tree.proofs.Walks.Puts.{LinksOn, links-start, links-wrong, links-on, links_end}
+use Rattle.salvage_tree.proofs.put.links_right.Given as goal
+
+abbrev pub invariant-loop-i : goal.invariant-loop-i
+invariant-loop-i l = LinksOn l.image l.blocks l.b l.i
+
+abbrev pub decreases-loop-i : goal.decreases-loop-i
+decreases-loop-i l = length l.blocks - l.i

@@ -1,0 +1,49 @@
+use borrow.Author.Rules.{rules}
+use native.Mathlib.Omega.{arith}
+use mathlib.Core.Path.{refl}
+use borrow.Author.Tests.{not-true, not-false}
+use Rattle.layout.specs.Walks.Slots.{entry_at}
+use Rattle.salvage_tree.proofs.Walks.Entries.{found-bad, found_none, found_some, chose-some, lent-own, lent-first}
+use Rattle.salvage_tree.proofs.slots.find_blocks.Goals as goal
+
+pub number_at-first-requires : goal.number_at-first-requires
+number_at-first-requires c = (omega (arith, c.requires.0.shape, c.requires.1), omega arith)
+
+pub number_at-said-requires : goal.number_at-said-requires
+number_at-said-requires c = (omega (arith, c.requires.0.shape, c.requires.1), omega arith)
+
+pub is_good-requires : goal.is_good-requires
+is_good-requires c = (c.requires.0.table, omega (arith, c.requires.0))
+
+pub returns-then-not-is_good : goal.returns-then-not-is_good
+returns-then-not-is_good c = found-bad _ _ (entry_at c.args.b c.args.k) _ _ _ c.number_at-first.ensures c.number_at-said.ensures _ c.requires.2 _ c.is_good.ensures (not-true _ c.if-not-is_good.true-raw)
+
+pub number_at-requires : goal.number_at-requires
+number_at-requires c = let g = c.is_good.ensures.below (not-false _ c.if-not-is_good.false-raw) in (omega (arith, c.requires.0.shape, g), omega arith)
+
+pub choose-d-requires : goal.choose-d-requires
+choose-d-requires c = (c.requires.0, c.requires.2)
+
+pub slice_bounds-is_witnessed-count : goal.slice_bounds-is_witnessed-count
+slice_bounds-is_witnessed-count c = omega arith
+
+pub slice_bounds-is_witnessed-start : goal.slice_bounds-is_witnessed-start
+slice_bounds-is_witnessed-start c = omega arith
+
+pub slice_bounds-is_witnessed-end : goal.slice_bounds-is_witnessed-end
+slice_bounds-is_witnessed-end c = omega (arith, c.choose-d.ensures.most, c.choose-d.ensures.size)
+
+pub is_witnessed-requires : goal.is_witnessed-requires
+is_witnessed-requires c =
+    let h = chose-some _ _ _ _ _ _ _ _ _ c.is_good.ensures (not-false _ c.if-not-is_good.false) c.choose-d.ensures in
+    (c.requires.0.shape, lent-own _ _ (entry_at c.args.b c.args.k) _ _ _ c.number_at-first.ensures c.number_at-said.ensures _ _ c.number_at.ensures refl _ _ c.choose-d.ensures h, c.requires.1, lent-first _ _ (entry_at c.args.b c.args.k) _ _ _ c.number_at-first.ensures c.number_at-said.ensures _ _ c.number_at.ensures refl _ _ c.choose-d.ensures h)
+
+pub returns-then-not-is_witnessed : goal.returns-then-not-is_witnessed
+returns-then-not-is_witnessed c =
+    let h = chose-some _ _ _ _ _ _ _ _ _ c.is_good.ensures (not-false _ c.if-not-is_good.false) c.choose-d.ensures in
+    found_none _ _ (entry_at c.args.b c.args.k) _ _ _ c.number_at-first.ensures c.number_at-said.ensures _ _ c.number_at.ensures refl _ _ c.choose-d.ensures h _ c.is_witnessed.ensures (not-true _ c.if-not-is_witnessed.true-raw)
+
+pub returns : goal.returns
+returns c =
+    let h = chose-some _ _ _ _ _ _ _ _ _ c.is_good.ensures (not-false _ c.if-not-is_good.false) c.choose-d.ensures in
+    found_some _ _ (entry_at c.args.b c.args.k) _ _ _ c.number_at-first.ensures c.number_at-said.ensures _ _ c.number_at.ensures refl _ _ c.choose-d.ensures h _ c.is_witnessed.ensures (not-false _ c.if-not-is_witnessed.false-raw)

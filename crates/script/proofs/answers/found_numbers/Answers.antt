@@ -1,0 +1,11 @@
+use Rattle.script.specs.Script.{encoded}
+use borrow.Author.Rules.{rules}
+use Rattle.script.proofs.answers.found_numbers.Goals as goal
+
+pub returns-in-File : goal.returns-in-File
+unfolding encoded
+returns-in-File c = rw c.f-1.given.1
+
+pub returns-in-Refused : goal.returns-in-Refused
+unfolding encoded
+returns-in-Refused c = rw c.f-in-Refused-1.given.1

@@ -1,0 +1,14 @@
+use mathlib.Core.Path.{◌≡◌}
+use native.Mathlib.Omega.{arith}
+use Prim.Native.Nat.{◌-◌}
+use lib.ListN.{length}
+use Rattle.script.proofs.Walks.Encoding.{described-written}
+use borrow.Author.Rules.{rules}
+use Rattle.script.proofs.overview.info.Goals as goal
+
+pub returns : goal.returns
+returns c =
+    let a = c.args in
+    let i = c.volume_into-v in
+    let l : length i.new.1.1.1.0 ≡ length a.part.now - 32 = omega arith in
+    described-written a.part.now i.new.1.1.1.0 _ _ i.result _ i.ensures (omega (arith, l, c.requires)) l c.put_volume.ensures

@@ -1,0 +1,11 @@
+use mathlib.Core.Path.{sym, ap, ◌∙◌}
+use lib.ListN.{length}
+use Rattle.script.proofs.Walks.Scripts.{length-data}
+use borrow.Author.Rules.{rules}
+use Rattle.script.proofs.overview.volume_into.Goals as goal
+
+pub copy-requires : goal.copy-requires
+copy-requires c = ap length c.data_of.ensures ∙ length-data _ _ c.requires.0 ∙ sym c.requires.1
+
+pub returns : goal.returns
+returns c = c.info.ensures ∙ rw (c.copy.ensures, c.data_of.ensures)

@@ -1,0 +1,44 @@
+use mathlib.Core.Path.{◌≡◌, sym, ◌∙◌}
+use mathlib.Core.Bool.{true, false}
+use borrow.Author.Tests.{not-true, not-false, leb-true}
+use borrow.Author.Rules.{rules}
+use Rattle.script.proofs.Walks.Running.{bad-script, no-room, all-run}
+use Rattle.script.proofs.Walks.Replaying.{replays}
+use Rattle.script.proofs.runner.run.Goals as goal
+
+pub returns-then-not-well_formed : goal.returns-then-not-well_formed
+returns-then-not-well_formed c =
+    let e : c.well-formed.result ≡ false = not-true _ c.if-not-well_formed.taken in
+    replays _ _ _ _ _ (bad-script _ _ _ _ (sym c.well-formed.ensures ∙ e))
+
+pub answers_fit-requires : goal.answers_fit-requires
+answers_fit-requires c =
+    let e : c.well-formed.result ≡ true = not-false _ c.if-not-well_formed.left in
+    sym c.well-formed.ensures ∙ e
+
+pub returns-then-not-answers_fit : goal.returns-then-not-answers_fit
+returns-then-not-answers_fit c =
+    let e : c.well-formed.result ≡ true = not-false _ c.if-not-well_formed.left in
+    let f : c.answers_fit.result ≡ false = not-true _ c.if-not-answers_fit.taken in
+    replays _ _ _ _ _ (no-room _ _ _ _ (sym c.well-formed.ensures ∙ e) (sym c.answers_fit.ensures ∙ f))
+
+pub execute-requires : goal.execute-requires
+execute-requires c =
+    let if2 = c.if-not-answers_fit in
+    let answers-fit = c.answers_fit in
+    let if1 = c.if-not-well_formed in
+    let well-formed = c.well-formed in
+    let e : well-formed.result ≡ true = not-false _ if1.left in
+    let f : answers-fit.result ≡ true = not-false _ if2.left in
+    (sym well-formed.ensures ∙ e, leb-true _ _ (sym answers-fit.ensures ∙ f))
+
+pub returns : goal.returns
+returns c =
+    let execute = c.execute in
+    let if2 = c.if-not-answers_fit in
+    let answers-fit = c.answers_fit in
+    let if1 = c.if-not-well_formed in
+    let well-formed = c.well-formed in
+    let e : well-formed.result ≡ true = not-false _ if1.left in
+    let f : answers-fit.result ≡ true = not-false _ if2.left in
+    replays _ _ _ _ _ (all-run _ _ _ _ (sym well-formed.ensures ∙ e) (sym answers-fit.ensures ∙ f) _ _ _ execute.ensures.0 execute.ensures.1)

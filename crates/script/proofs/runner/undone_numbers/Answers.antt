@@ -1,0 +1,11 @@
+use Rattle.script.specs.Script.{encoded}
+use borrow.Author.Rules.{rules}
+use Rattle.script.proofs.runner.undone_numbers.Goals as goal
+
+pub returns-in-Done : goal.returns-in-Done
+unfolding encoded
+returns-in-Done c = rw c.u-1.given.1
+
+pub returns-in-Refused : goal.returns-in-Refused
+unfolding encoded
+returns-in-Refused c = rw c.u-in-Refused-1.given.1

@@ -1,0 +1,12 @@
+use borrow.Author.Rules.{rules}
+use Rattle.store.specs.Change.{refusal}
+use Rattle.store.specs.Walks.Targets.{Target}
+use Rattle.store.proofs.change.refusal.Goals as goal
+
+pub returns-in-Volume : goal.returns-in-Volume
+unfolding refusal Target
+returns-in-Volume c = rw c.what-1.given.1 (record { number_is = c.refusal.ensures.number_is; target = c.refusal.ensures.target })
+
+pub returns-in-Put : goal.returns-in-Put
+unfolding refusal Target
+returns-in-Put c = rw c.what-in-Put-1.given.1 (record { number_is = c.put_refusal.ensures.number_is; target = c.put_refusal.ensures.target })

@@ -1,0 +1,6 @@
+use Rattle.store.proofs.Walks.Rooms.{find-placed}
+use borrow.Author.Rules.{rules}
+use Rattle.store.proofs.form.find.Goals as goal
+
+pub returns : goal.returns
+returns c = find-placed _ _ _ _ _ _ c.requires.0 c.requires.1 c.find_record-p.ensures

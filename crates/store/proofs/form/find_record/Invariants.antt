@@ -1,0 +1,11 @@
+use lib.ListN.{length}
+use Prim.Native.Nat.{◌-◌}
+use native.Mathlib.Omega.{arith}
+use Rattle.store.proofs.Walks.Records.{Finding, find-start, find-fits, find-found, find-step, find-end}
+use Rattle.store.proofs.form.find_record.Given as goal
+
+abbrev pub invariant-loop-at : goal.invariant-loop-at
+invariant-loop-at l = Finding l.records l.x l.at
+
+abbrev pub decreases-loop-at : goal.decreases-loop-at
+decreases-loop-at l = length l.records - l.at

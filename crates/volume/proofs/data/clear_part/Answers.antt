@@ -1,0 +1,10 @@
+use Prim.Native.Nat.{◌+◌, ◌-◌}
+use native.Mathlib.Omega.{arith}
+use borrow.Author.Rules.{rules}
+use Rattle.layout.proofs.Laws.Bytes.{lent-zeros}
+use Rattle.volume.proofs.data.clear_part.Goals as goal
+
+pub returns : goal.returns
+returns c =
+    let a = c.args in
+    lent-zeros a.s.now a.at a.count ((a.at + a.count) - a.at) _ c.clear.ensures (omega arith) (omega arith)

@@ -1,0 +1,11 @@
+use native.Mathlib.Omega.{arith}
+use borrow.Author.Rules.{rules}
+use Rattle.volume.proofs.Walks.Put.{Putting, put-start, put-end, block-below, put-pass, put_step}
+use Rattle.layout.proofs.Walks.Content.{least-cases}
+use Rattle.volume.proofs.data.put_data.Given as goal
+
+abbrev pub invariant-loop-rest : goal.invariant-loop-rest
+invariant-loop-rest l = Putting l.initial.image l.n l.first l.k l.offset l.bytes l.image l.b l.left l.o l.p l.rest
+
+abbrev pub decreases-loop-rest : goal.decreases-loop-rest
+decreases-loop-rest l = l.left

@@ -1,0 +1,18 @@
+use mathlib.Core.Path.{◌∙◌}
+use mathlib.Core.List.{[], ◌∷◌}
+use native.Mathlib.Omega.{arith}
+use lib.ListN.{take}
+use Rattle.layout.specs.Lists.{joined}
+use Rattle.layout.specs.Table.{next, chain, free_blocks, table_block_of}
+use Rattle.volume.specs.Walks.Marks.{marked}
+use Rattle.volume.specs.Walks.Searches.{without}
+use Rattle.volume.proofs.Walks.Marks.{length_marked}
+use Rattle.volume.proofs.Walks.Grow.{MarkingFree, marking-free, free-marked, mark-below, mark-turn, free-size}
+use Rattle.volume.proofs.marks.mark_free.Given as goal
+
+abbrev pub invariant-loop-left : goal.invariant-loop-left
+invariant-loop-left l = without (next l.image) (chain (next l.image) l.first l.k) in
+    MarkingFree l.v l.n (marked l.initial.marks (joined (λ x. x ∷ table_block_of x ∷ []) (take l.count (free_blocks l.v l.n)))) l.marks l.from l.left
+
+abbrev pub decreases-loop-left : goal.decreases-loop-left
+decreases-loop-left l = l.left

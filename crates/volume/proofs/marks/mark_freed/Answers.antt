@@ -1,0 +1,10 @@
+use mathlib.Core.Path.{sym, ◌∙◌}
+use borrow.Author.Rules.{rules}
+use Rattle.volume.specs.Entries.{blocks_named}
+use Rattle.volume.proofs.Walks.Marks.{marked_append}
+use Rattle.volume.proofs.marks.mark_freed.Goals as goal
+
+pub returns : goal.returns
+unfolding blocks_named
+returns c =
+    c.mark_entries.ensures ∙ rw c.mark_chain.ensures (sym (marked_append _ _ _))

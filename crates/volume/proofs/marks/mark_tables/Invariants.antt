@@ -1,0 +1,14 @@
+use mathlib.Core.Path.{refl, ◌∙◌}
+use mathlib.Core.List.{map}
+use native.Mathlib.Omega.{arith}
+use Rattle.layout.specs.Table.{next, chain, table_block_of}
+use Rattle.volume.specs.Walks.Marks.{marked}
+use Rattle.volume.proofs.Walks.Marks.{Marking, marking-end, marking-turn, length_marked, marking-size}
+use Rattle.layout.proofs.Walks.Shapes.{run-first}
+use Rattle.volume.proofs.marks.mark_tables.Given as goal
+
+abbrev pub invariant-loop-left : goal.invariant-loop-left
+invariant-loop-left l = Marking l.image l.n table_block_of (marked l.initial.marks (map table_block_of (chain (next l.image) l.first l.k))) l.marks l.b l.left
+
+abbrev pub decreases-loop-left : goal.decreases-loop-left
+decreases-loop-left l = l.left

@@ -1,0 +1,13 @@
+use Prim.Native.Nat.{◌-◌}
+use mathlib.Core.Path.{◌∙◌}
+use native.Mathlib.Omega.{arith}
+use Rattle.layout.specs.Table.{next}
+use Rattle.layout.proofs.Walks.Chains.{used-in-block}
+use Rattle.volume.proofs.Walks.Vacant.{InUse, in-use-none, in-use-run, free-behind, free-nowhere, free-lowest}
+use Rattle.volume.proofs.marks.next_free.Given as goal
+
+abbrev pub invariant-loop-b : goal.invariant-loop-b
+invariant-loop-b l = InUse (next l.image) l.from l.b
+
+abbrev pub decreases-loop-b : goal.decreases-loop-b
+decreases-loop-b l = l.n - l.b

@@ -1,0 +1,10 @@
+use native.Mathlib.Omega.{arith}
+use borrow.Author.Rules.{rules}
+use Rattle.volume.proofs.Walks.Notes.{note-in-block, renoted}
+use Rattle.volume.proofs.notes.renote.Goals as goal
+
+pub returns : goal.returns
+returns c =
+    let p = c.requires in
+    let a = c.args in
+    renoted _ _ _ _ a.notes.now p.2 (note-in-block a.image.now a.n a.i _ _ _ c.block.ensures.bytes (omega arith) c.least-k.ensures c.note_of.ensures)

@@ -1,0 +1,12 @@
+use Prim.Native.Nat.{◌-◌}
+use mathlib.Core.Path.{sym, ◌∙◌}
+use native.Mathlib.Omega.{arith}
+use Rattle.layout.specs.Table.{next}
+use Rattle.volume.proofs.Walks.Notes.{Passed, passed_none, pass-block, pass-entry, found_here, found_none}
+use Rattle.volume.proofs.notes.search.Given as goal
+
+abbrev pub invariant-loop-b : goal.invariant-loop-b
+invariant-loop-b l = Passed l.notes (next l.image) l.from l.b
+
+abbrev pub decreases-loop-b : goal.decreases-loop-b
+decreases-loop-b l = l.n - l.b

@@ -1,0 +1,14 @@
+use Prim.Native.Nat.{◌≤◌, ◌-◌}
+use mathlib.Core.Path.{◌≡◌, refl, sym, ◌∙◌}
+use native.Mathlib.Omega.{arith}
+use lib.ListN.{length, take, drop, length-set}
+use Rattle.layout.specs.Bytes.{splice}
+use Rattle.layout.proofs.Laws.Bytes.{splice-nil}
+use Rattle.volume_file.proofs.Walks.Turns.{copy_step}
+use Rattle.volume_file.proofs.recovery.copy_down.Given as goal
+
+abbrev pub invariant-loop-i : goal.invariant-loop-i
+invariant-loop-i l = (l.i ≤ 512) × (length l.file ≡ length l.initial.file) × (l.file ≡ splice l.initial.file l.to (take l.i (drop l.from l.initial.file)))
+
+abbrev pub decreases-loop-i : goal.decreases-loop-i
+decreases-loop-i l = 512 - l.i

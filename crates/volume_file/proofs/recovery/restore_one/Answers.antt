@@ -1,0 +1,6 @@
+use mathlib.Core.Path.{◌∙◌}
+use borrow.Author.Rules.{rules}
+use Rattle.volume_file.proofs.recovery.restore_one.Goals as goal
+
+pub returns : goal.returns
+returns c = c.copy_down.ensures ∙ rw c.address-x.ensures

@@ -1,0 +1,71 @@
+use mathlib.Core.Path.{◌≡◌}
+use native.Mathlib.Omega.{arith}
+use Prim.Native.Nat.{◌-◌, ◌≤◌}
+use Rattle.write_list.specs.List.{max_list}
+use lib.ListN.{length}
+use mathlib.Core.Path.{refl}
+use borrow.Author.Rules.{rules}
+use Rattle.journal.specs.Run.{state}
+use Rattle.write_list.proofs.Laws.Items.{item}
+use Rattle.write_list.proofs.Laws.Turns.{Midway, form, write-start, write-item, write-stop, write-more, write-end}
+use Rattle.write_list.proofs.call.write_items.Goals as goal
+
+pub loop-at-init : goal.loop-at-init
+loop-at-init c = (write-start _ _ c.requires.0 c.requires.1, refl, refl, omega (arith, (form _ c.requires.1).high))
+
+pub write_item-number-requires : goal.write_item-number-requires
+write_item-number-requires c =
+    let l = c.loop-at in
+    (l.invariant.0.ready, write-item _ _ _ _ _ l.invariant.0 c.loop-at-test.true)
+
+pub returns-then-number-ne0 : goal.returns-then-number-ne0
+returns-then-number-ne0 c =
+    let r = c.write_item-number in
+    let t = c.loop-at-test in
+    let l = c.loop-at in
+    write-stop _ _ _ _ _ l.invariant.0 t.true _ r.ensures.1 _ r.ensures.0 c.if-number-ne0.true
+
+pub overflow_add-done : goal.overflow_add-done
+overflow_add-done c =
+    let l = c.loop-at in
+    omega (arith, l.invariant.0.few, l.invariant.0.ahead.inside, l.invariant.3)
+
+pub get32-requires : goal.get32-requires
+get32-requires c =
+    let r = c.write_item-number in
+    let t = c.loop-at-test in
+    let l = c.loop-at in
+    let i = item _ _ (write-item _ _ _ _ _ l.invariant.0 t.true) in
+    omega (arith, i.ends, i.room)
+
+pub overflow_add-at : goal.overflow_add-at
+overflow_add-at c =
+    let r = c.write_item-number in
+    let t = c.loop-at-test in
+    let l = c.loop-at in
+    let i = item _ _ (write-item _ _ _ _ _ l.invariant.0 t.true) in
+    omega (arith, i.ends, i.room, c.get32.ensures)
+
+pub loop-at-smaller : goal.loop-at-smaller
+loop-at-smaller c =
+    let r = c.write_item-number in
+    let t = c.loop-at-test in
+    let l = c.loop-at in
+    let i = item _ _ (write-item _ _ _ _ _ l.invariant.0 t.true) in
+    omega (arith, i.ends, i.room, c.get32.ensures)
+
+pub loop-at-preserved : goal.loop-at-preserved
+loop-at-preserved c =
+    let r = c.write_item-number in
+    let t = c.loop-at-test in
+    let l = c.loop-at in
+    (write-more _ _ _ _ _ l.invariant.0 t.true _ r.ensures.1 _ r.ensures.0 c.if-number-ne0.false _ c.get32.ensures, omega arith, omega arith, l.invariant.3)
+
+pub shape_of-image : goal.shape_of-image
+shape_of-image c = c.loop-at.invariant.1
+
+pub shape_of-journal : goal.shape_of-journal
+shape_of-journal c = c.loop-at.invariant.2
+
+pub returns : goal.returns
+returns c = write-end _ _ _ _ _ c.loop-at.invariant.0 (omega arith)

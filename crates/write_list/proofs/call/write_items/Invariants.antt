@@ -1,0 +1,18 @@
+use mathlib.Core.Path.{◌≡◌}
+use native.Mathlib.Omega.{arith}
+use Prim.Native.Nat.{◌-◌, ◌≤◌}
+use Rattle.write_list.specs.List.{max_list}
+use lib.ListN.{length}
+use mathlib.Core.Path.{refl}
+use borrow.Author.Rules.{rules}
+use Rattle.journal.specs.Run.{state}
+use Rattle.write_list.proofs.Laws.Items.{item}
+use Rattle.write_list.proofs.Laws.Turns.{Midway, form, write-start, write-item, write-stop, write-more, write-end}
+use Rattle.write_list.proofs.call.write_items.Given as goal
+
+abbrev pub invariant-loop-at : goal.invariant-loop-at
+invariant-loop-at l =
+    Midway (state l.initial.image l.initial.journal) l.list (state l.image l.journal) l.done l.at × (length l.image ≡ length l.initial.image) × (length l.journal ≡ length l.initial.journal) × (length l.list ≤ max_list)
+
+abbrev pub decreases-loop-at : goal.decreases-loop-at
+decreases-loop-at l = length l.list - l.at

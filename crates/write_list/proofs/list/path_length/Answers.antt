@@ -1,0 +1,8 @@
+use native.Mathlib.Omega.{arith}
+use Rattle.write_list.specs.List.{path_length}
+use borrow.Author.Rules.{rules}
+use Rattle.write_list.proofs.list.path_length.Goals as goal
+
+pub returns : goal.returns
+unfolding path_length
+returns c = (rw (c.wide-high.ensures.0, c.wide-low.ensures.0), omega arith)
