@@ -11,7 +11,7 @@ overflow_cast-result c =
     let read = c.read in
     let shared-slice-known = c.shared_slice_known-1 in
     let a = c.args in
-    let e = ap (λ (x : ReadAnswer). x.count) (read-case _ _ c.count-1.given.1 read.ensures.0) in
+    let e = ap (λ (x : ReadAnswer). x.count) (read-case _ _ c.count-1.given.1 read.ensures.answer) in
     omega (arith, count_small a.image.now a.path.now a.offset a.buffer.now (λ i. omega (arith, shared-slice-known.given i)))
 
 pub returns-in-Bytes : goal.returns-in-Bytes

@@ -10,7 +10,7 @@ pub overflow_cast-result : goal.overflow_cast-result
 overflow_cast-result c =
     let read-attributes = c.read_attributes in
     let a = c.args in
-    let e = ap (λ (x : ReadAnswer). x.count) (read-case _ _ c.count-1.given.1 read-attributes.ensures.0) in
+    let e = ap (λ (x : ReadAnswer). x.count) (read-case _ _ c.count-1.given.1 read-attributes.ensures.answer) in
     omega (arith, attributes-small a.image.now a.path.now a.buffer.now)
 
 pub returns-in-Bytes : goal.returns-in-Bytes

@@ -26,6 +26,7 @@ module _ (s : List ℕ) (n r : ℕ) (at : root_of s ≡ r) (D : Directory s n r 
   root-blocks = ap (joined (blocks_in s)) root-alone ∙ append-nil (directory s r)
 
   local : (d : ℕ × ℕ) → In d ((r, max_levels) ∷ []) → Local s n d.0 d.1
+  local d (inr x') = elim x' [ ]
   local d (inl q) =
       let R = empty-slots s r M in
       subst (λ (w : ℕ × ℕ). Local s n w.0 w.1) (sym q)

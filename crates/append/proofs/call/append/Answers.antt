@@ -23,8 +23,8 @@ pub returns-then-piece-eq0 : goal.returns-then-piece-eq0
 returns-then-piece-eq0 c =
     let w = ready _ _ (sym c.ready_refusal-unready.ensures ∙ c.if-unready-ne0.false) in
     let n = c.append_nothing.ensures in
-    let d = append-empty _ _ _ _ w _ c.if-piece-eq0.true _ c.file_end-end.ensures n.0 in
-    (d.0, (d.1, n.1))
+    let d = append-empty _ _ _ _ w _ c.if-piece-eq0.true _ c.file_end-end.ensures n.answer in
+    (d.0, (d.1, n.numbered))
 
 pub change_ready-requires : goal.change_ready-requires
 change_ready-requires c =
@@ -34,5 +34,5 @@ change_ready-requires c =
 pub returns : goal.returns
 returns c =
     let n = c.change_ready.ensures in
-    let d = append-some _ _ _ _ _ c.if-piece-eq0.false _ c.file_end-end.ensures n.0 n.1.0 in
-    (d.0, (d.1, n.1.1))
+    let d = append-some _ _ _ _ _ c.if-piece-eq0.false _ c.file_end-end.ensures n.answer n.state.0 in
+    (d.0, (d.1, n.state.1))

@@ -21,4 +21,4 @@ pub returns : goal.returns
 unfolding used
 returns c =
     let t = c.tally-found.ensures in
-    info-ready _ (ready _ _ (sym c.ready_refusal-unready.ensures ∙ c.if-unready-ne0.false)) _ _ _ c.get32-used.ensures t.0 t.1
+    info-ready _ (ready _ _ (sym c.ready_refusal-unready.ensures ∙ c.if-unready-ne0.false)) _ _ _ c.get32-used.ensures t.records t.last

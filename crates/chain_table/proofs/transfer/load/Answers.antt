@@ -60,7 +60,7 @@ loop-b-preserved c =
       refl,
       omega arith,
       next-block l.b k _ whole least.ensures,
-      load-turn s l.numbers _ l.b k whole small room _ block.ensures.0
+      load-turn s l.numbers _ l.b k whole small room _ block.ensures.bytes
           (lent l.numbers l.b j _ (entries_of u k) (c.load_block.ensures ∙ ap (entries_of u) (length_part l.numbers l.b j (omega arith) ∙ same)) (length-entries u k ∙ sym same)) l.invariant.4,
     )
 

@@ -38,5 +38,5 @@ returns c =
     let record-change = c.record_change-size in
     let refusal = c.refusal-found in
     let p = c.requires in
-    let d = change-done _ _ _ p (sym refusal.ensures.number_is ∙ c.if-refusal-ne0.false) _ _ record-change.ensures c.if-size-eq0.false _ make.ensures.0 _ make.ensures.1 in
+    let d = change-done _ _ _ p (sym refusal.ensures.number_is ∙ c.if-refusal-ne0.false) _ _ record-change.ensures c.if-size-eq0.false _ make.ensures.slot _ make.ensures.bytes in
     (d.0, (d.1, tt))

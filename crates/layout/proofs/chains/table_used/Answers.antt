@@ -33,8 +33,8 @@ pub returns-then-count_used-used : goal.returns-then-count_used-used
 returns-then-count_used-used c =
     let a = c.args in
     let k = c.count_set in
-    let r : c.follow_blocks.result ≡ true = not-false _ c.if-not-follow_blocks.false in
-    let u : c.ones.result ≡ true = not-false _ c.if-not-ones.false in
+    let r : c.follow_blocks.result ≡ true = not-false _ c.if-not-follow_blocks.false-raw in
+    let u : c.ones.result ≡ true = not-false _ c.if-not-ones.false-raw in
     record {
       none = λ z. follow_table-other a.image.now a.t a.n a.dirs.now a.marks.now _ (rw r at c.follow_blocks.ensures) (sym u ∙ c.ones.ensures) _ c.count_used.ensures.0 _ k.ensures.0 c.if-count_used-used.true;
       some = λ h. absurd (h refl);
@@ -44,8 +44,8 @@ pub returns : goal.returns
 returns c =
     let a = c.args in
     let k = c.count_set in
-    let r : c.follow_blocks.result ≡ true = not-false _ c.if-not-follow_blocks.false in
-    let u : c.ones.result ≡ true = not-false _ c.if-not-ones.false in
+    let r : c.follow_blocks.result ≡ true = not-false _ c.if-not-follow_blocks.false-raw in
+    let u : c.ones.result ≡ true = not-false _ c.if-not-ones.false-raw in
     let all = follow_table-all a.image.now a.t a.n a.dirs.now a.marks.now _ (rw r at c.follow_blocks.ensures) (sym u ∙ c.ones.ensures) _ c.count_used.ensures.0 _ k.ensures.0 c.if-count_used-used.false in
     record {
       none = λ z. absurd (low a.t k.result z);

@@ -28,7 +28,7 @@ returns-then-not-signed c =
     let s = c.args.image.now in
     let t : sized.result ≡ true = not-false _ c.if-not-sized.false-raw in
     let u : c.signed.result ≡ false = not-true _ c.if-not-signed.true-raw in
-    sym (head_stage-2 s (sym t ∙ sized.ensures) (sym u ∙ c.signed.ensures ∙ ap stage2 block.ensures.0 ∙ stage2-part s))
+    sym (head_stage-2 s (sym t ∙ sized.ensures) (sym u ∙ c.signed.ensures ∙ ap stage2 block.ensures.bytes ∙ stage2-part s))
 
 pub numbered-requires : goal.numbered-requires
 numbered-requires c =
@@ -46,8 +46,8 @@ returns-then-not-numbered c =
     let t : sized.result ≡ true = not-false _ c.if-not-sized.false-raw in
     let u : signed.result ≡ true = not-false _ c.if-not-signed.false-raw in
     let w : c.numbered.result ≡ false = not-true _ c.if-not-numbered.true-raw in
-    sym (head_stage-3 s (sym t ∙ sized.ensures) (sym u ∙ signed.ensures ∙ ap stage2 block.ensures.0 ∙ stage2-part s)
-    (sym w ∙ c.numbered.ensures ∙ ap (λ (h : List ℕ). header_ok h (block_count s)) block.ensures.0 ∙ header_ok-part s _ ∙ stage3-header s))
+    sym (head_stage-3 s (sym t ∙ sized.ensures) (sym u ∙ signed.ensures ∙ ap stage2 block.ensures.bytes ∙ stage2-part s)
+    (sym w ∙ c.numbered.ensures ∙ ap (λ (h : List ℕ). header_ok h (block_count s)) block.ensures.bytes ∙ header_ok-part s _ ∙ stage3-header s))
 
 pub returns : goal.returns
 returns c =
@@ -58,5 +58,5 @@ returns c =
     let t : sized.result ≡ true = not-false _ c.if-not-sized.false-raw in
     let u : signed.result ≡ true = not-false _ c.if-not-signed.false-raw in
     let w : c.numbered.result ≡ true = not-false _ c.if-not-numbered.false-raw in
-    sym (head_stage-0 s (sym t ∙ sized.ensures) (sym u ∙ signed.ensures ∙ ap stage2 block.ensures.0 ∙ stage2-part s)
-    (sym w ∙ c.numbered.ensures ∙ ap (λ (h : List ℕ). header_ok h (block_count s)) block.ensures.0 ∙ header_ok-part s _ ∙ stage3-header s))
+    sym (head_stage-0 s (sym t ∙ sized.ensures) (sym u ∙ signed.ensures ∙ ap stage2 block.ensures.bytes ∙ stage2-part s)
+    (sym w ∙ c.numbered.ensures ∙ ap (λ (h : List ℕ). header_ok h (block_count s)) block.ensures.bytes ∙ header_ok-part s _ ∙ stage3-header s))

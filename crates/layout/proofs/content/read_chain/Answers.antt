@@ -1,9 +1,9 @@
-use mathlib.Core.Logic.{⊎_elim}
 use mathlib.Core.Path.{refl, ◌∙◌}
 use native.Mathlib.Omega.{arith}
 use borrow.Author.Rules.{rules}
 use Rattle.layout.proofs.Walks.Content.{below-nth, Reading, least-cases, reading-here, reading-pass, reading_step, reading-end}
 use Rattle.layout.proofs.content.read_chain.Goals as goal
+use Rattle.layout.proofs.content.read_chain.Goals.{then-o-ge512, else-o-ge512}
 
 pub loop-rest-init : goal.loop-rest-init
 loop-rest-init c = record { long = refl; place = omega arith; enough = omega arith; inside = below-nth _ _ _ _ c.requires.0; whole = refl }
@@ -41,11 +41,11 @@ pub loop-rest-preserved : goal.loop-rest-preserved
 loop-rest-preserved c =
     let i = c.loop-rest.invariant in
     let s = c.requires.0.shape.whole in
-    ⊎_elim
-    (λ w. rw (w.1, w.2, w.3, w.4, c.entry-b.ensures) (reading-pass _ _ _ _ _ _ _ _ _ _ _ _ s i (omega arith) w.0.taken))
-    (λ w. rw (w.6 ∙ w.3.ensures, w.7, w.8, w.9, c.entry-b.ensures)
-    (reading_step _ _ _ _ _ _ _ _ _ _ _ _ s _ (least-cases _ _ _ w.0.left w.1.ensures) i (omega arith)))
-    c.if-o-ge512.branch
+    elim c.if-o-ge512.branch [
+      then-o-ge512 w ↦ rw (w.buf-is, w.o-is, w.p-is, w.rest-is, c.entry-b.ensures) (reading-pass _ _ _ _ _ _ _ _ _ _ _ _ s i (omega arith) w.if-o-ge512.true)
+    | else-o-ge512 w ↦ rw (w.buf-is ∙ w.copy_block.ensures, w.o-is, w.p-is, w.rest-is, c.entry-b.ensures)
+        (reading_step _ _ _ _ _ _ _ _ _ _ _ _ s _ (least-cases _ _ _ w.if-o-ge512.false w.least-m.ensures) i (omega arith))
+    ]
 
 pub shape_of-buf : goal.shape_of-buf
 shape_of-buf c = c.loop-rest.invariant.long

@@ -16,7 +16,7 @@ returns-then-not-self_ok c =
     let a = c.args in
     let t : c.self_ok.result ≡ false = not-true _ c.if-not-self_ok.true-raw in
     sym (follow_directory-refused a.image.now a.n a.b a.parent _
-    (sym t ∙ c.self_ok.ensures ∙ ap (λ (s : List ℕ). self_ok s 0 a.b a.parent) block.ensures.0
+    (sym t ∙ c.self_ok.ensures ∙ ap (λ (s : List ℕ). self_ok s 0 a.b a.parent) block.ensures.bytes
     ∙ self_ok-in-part a.image.now (512 * a.b) 512 a.b a.parent (omega arith)))
 
 pub returns : goal.returns
@@ -28,5 +28,5 @@ returns c =
     let a = c.args in
     let t : self-ok.result ≡ true = not-false _ c.if-not-self_ok.false-raw in
     follow.ensures ∙ sym (follow_directory-chain a.image.now a.n a.b a.parent _
-    (sym t ∙ self-ok.ensures ∙ ap (λ (s : List ℕ). self_ok s 0 a.b a.parent) block.ensures.0
+    (sym t ∙ self-ok.ensures ∙ ap (λ (s : List ℕ). self_ok s 0 a.b a.parent) block.ensures.bytes
     ∙ self_ok-in-part a.image.now (512 * a.b) 512 a.b a.parent (omega arith)) _ number_at.ensures)

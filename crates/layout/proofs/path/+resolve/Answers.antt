@@ -15,16 +15,8 @@ use Prim.Native.Nat.{ℕ, ◌<◌}
 use Rattle.layout.proofs.path.+resolve.Goals as goal
 
 -- the child that the first part names
-abbrev Looked : Type 0
-Looked = resolve-lts.After-child-of claims-resolve (resolve-at t) resolve.Post
-
-looked : (c : Looked) → let s = c.before.before.before.before.before.before in
-    c.child-of.result ≡ child_of s.args.image.now s.args.b (take c.before.before.before.part_length.result s.args.rest.now)
-looked c =
-    let s = c.before.before.before.before.before.before in
-    let w = c.before.before.before.part_length.result in
-    let z : w - 0 ≡ w = omega arith in
-    c.child-of.ensures ∙ ap (λ (j : ℕ). child_of s.args.image.now s.args.b (take j s.args.rest.now)) z
+looked : (s : List ℕ) (b : ℕ) (rest : List ℕ) (w c : ℕ) → c ≡ child_of s b (take (w - 0) rest) → c ≡ child_of s b (take w rest)
+looked s b rest w c e = let z : w - 0 ≡ w = omega arith in e ∙ ap (λ (j : ℕ). child_of s b (take j rest)) z
 
 pub returns-then-k-rest : goal.returns-then-k-rest
 returns-then-k-rest t c = let a = c.args in resolve-here a.image.now a.n a.b a.rest.now _ c.part_length-k.ensures.0 c.if-k-rest.true
@@ -51,7 +43,7 @@ child_of-c-requires t c =
 pub returns-then-c-eq0 : goal.returns-then-c-eq0
 returns-then-c-eq0 t c =
     let a = c.args in
-    resolve-none a.image.now a.n a.b a.rest.now _ c.part_length-k.ensures.0 (omega arith) _ (looked c) c.if-c-eq0.true
+    resolve-none a.image.now a.n a.b a.rest.now _ c.part_length-k.ensures.0 (omega arith) _ (looked a.image.now a.b a.rest.now _ _ c.child_of-c.ensures) c.if-c-eq0.true
 
 pub overflow_add-a : goal.overflow_add-a
 overflow_add-a t c = omega arith
@@ -73,7 +65,7 @@ resolve-requires t c =
     let q = part-rest a.rest.now (w + 1) in (
       simp (length-take, length-drop) (omega arith),
       (
-        subst (λ (l : List ℕ). Along a.image.now a.n c.child_of-c.result (leading (cut l))) (sym q) (along-down a.image.now a.n a.b a.rest.now w c.part_length-k.ensures.0 (omega arith) _ (looked c) c.if-c-eq0.false p.0),
+        subst (λ (l : List ℕ). Along a.image.now a.n c.child_of-c.result (leading (cut l))) (sym q) (along-down a.image.now a.n a.b a.rest.now w c.part_length-k.ensures.0 (omega arith) _ (looked a.image.now a.b a.rest.now _ _ c.child_of-c.ensures) c.if-c-eq0.false p.0),
         subst (λ (l : List ℕ). every good_name (cut l) ≡ true) (sym q) (good-rest a.image.now a.n a.b a.rest.now w c.part_length-k.ensures.0 (omega arith) p.1),
       ),
     )
@@ -84,4 +76,4 @@ returns t c =
     let w = c.part_length-k.result in
     c.resolve.ensures
     ∙ ap (λ (l : List ℕ). resolve a.image.now c.child_of-c.result (leading (cut l))) (part-rest a.rest.now (w + 1))
-    ∙ resolve-down a.image.now a.n a.b a.rest.now w c.part_length-k.ensures.0 (omega arith) _ (looked c) c.if-c-eq0.false
+    ∙ resolve-down a.image.now a.n a.b a.rest.now w c.part_length-k.ensures.0 (omega arith) _ (looked a.image.now a.b a.rest.now _ _ c.child_of-c.ensures) c.if-c-eq0.false

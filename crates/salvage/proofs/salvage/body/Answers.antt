@@ -33,4 +33,4 @@ returns c =
     let if1 = c.if-why-ne0 in
     let refusal = c.refusal-why in
     let a = c.args in
-    accepted a.image.now a.report.now _ _ (sym if1.false ∙ refusal.ensures.number) repair.ensures.0 repair.ensures.1
+    accepted a.image.now a.report.now _ _ (sym if1.false ∙ refusal.ensures.number) repair.ensures.bytes repair.ensures.codes

@@ -80,4 +80,4 @@ returns c = let put-counts = c.put_counts in
     let number_at = c.number_at-d in
     let a = c.args in
     let p = c.requires in
-    let T = take-slots.ensures in record { bytes = steps-image a.report.now p.0 p.1 refl number_at.ensures T _ _ _ put-end.ensures.1 put-table.ensures put-counts.ensures; codes = steps-report a.report.now p.0 p.1 refl number_at.ensures T _ put-end.ensures.0 }
+    let T = take-slots.ensures in record { bytes = steps-image a.report.now p.0 p.1 refl number_at.ensures T _ _ _ put-end.ensures.bytes put-table.ensures put-counts.ensures; codes = steps-report a.report.now p.0 p.1 refl number_at.ensures T _ put-end.ensures.code }

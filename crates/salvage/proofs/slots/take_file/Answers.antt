@@ -26,7 +26,7 @@ returns-then-not-claim c =
     let a = c.args in
     let p = c.requires in
     let k = attribute-chain.ensures in
-    file-cleared a.image.now a.marks.now a.n (entry_at a.b a.k) (shape-block_count _ _ p.0.shape) _ _ number_at.ensures number-at2.ensures _ end-chain.ensures.1 _ _
+    file-cleared a.image.now a.marks.now a.n (entry_at a.b a.k) (shape-block_count _ _ p.0.shape) _ _ number_at.ensures number-at2.ensures _ end-chain.ensures.bytes _ _
     (claimed-as claim.ensures k.0 k.1 (not-true _ if1.true)) set-attribute-fields.ensures
 
 pub end_chain-second-requires : goal.end_chain-second-requires
@@ -49,5 +49,5 @@ returns c =
     let a = c.args in
     let p = c.requires in
     let k = attribute-chain.ensures in
-    file-kept a.image.now a.marks.now a.n (entry_at a.b a.k) (shape-block_count _ _ p.0.shape) _ _ number_at.ensures number-at2.ensures _ end-chain.ensures.1 _ _
-    _ _ k (claimed-as claim.ensures refl refl (not-false _ if1.false)) end-chain2.ensures.1 _ _ end-chain.ensures.0 end-chain2.ensures.0 _ c.file_code.ensures
+    file-kept a.image.now a.marks.now a.n (entry_at a.b a.k) (shape-block_count _ _ p.0.shape) _ _ number_at.ensures number-at2.ensures _ end-chain.ensures.bytes _ _
+    _ _ k (claimed-as claim.ensures refl refl (not-false _ if1.false)) end-chain2.ensures.bytes _ _ end-chain.ensures.right end-chain2.ensures.right _ c.file_code.ensures

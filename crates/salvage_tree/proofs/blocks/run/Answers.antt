@@ -34,7 +34,7 @@ pub bounds-blocks-k : goal.bounds-blocks-k
 bounds-blocks-k c = omega (arith, c.loop-k.invariant.size)
 
 pub entry-c-requires : goal.entry-c-requires
-entry-c-requires c = let g = c.is_good.ensures.below (not-false _ c.if-not-is_good.false) in omega (arith, c.requires.0, g)
+entry-c-requires c = let g = c.is_good.ensures.below (not-false _ c.if-not-is_good.false-raw) in omega (arith, c.requires.0, g)
 
 pub overflow_add-k : goal.overflow_add-k
 overflow_add-k c = omega arith
@@ -43,7 +43,7 @@ pub loop-k-smaller : goal.loop-k-smaller
 loop-k-smaller c = omega arith
 
 pub loop-k-preserved : goal.loop-k-preserved
-loop-k-preserved c = running_more c.loop-k.invariant (omega arith) _ c.is_good.ensures (not-false _ c.if-not-is_good.false) _ c.is_met.ensures c.if-is_met.false _ c.entry-c.ensures
+loop-k-preserved c = running_more c.loop-k.invariant (omega arith) _ c.is_good.ensures (not-false _ c.if-not-is_good.false-raw) _ c.is_met.ensures c.if-is_met.false _ c.entry-c.ensures
 
 pub shape_of-blocks : goal.shape_of-blocks
 shape_of-blocks c = c.loop-k.invariant.size ∙ sym c.requires.1

@@ -35,15 +35,15 @@ slice_bounds-is_witnessed-end c = omega (arith, c.choose-d.ensures.most, c.choos
 
 pub is_witnessed-requires : goal.is_witnessed-requires
 is_witnessed-requires c =
-    let h = chose-some _ _ _ _ _ _ _ _ _ c.is_good.ensures (not-false _ c.if-not-is_good.false) c.choose-d.ensures in
+    let h = chose-some _ _ _ _ _ _ _ _ _ c.is_good.ensures (not-false _ c.if-not-is_good.false-raw) c.choose-d.ensures in
     (c.requires.0.shape, lent-own _ _ (entry_at c.args.b c.args.k) _ _ _ c.number_at-first.ensures c.number_at-said.ensures _ _ c.number_at.ensures refl _ _ c.choose-d.ensures h, c.requires.1, lent-first _ _ (entry_at c.args.b c.args.k) _ _ _ c.number_at-first.ensures c.number_at-said.ensures _ _ c.number_at.ensures refl _ _ c.choose-d.ensures h)
 
 pub returns-then-not-is_witnessed : goal.returns-then-not-is_witnessed
 returns-then-not-is_witnessed c =
-    let h = chose-some _ _ _ _ _ _ _ _ _ c.is_good.ensures (not-false _ c.if-not-is_good.false) c.choose-d.ensures in
+    let h = chose-some _ _ _ _ _ _ _ _ _ c.is_good.ensures (not-false _ c.if-not-is_good.false-raw) c.choose-d.ensures in
     found_none _ _ (entry_at c.args.b c.args.k) _ _ _ c.number_at-first.ensures c.number_at-said.ensures _ _ c.number_at.ensures refl _ _ c.choose-d.ensures h _ c.is_witnessed.ensures (not-true _ c.if-not-is_witnessed.true-raw)
 
 pub returns : goal.returns
 returns c =
-    let h = chose-some _ _ _ _ _ _ _ _ _ c.is_good.ensures (not-false _ c.if-not-is_good.false) c.choose-d.ensures in
+    let h = chose-some _ _ _ _ _ _ _ _ _ c.is_good.ensures (not-false _ c.if-not-is_good.false-raw) c.choose-d.ensures in
     found_some _ _ (entry_at c.args.b c.args.k) _ _ _ c.number_at-first.ensures c.number_at-said.ensures _ _ c.number_at.ensures refl _ _ c.choose-d.ensures h _ c.is_witnessed.ensures (not-false _ c.if-not-is_witnessed.false-raw)

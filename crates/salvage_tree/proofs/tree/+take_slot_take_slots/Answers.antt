@@ -91,7 +91,7 @@ pub take_slot-shape_of-codes : goal.take_slot-shape_of-codes
 take_slot-shape_of-codes t c = omega arith
 
 pub take_slot-returns : goal.take_slot-returns
-take_slot-returns t c = slot_lent _ _ _ _ _ _ _ _ _ _ c.take_entry.ensures (not-false _ c.if-not-take_entry.false) _ (slot_is _ _ _ refl) (omega arith) _ _ _ _ _ _ c.enter-d.ensures (omega arith) _ _ _ c.take_slots.ensures
+take_slot-returns t c = slot_lent _ _ _ _ _ _ _ _ _ _ c.take_entry.ensures (not-false _ c.if-not-take_entry.false-raw) _ (slot_is _ _ _ refl) (omega arith) _ _ _ _ _ _ c.enter-d.ensures (omega arith) _ _ _ c.take_slots.ensures
 
 pub take_slots-overflow_mul-slots : goal.take_slots-overflow_mul-slots
 take_slots-overflow_mul-slots t c = omega (arith, c.requires.1.few)

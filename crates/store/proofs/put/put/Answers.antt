@@ -41,4 +41,4 @@ pub returns : goal.returns
 returns c = let p = c.requires in
     let a = c.args in
     let some = c.if-found-eq0.false in
-    let q = c.put_more.ensures in record { revision = q.0 ∙ target-revision p.2 a.time a.bytes.now p.0 p.1 some; bytes = q.1 ∙ target-image p.2 a.time a.bytes.now p.0 p.1 some }
+    let q = c.put_more.ensures in record { revision = q.revision ∙ target-revision p.2 a.time a.bytes.now p.0 p.1 some; bytes = q.bytes ∙ target-image p.2 a.time a.bytes.now p.0 p.1 some }

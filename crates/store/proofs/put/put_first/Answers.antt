@@ -21,7 +21,7 @@ rewrite-used-requires c =
 pub slice_bounds-write_at-end : goal.slice_bounds-write_at-end
 slice_bounds-write_at-end c =
     let r = c.rewrite-used in
-    let u = first-used c.empty_room-old.result c.args.bytes.now _ _ r.result c.no_records.ensures.1 r.ensures.0 r.ensures.1 in
+    let u = first-used c.empty_room-old.result c.args.bytes.now _ _ r.result c.no_records.ensures.1 r.ensures.bytes r.ensures.size in
     let s = c.requires.2 in
     let k = r.auto.1.1.1.0 in
     let l : length c.empty_room-new.result ≡ max_form = ap length c.empty_room-new.ensures ∙ length-zeros max_form in
@@ -32,11 +32,11 @@ write_at-requires c =
     let a = c.args in
     let p = c.requires in
     let r = c.rewrite-used in
-    let f = first-front c.empty_room-old.result a.bytes.now _ _ r.result c.no_records.ensures.1 r.ensures.0 r.ensures.1 (r.result - 0) (omega arith) in
+    let f = first-front c.empty_room-old.result a.bytes.now _ _ r.result c.no_records.ensures.1 r.ensures.bytes r.ensures.size (r.result - 0) (omega arith) in
     (p.0, p.1, ap (λ (x : List ℕ). write_at_refusal a.image.now (entry_at a.found.block a.found.slot) 0 (length x)) f ∙ ap (λ (k : ℕ). write_at_refusal a.image.now (entry_at a.found.block a.found.slot) 0 k) (first-length a.bytes.now) ∙ p.3)
 
 pub returns : goal.returns
 returns c =
     let a = c.args in
     let r = c.rewrite-used in
-    c.write_at.ensures ∙ ap (λ (x : List ℕ). write_at a.image.now (entry_at a.found.block a.found.slot) 0 x a.time) (first-front c.empty_room-old.result a.bytes.now _ _ r.result c.no_records.ensures.1 r.ensures.0 r.ensures.1 (r.result - 0) (omega arith))
+    c.write_at.ensures ∙ ap (λ (x : List ℕ). write_at a.image.now (entry_at a.found.block a.found.slot) 0 x a.time) (first-front c.empty_room-old.result a.bytes.now _ _ r.result c.no_records.ensures.1 r.ensures.bytes r.ensures.size (r.result - 0) (omega arith))

@@ -25,7 +25,7 @@ returns-then-f-ne0 c =
     let o = c.open_file-f.ensures in
     let right = addressed a.directory.now a.serial.now _ (sym c.address_refusal-form.ensures ∙ c.if-form-ne0.false) in
     let f = c.first_refusal.ensures in
-    prepared-first a.image.now a.directory.now a.serial.now a.time a.bytes.now right.0 (leb-true _ _ right.1) c.requires (absent-if a.image.now a.directory.now a.serial.now right.0 (λ z. c.if-f-ne0.true (o.number_is ∙ z))) _ _ _ _ _ _ f.0 f.1
+    prepared-first a.image.now a.directory.now a.serial.now a.time a.bytes.now right.0 (leb-true _ _ right.1) c.requires (absent-if a.image.now a.directory.now a.serial.now right.0 (λ z. c.if-f-ne0.true (o.number_is ∙ z))) _ _ _ _ _ _ f.place f.empty
 
 pub more_refusal-number-requires : goal.more_refusal-number-requires
 more_refusal-number-requires c =

@@ -6,7 +6,7 @@ use Rattle.volume.proofs.attributes.fill_blocks.Goals as goal
 pub put_data-requires : goal.put_data-requires
 put_data-requires c =
     let grow = c.grow-first in
-    fill-placed c.args.bytes.now c.requires _ grow.ensures.0 _ grow.ensures.1
+    fill-placed c.args.bytes.now c.requires _ grow.ensures.bytes _ grow.ensures.first
 
 pub returns : goal.returns
-returns c = let grow = c.grow-first in record { first = grow.ensures.1; bytes = c.put_data.ensures ∙ fill-put c.args.bytes.now c.requires _ grow.ensures.0 _ grow.ensures.1 }
+returns c = let grow = c.grow-first in record { first = grow.ensures.first; bytes = c.put_data.ensures ∙ fill-put c.args.bytes.now c.requires _ grow.ensures.bytes _ grow.ensures.first }

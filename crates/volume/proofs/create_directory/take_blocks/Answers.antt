@@ -12,10 +12,10 @@ pub nth-last-requires : goal.nth-last-requires
 nth-last-requires c =
     let p = c.requires in
     let grow = c.grow-first in
-    (taken-below c.args.image.now p.0 _ p.1 p.2 _ grow.ensures.0 _ grow.ensures.1, omega arith)
+    (taken-below c.args.image.now p.0 _ p.1 p.2 _ grow.ensures.bytes _ grow.ensures.first, omega arith)
 
 pub returns : goal.returns
 returns c =
     let p = c.requires in
     let grow = c.grow-first in
-    (grow.ensures.0, (grow.ensures.1, taken-last c.args.image.now p.0 _ p.1 p.2 _ grow.ensures.0 _ grow.ensures.1 _ c.nth-last.ensures))
+    (grow.ensures.bytes, (grow.ensures.first, taken-last c.args.image.now p.0 _ p.1 p.2 _ grow.ensures.bytes _ grow.ensures.first _ c.nth-last.ensures))

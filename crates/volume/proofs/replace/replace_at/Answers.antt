@@ -12,7 +12,7 @@ pub write_at-requires : goal.write_at-requires
 write_at-requires c =
     let p = c.requires in
     let e = c.shorten_at-start.ensures in
-    (replace-sound _ p.0 p.1 _ c.least-size.ensures _ _ e.1 _ e.0, replace-standing _ p.0 p.1 _ c.least-size.ensures _ _ e.1 _ e.0, replace-writable _ p.0 p.1 _ c.least-size.ensures _ _ e.1 _ e.0)
+    (replace-sound _ p.0 p.1 _ c.least-size.ensures _ _ e.bytes _ e.first, replace-standing _ p.0 p.1 _ c.least-size.ensures _ _ e.bytes _ e.first, replace-writable _ p.0 p.1 _ c.least-size.ensures _ _ e.bytes _ e.first)
 
 pub returns : goal.returns
 returns c = c.write_at.ensures ∙ replace-done _ c.requires.1 _ _ c.least-size.ensures _ c.shorten_at-start.ensures.bytes

@@ -35,7 +35,7 @@ loop-left-preserved c =
     let l = c.loop-left in
     let pos = c.loop-left-test.true in
     let take-noted = c.take_noted in
-    (omega (arith, l.invariant.0), grow-turn l.invariant.1 pos (grow-found l.invariant.1 _ pos c.search-b.ensures) _ _ take-noted.ensures.0 take-noted.ensures.1)
+    (omega (arith, l.invariant.0), grow-turn l.invariant.1 pos (grow-found l.invariant.1 _ pos c.search-b.ensures) _ _ take-noted.ensures.bytes take-noted.ensures.notes)
 
 pub shape_of-image : goal.shape_of-image
 shape_of-image c = omega (arith, c.loop-left.invariant.1.shape, c.requires.0.shape)

@@ -31,4 +31,4 @@ pub returns : goal.returns
 returns c = let e = c.prepare_refusal-number.ensures in
     let z = c.if-number-ne0.false in
     let h = c.home_sectors-h.ensures in
-    let k = c.fill_log-k.ensures in record { answer = prepare-answered _ _ _ _ _ _ e z h _ k.0 _ c.log_places.ensures; file = prepare-done _ _ _ _ _ _ e z h _ k.0 _ _ k.1.0 c.put32.ensures }
+    let k = c.fill_log-k.ensures in record { answer = prepare-answered _ _ _ _ _ _ e z h _ k.count _ c.log_places.ensures; file = prepare-done _ _ _ _ _ _ e z h _ k.count _ _ k.file.0 c.put32.ensures }

@@ -23,7 +23,7 @@ returns-then-number-ne0 c =
     let r = c.write_item-number in
     let t = c.loop-at-test in
     let l = c.loop-at in
-    write-stop _ _ _ _ _ l.invariant.0 t.true _ r.ensures.1 _ r.ensures.0 c.if-number-ne0.true
+    write-stop _ _ _ _ _ l.invariant.0 t.true _ r.ensures.state _ r.ensures.number c.if-number-ne0.true
 
 pub overflow_add-done : goal.overflow_add-done
 overflow_add-done c =
@@ -59,7 +59,7 @@ loop-at-preserved c =
     let r = c.write_item-number in
     let t = c.loop-at-test in
     let l = c.loop-at in
-    (write-more _ _ _ _ _ l.invariant.0 t.true _ r.ensures.1 _ r.ensures.0 c.if-number-ne0.false _ c.get32.ensures, omega arith, omega arith, l.invariant.3)
+    (write-more _ _ _ _ _ l.invariant.0 t.true _ r.ensures.state _ r.ensures.number c.if-number-ne0.false _ c.get32.ensures, omega arith, omega arith, l.invariant.3)
 
 pub shape_of-image : goal.shape_of-image
 shape_of-image c = c.loop-at.invariant.1
