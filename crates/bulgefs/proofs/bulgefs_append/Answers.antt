@@ -4,4 +4,4 @@ use borrow.Author.Rules.{rules}
 use Rattle.bulgefs.proofs.bulgefs_append.Goals as goal
 
 pub returns : goal.returns
-returns c = let append = c.append in record { answer = append-slotless _ _ _ _ (c.with_slot-c.ensures ∙ append.ensures.answer); state = append.ensures.state.0 }
+returns c = let append = c.append in record { answer = append-slotless _ _ _ _ (c.with_slot-c.ensures ∙ append.ensures.answer); state = append.ensures.state }

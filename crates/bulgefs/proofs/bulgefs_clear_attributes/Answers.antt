@@ -6,4 +6,4 @@ use Rattle.bulgefs.proofs.bulgefs_clear_attributes.Goals as goal
 
 pub returns : goal.returns
 unfolding slot_given volume.slot_given
-returns c = let clear-attributes = c.clear_attributes in record { answer = c.slotless.ensures _ _ refl clear-attributes.ensures.answer; state = clear-attributes.ensures.state.0 }
+returns c = let clear-attributes = c.clear_attributes in record { answer = c.slotless.ensures _ _ refl clear-attributes.ensures.answer; state = clear-attributes.ensures.state }

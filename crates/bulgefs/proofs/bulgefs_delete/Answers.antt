@@ -6,4 +6,4 @@ use Rattle.bulgefs.proofs.bulgefs_delete.Goals as goal
 
 pub returns : goal.returns
 unfolding slot_given volume.slot_given
-returns c = let delete = c.delete in record { answer = c.slotless.ensures _ _ refl delete.ensures.answer; state = delete.ensures.state.0 }
+returns c = let delete = c.delete in record { answer = c.slotless.ensures _ _ refl delete.ensures.answer; state = delete.ensures.state }

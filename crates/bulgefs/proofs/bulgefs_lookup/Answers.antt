@@ -4,7 +4,7 @@ use borrow.Author.Rules.{rules}
 use Rattle.bulgefs.proofs.bulgefs_lookup.Goals as goal
 
 pub returns-in-File : goal.returns-in-File
-returns-in-File c = ap lookup_answer (sym c.slot-1.given.1) ∙ c.lookup.ensures.answer
+returns-in-File c = ap lookup_answer (sym c.in-File.is) ∙ c.lookup.ensures.answer
 
 pub returns-in-Refused : goal.returns-in-Refused
-returns-in-Refused c = ap lookup_answer (sym c.number-1.given.1) ∙ c.lookup.ensures.answer
+returns-in-Refused c = ap lookup_answer (sym c.in-Refused.is) ∙ c.lookup.ensures.answer

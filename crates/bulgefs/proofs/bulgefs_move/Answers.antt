@@ -3,4 +3,4 @@ use borrow.Author.Rules.{rules}
 use Rattle.bulgefs.proofs.bulgefs_move.Goals as goal
 
 pub returns : goal.returns
-returns c = let move-file = c.move_file in record { answer = c.with_slot.ensures ∙ move-file.ensures.answer; state = move-file.ensures.state.0 }
+returns c = let move-file = c.move_file in record { answer = c.with_slot.ensures ∙ move-file.ensures.answer; state = move-file.ensures.state }

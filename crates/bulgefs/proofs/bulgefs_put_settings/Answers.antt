@@ -3,4 +3,4 @@ use borrow.Author.Rules.{rules}
 use Rattle.bulgefs.proofs.bulgefs_put_settings.Goals as goal
 
 pub returns : goal.returns
-returns c = let put = c.put_settings in record { answer = c.with_slot.ensures ∙ put.ensures.answer; state = put.ensures.state.0 }
+returns c = let put = c.put_settings in record { answer = c.with_slot.ensures ∙ put.ensures.answer; state = put.ensures.state }

@@ -10,11 +10,11 @@ pub overflow_cast-result : goal.overflow_cast-result
 overflow_cast-result c =
     let read-attributes = c.read_attributes in
     let a = c.args in
-    let e = ap (λ (x : ReadAnswer). x.count) (read-case _ _ c.count-1.given.1 read-attributes.ensures.answer) in
+    let e = ap (λ (x : ReadAnswer). x.count) (read-case _ _ c.in-Bytes.is read-attributes.ensures.answer) in
     omega (arith, attributes-small a.image.now a.path.now a.buffer.now)
 
 pub returns-in-Bytes : goal.returns-in-Bytes
-returns-in-Bytes c = read-case _ _ c.count-1.given.1 c.read_attributes.ensures.answer
+returns-in-Bytes c = read-case _ _ c.in-Bytes.is c.read_attributes.ensures.answer
 
 pub returns-in-Refused : goal.returns-in-Refused
-returns-in-Refused c = read-case _ _ c.number-1.given.1 c.read_attributes.ensures.answer
+returns-in-Refused c = read-case _ _ c.in-Refused.is c.read_attributes.ensures.answer

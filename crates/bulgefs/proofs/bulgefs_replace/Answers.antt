@@ -6,4 +6,4 @@ use Rattle.bulgefs.proofs.bulgefs_replace.Goals as goal
 
 pub returns : goal.returns
 unfolding slot_given volume.slot_given
-returns c = let replace = c.replace in record { answer = c.slotless.ensures _ _ refl replace.ensures.answer; state = replace.ensures.state.0 }
+returns c = let replace = c.replace in record { answer = c.slotless.ensures _ _ refl replace.ensures.answer; state = replace.ensures.state }

@@ -6,4 +6,4 @@ use Rattle.bulgefs.proofs.bulgefs_shorten.Goals as goal
 
 pub returns : goal.returns
 unfolding slot_given volume.slot_given
-returns c = let shorten = c.shorten in record { answer = c.slotless.ensures _ _ refl shorten.ensures.answer; state = shorten.ensures.state.0 }
+returns c = let shorten = c.shorten in record { answer = c.slotless.ensures _ _ refl shorten.ensures.answer; state = shorten.ensures.state }

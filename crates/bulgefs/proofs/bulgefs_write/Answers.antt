@@ -6,4 +6,4 @@ use Rattle.bulgefs.proofs.bulgefs_write.Goals as goal
 
 pub returns : goal.returns
 unfolding slot_given volume.slot_given
-returns c = let write = c.write in record { answer = c.slotless.ensures _ _ refl write.ensures.answer; state = write.ensures.state.0 }
+returns c = let write = c.write in record { answer = c.slotless.ensures _ _ refl write.ensures.answer; state = write.ensures.state }

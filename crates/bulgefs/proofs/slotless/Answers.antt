@@ -3,7 +3,7 @@ use borrow.Author.Rules.{rules}
 use Rattle.bulgefs.proofs.slotless.Goals as goal
 
 pub returns-in-Done : goal.returns-in-Done
-returns-in-Done c = λ p x z h. no_slot p x z _ _ (change-case _ c.c-1.given.1 h)
+returns-in-Done c = λ p x z h. no_slot p x z _ _ (change-case _ c.in-Done.is h)
 
 pub returns-in-Refused : goal.returns-in-Refused
-returns-in-Refused c = λ p x z h. change-case _ c.c-in-Refused-1.given.1 h
+returns-in-Refused c = λ p x z h. change-case _ c.in-Refused.is h

@@ -23,5 +23,5 @@ slice_bounds-write_all-end c =
     let render = c.render-count in
     let listing-buffer = c.listing_buffer-out in
     let read-full = c.read_full-got in
-    sym (length-take-le render.result render.new.1.0
+    sym (length-take-le render.result render.new.out
     (omega (arith, listing-short (take read-full.result read-full.new.1.0), render.ensures.1, render.auto.1.0, listing-buffer.ensures)))

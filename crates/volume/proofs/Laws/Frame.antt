@@ -19,14 +19,17 @@ use Rattle.layout.proofs.Laws.Frames.{Agree, agree_refl, agree-more, agree_then,
 -- the blocks that changed entries name: block 0 and the table block of each entry
 pub entries-table : (xs : List ℕ) (x : ℕ) → In x xs → In (table_block_of x) (entries_named xs)
 unfolding entries_named
+entries-table [] x i = elim i [ ]
 entries-table (y ∷ xs) x i = inr (in_map table_block_of x (y ∷ xs) i)
 
 pub entries-zero : (xs : List ℕ) (x : ℕ) → In x xs → In 0 (entries_named xs)
 unfolding entries_named
+entries-zero [] x i = elim i [ ]
 entries-zero (y ∷ xs) x i = inl refl
 
 pub entries-of : (xs : List ℕ) (b : ℕ) → In b (entries_named xs) → (x : ℕ) × In x xs × ((b ≡ 0) ⊎ (b ≡ table_block_of x))
 unfolding entries_named
+entries-of [] b x' = elim x' [ ]
 entries-of (y ∷ xs) b (inl e) = (y, inl refl, inl e)
 entries-of (y ∷ xs) b (inr i) = let r = map-in table_block_of b (y ∷ xs) i in (r.0, r.1, inr r.2)
 
@@ -71,17 +74,23 @@ changed-first (x ∷ xs) = refl
 
 pub changed-new : (last : ℕ) (xs : List ℕ) (x : ℕ) → In x xs → In x (changed_entries last xs)
 unfolding changed_entries
+changed-new zero [] x i = elim i [ ]
+changed-new (suc last) [] x i = elim i [ ]
 changed-new zero (y ∷ xs) x i = i
 changed-new (suc last) (y ∷ xs) x i = inr i
 
 pub changed-of : (last : ℕ) (xs : List ℕ) (x : ℕ) → In x (changed_entries last xs) → ((x ≡ last) × (0 < last)) ⊎ In x xs
 unfolding changed_entries
+changed-of zero [] x i = elim i [ ]
+changed-of (suc last) [] x i = elim i [ ]
 changed-of zero (y ∷ xs) x i = inr i
 changed-of (suc last) (y ∷ xs) x (inl e) = inl (e, omega arith)
 changed-of (suc last) (y ∷ xs) x (inr i) = inr i
 
 changed-more : (last y : ℕ) (xs : List ℕ) (x : ℕ) → In x (changed_entries last (y ∷ [])) → In x (changed_entries last (y ∷ xs))
 unfolding changed_entries
+changed-more zero y xs x (inr x4) = elim x4 [ ]
+changed-more (suc last) y xs x (inr (inr x6)) = elim x6 [ ]
 changed-more zero y xs x (inl e) = inl e
 changed-more (suc last) y xs x (inl e) = inl e
 changed-more (suc last) y xs x (inr (inl e)) = inr (inl e)
@@ -133,6 +142,7 @@ taken-written xs ys size offset (suc c) x p q h i = written_all x xs ys offset c
 
 pub written_in : (bs : List ℕ) (offset count x : ℕ) → In x (written bs offset count) → In x bs
 unfolding written
+written_in bs offset zero x i = elim i [ ]
 written_in bs offset (suc c) x i = in-drop x (offset / 512) bs (in_take x (blocks_for (offset % 512 + suc c)) (drop (offset / 512) bs) i)
 
 -- what each step of a change writes, in an image of n blocks

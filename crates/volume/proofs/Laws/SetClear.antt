@@ -3,7 +3,7 @@ use Prim.Native.Nat.{ℕ, ◌+◌, ◌-◌, ◌*◌, ◌/◌, ◌≤◌, ◌<◌
 use mathlib.Core.Path.{◌≡◌, refl, ap, ◌∙◌}
 use mathlib.Core.Bool.{true}
 use mathlib.Core.List.{List, ◌∷◌, ◌++◌, []}
-use mathlib.Core.Logic.{inl, ◌≢◌}
+use mathlib.Core.Logic.{inr, inl, ◌≢◌}
 use native.Mathlib.Omega.{arith}
 use lib.ListN.{length, get_or, length-append}
 use lib.Dec.{eqb}
@@ -128,6 +128,7 @@ module _ (s : List ℕ) (S : Sound s) (d : ℕ × ℕ) (di : In d (dirs s)) (k :
     cleared-flags = updated-flags s S e E file (emptied s e) z 0 I 0
 
     old-far : (q : ℕ) → In q old → In q (e / 512 ∷ []) → ⊥
+    old-far q i (inr x') = elim x' [ ]
     old-far q i (inl y) = old-outside s S e E file q i (rw y E.within-tree)
 
     pub cleared-zero : (q : ℕ) → In q (attribute_blocks s e) → block (clear_attributes_at s e) q ≡ zeros 512
@@ -253,6 +254,7 @@ module _ (s : List ℕ) (S : Sound s) (d : ℕ × ℕ) (di : In d (dirs s)) (k :
           ∙ set-chain s S e E file bytes R)
 
       new-far : (q : ℕ) → In q new → In q (e / 512 ∷ []) → ⊥
+      new-far q i (inr x') = elim x' [ ]
       new-far q i (inl y) = set-outside s S e E file bytes R q i (rw y E.within-tree)
 
       done-bytes : attributes done e ≡ bytes

@@ -3,7 +3,7 @@ use Prim.Native.Nat.{ℕ, zero, suc, ◌+◌, ◌-◌, ◌*◌, ◌/◌, ◌%◌
 use mathlib.Core.Path.{◌≡◌, refl, sym, ap, ◌∙◌}
 use mathlib.Core.Bool.{true}
 use mathlib.Core.List.{List, [], ◌∷◌, ◌++◌}
-use mathlib.Core.Logic.{◌⊎◌, inl, ⊎_elim}
+use mathlib.Core.Logic.{inr, ◌⊎◌, inl, ⊎_elim}
 use native.Mathlib.Omega.{arith}
 use borrow.Author.Tests.{le-leb, lt-leb, lt-ltb}
 use lib.ListN.{length, get_or, take, drop, length-take}
@@ -175,6 +175,7 @@ module _ (v : ℕ → ℕ) (b k last : ℕ) (m : List ℕ) where
       ∙ grown-marks last (chain v b k) (table_block_of last ∷ []) m (some ne) only (λ l. inl refl)
     where
       only : (x : ℕ) → In x (table_block_of last ∷ []) → (x ≡ table_block_of last) × (0 < last)
+      only x (inr x'') = elim x'' [ ]
       only x (inl e) = (e, omega arith)
 
 pub end_none : (last tail : ℕ) (m : List ℕ) → tail ≡ 0 → m ≡ marked m (end_blocks last tail)

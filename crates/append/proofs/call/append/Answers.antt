@@ -34,5 +34,5 @@ change_ready-requires c =
 pub returns : goal.returns
 returns c =
     let n = c.change_ready.ensures in
-    let d = append-some _ _ _ _ _ c.if-piece-eq0.false _ c.file_end-end.ensures n.answer n.state.0 in
-    (d.0, (d.1, n.state.1))
+    let d = append-some _ _ _ _ _ c.if-piece-eq0.false _ c.file_end-end.ensures n.answer n.state in
+    (d.0, (d.1, n.numbered))

@@ -31,7 +31,7 @@ pub loop-left-preserved : goal.loop-left-preserved
 loop-left-preserved c =
     let k = c.take_back in
     let l = c.loop-left in
-    (take_next _ _ _ _ _ l.invariant.0 c.loop-left-test.true _ _ (omega arith) k.ensures.image.0 k.ensures.image.1, omega arith, omega arith)
+    (take_next _ _ _ _ _ l.invariant.0 c.loop-left-test.true _ _ (omega arith) k.ensures.image k.ensures.journal, omega arith, omega arith)
 
 pub shape_of-image : goal.shape_of-image
 shape_of-image c = c.loop-left.invariant.1

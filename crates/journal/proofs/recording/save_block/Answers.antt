@@ -14,5 +14,5 @@ returns c =
     let a = c.args in
     let p = c.requires in
     let h = p in
-    lent put32.new.0 4 512 _ a.block.now copy.ensures h.0
+    lent put32.new.s 4 512 _ a.block.now copy.ensures h.0
     ∙ ap (λ (x : List ℕ). splice x 4 a.block.now) put32.ensures ∙ piece-made a.piece.now a.block.now a.b h.1 h.0

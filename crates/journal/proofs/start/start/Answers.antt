@@ -24,7 +24,7 @@ pub put32-requires : goal.put32-requires
 put32-requires c =
     let j = c.args.journal.now in
     let l = ap length c.clear.ensures ∙ length-replicate {A = ℕ} (length j) 0 in
-    omega (arith, l, length-set {A = ℕ} c.clear.new.0 0 1)
+    omega (arith, l, length-set {A = ℕ} c.clear.new.s 0 1)
 
 pub shape_of-journal : goal.shape_of-journal
 shape_of-journal c =

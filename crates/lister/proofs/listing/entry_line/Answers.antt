@@ -34,7 +34,7 @@ l₂ c = more (l₁ c.before.before.before.before.before) c.put-labelled.ensures
 l₃ : (c : tie.After-put-labelled2) → let d = c.before.before.before.before.before.before.before.before.before.before.before.before in Rest d c.put-labelled2.new.0 c.put-labelled2.result ((32 ∷ []) ++ (printed (name d) ++ (10 ∷ [])))
 l₃ c = more (l₂ c.before.before.before.before.before) c.put-labelled2.ensures _ refl
 
-l₄ : (c : tie.After-put-byte) → let d = c.before.before.before.before.before.before.before.before.before.before.before.before.before.before.before.before in Rest d c.put_byte.new.0 c.put_byte.result (printed (name d) ++ (10 ∷ []))
+l₄ : (c : tie.After-put-byte) → let d = c.before.before.before.before.before.before.before.before.before.before.before.before.before.before.before.before in Rest d c.put_byte.new.out c.put_byte.result (printed (name d) ++ (10 ∷ []))
 l₄ c = more (l₃ c.before.before.before.before) c.put_byte.ensures _ refl
 
 l₅ : (c : tie.After-put-name) → let d = c.before.before.before.before.before.before.before.before.before.before.before.before.before.before.before.before.before.before.before.before in Rest d c.put-name.new.0 c.put-name.result (10 ∷ [])

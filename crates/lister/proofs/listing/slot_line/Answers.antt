@@ -33,6 +33,6 @@ returns c =
     let type_at = c.type_at in
     let a = c.args in
     let p = c.requires in
-    let t : is-file.result ≡ true = not-false _ if1.false in
+    let t : is-file.result ≡ true = not-false _ if1.false-raw in
     last (begin a.out.now _ _ _ p.1 (slot-file a.image.now (entry_at a.b a.k) a.k _ type_at.ensures (sym t ∙ is-file.ensures)))
     entry-line.ensures refl

@@ -18,9 +18,9 @@ overflow_add-result-in-Claims c = omega (arith, times-one c.args.n (not c.chain_
 -- src/check.rt:312:1
 pub returns-in-Claims : goal.returns-in-Claims
 unfolding answer
-returns-in-Claims c = (rw c.enum_told-1.given.1 (ap (λ (t : Bool). c.args.k + (c.args.n + 1) * one (not t)) c.chain_ok.ensures), omega (arith, times-one c.args.n (not c.chain_ok.result)))
+returns-in-Claims c = (rw c.in-Claims.is (ap (λ (t : Bool). c.args.k + (c.args.n + 1) * one (not t)) c.chain_ok.ensures), omega (arith, times-one c.args.n (not c.chain_ok.result)))
 
 -- src/check.rt:312:1
 pub returns-in-Holds : goal.returns-in-Holds
 unfolding answer
-returns-in-Holds c = (rw c.q-1.given.1 c.holds.ensures.0, omega (arith, c.holds.ensures.1))
+returns-in-Holds c = (rw c.in-Holds.is c.holds.ensures.0, omega (arith, c.holds.ensures.1))

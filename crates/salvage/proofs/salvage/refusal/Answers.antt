@@ -21,7 +21,7 @@ no_directory-requires c =
     let directory-ok = c.directory_ok in
     let a = c.args in
     let p = c.requires in
-    let t : directory-ok.result ≡ true = not-false _ if1.false in
+    let t : directory-ok.result ≡ true = not-false _ if1.false-raw in
     directory-at a.image.now a.n (a.t + 1) (a.t + 1) a.marks.now _ _ p.0.shape (rw t at directory-ok.ensures) c.number_at-d.ensures
 
 pub returns-then-not-no_directory : goal.returns-then-not-no_directory
@@ -33,7 +33,7 @@ returns-then-not-no_directory c =
     let a = c.args in
     let p = c.requires in
     let u : no-directory.result ≡ false = not-true _ c.if-not-no_directory.true-raw in
-    weighed-directory a.image.now a.n a.t (a.t + 1) a.size a.marks.now _ _ p.0 p.1 p.2 refl directory-ok.ensures (not-false _ if1.false) _ number_at.ensures (sym u ∙ no-directory.ensures)
+    weighed-directory a.image.now a.n a.t (a.t + 1) a.size a.marks.now _ _ p.0 p.1 p.2 refl directory-ok.ensures (not-false _ if1.false-raw) _ number_at.ensures (sym u ∙ no-directory.ensures)
 
 pub overflow_mul-d : goal.overflow_mul-d
 overflow_mul-d c =
@@ -42,7 +42,7 @@ overflow_mul-d c =
     let directory-ok = c.directory_ok in
     let a = c.args in
     let p = c.requires in
-    let t : directory-ok.result ≡ true = not-false _ if1.false in
+    let t : directory-ok.result ≡ true = not-false _ if1.false-raw in
     let D = directory-at a.image.now a.n (a.t + 1) (a.t + 1) a.marks.now _ _ p.0.shape (rw t at directory-ok.ensures) number_at.ensures in
     omega (arith, D.blocks.few)
 
@@ -55,8 +55,8 @@ returns-then-size-d c =
     let directory-ok = c.directory_ok in
     let a = c.args in
     let p = c.requires in
-    let u : no-directory.result ≡ true = not-false _ if2.false in
-    weighed-short a.image.now a.n a.t (a.t + 1) a.size a.marks.now _ _ p.0 p.1 p.2 refl directory-ok.ensures (not-false _ if1.false) _ number_at.ensures (sym u ∙ no-directory.ensures) c.if-size-d.true
+    let u : no-directory.result ≡ true = not-false _ if2.false-raw in
+    weighed-short a.image.now a.n a.t (a.t + 1) a.size a.marks.now _ _ p.0 p.1 p.2 refl directory-ok.ensures (not-false _ if1.false-raw) _ number_at.ensures (sym u ∙ no-directory.ensures) c.if-size-d.true
 
 pub returns : goal.returns
 returns c =
@@ -67,5 +67,5 @@ returns c =
     let directory-ok = c.directory_ok in
     let a = c.args in
     let p = c.requires in
-    let u : no-directory.result ≡ true = not-false _ if2.false in
-    weighed-none a.image.now a.n a.t (a.t + 1) a.size a.marks.now _ _ p.0 p.1 p.2 refl directory-ok.ensures (not-false _ if1.false) _ number_at.ensures (sym u ∙ no-directory.ensures) (omega arith)
+    let u : no-directory.result ≡ true = not-false _ if2.false-raw in
+    weighed-none a.image.now a.n a.t (a.t + 1) a.size a.marks.now _ _ p.0 p.1 p.2 refl directory-ok.ensures (not-false _ if1.false-raw) _ number_at.ensures (sym u ∙ no-directory.ensures) (omega arith)

@@ -23,5 +23,5 @@ returns c =
     let if1 = c.if-not-slot_ok_at in
     let slot-ok-at = c.slot_ok_at in
     let p = c.requires in
-    let t : slot-ok-at.result ≡ true = not-false _ if1.false in
+    let t : slot-ok-at.result ≡ true = not-false _ if1.false-raw in
     right-both _ _ _ (sym t ∙ slot-ok-at.ensures) (new_name-used _ _ _ _ p.0.slot _ refl p.1 _ c.name_in.ensures)

@@ -32,7 +32,7 @@ returns-then-not-slot_right c =
     let type_at = c.type_at in
     let a = c.args in
     let p = c.requires in
-    let t : slot-right.result ≡ false = not-true _ if2.true in
+    let t : slot-right.result ≡ false = not-true _ if2.true-raw in
     taken-broken a.image.now a.marks.now (chain (next a.image.now) a.first a.d) a.n (entry_at a.b a.k) a.k p.2.slot.place (shape-block_count _ _ p.0.shape) (λ z. if1.false (type_at.ensures ∙ z)) _
     (sym t ∙ slot-right.ensures) clear-slot.ensures
 
@@ -52,9 +52,9 @@ returns-then-not-claim c =
     let type_at = c.type_at in
     let a = c.args in
     let p = c.requires in
-    let t : slot-right.result ≡ true = not-false _ if2.false in
+    let t : slot-right.result ≡ true = not-false _ if2.false-raw in
     taken-lost a.image.now a.marks.now (chain (next a.image.now) a.first a.d) a.n (entry_at a.b a.k) a.k p.2.slot.place (shape-block_count _ _ p.0.shape) (λ z. if1.false (type_at.ensures ∙ z)) _
-    (sym t ∙ slot-right.ensures) _ (claimed-as claim.ensures number_at.ensures number-at2.ensures (not-true _ if3.true)) clear-slot2.ensures
+    (sym t ∙ slot-right.ensures) _ (claimed-as claim.ensures number_at.ensures number-at2.ensures (not-true _ if3.true-raw)) clear-slot2.ensures
 
 pub take_file-requires : goal.take_file-requires
 take_file-requires c =
@@ -63,7 +63,7 @@ take_file-requires c =
     let number-at2 = c.number_at-blocks in
     let number_at = c.number_at-file in
     let p = c.requires in
-    let C = claimed-as claim.ensures number_at.ensures number-at2.ensures (not-false _ if3.false) in
+    let C = claimed-as claim.ensures number_at.ensures number-at2.ensures (not-false _ if3.false-raw) in
     (record { shape = p.0.shape; table = p.0.table; marks = omega (arith, p.0) }, p.1, record { shape = p.0.shape; below = C.below refl })
 
 pub returns : goal.returns
@@ -79,6 +79,6 @@ returns c =
     let type_at = c.type_at in
     let a = c.args in
     let p = c.requires in
-    let t : slot-right.result ≡ true = not-false _ if2.false in
+    let t : slot-right.result ≡ true = not-false _ if2.false-raw in
     taken-file a.image.now a.marks.now (chain (next a.image.now) a.first a.d) a.n (entry_at a.b a.k) a.k p.2.slot.place (shape-block_count _ _ p.0.shape) (λ z. if1.false (type_at.ensures ∙ z)) _
-    (sym t ∙ slot-right.ensures) _ _ _ (claimed-as claim.ensures number_at.ensures number-at2.ensures (not-false _ if3.false)) take-file.ensures
+    (sym t ∙ slot-right.ensures) _ _ _ (claimed-as claim.ensures number_at.ensures number-at2.ensures (not-false _ if3.false-raw)) take-file.ensures

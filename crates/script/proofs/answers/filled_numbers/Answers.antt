@@ -3,4 +3,4 @@ use borrow.Author.Rules.{rules}
 use Rattle.script.proofs.answers.filled_numbers.Goals as goal
 
 pub overflow_cast-result : goal.overflow_cast-result
-overflow_cast-result c = let h = rw c.f-1.given.1 at c.requires in omega arith
+overflow_cast-result c = let h = rw c.in-Bytes.is at c.requires in omega arith

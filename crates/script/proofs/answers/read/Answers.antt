@@ -13,7 +13,7 @@ filled_numbers-requires c =
     let p = c.requires in
     omega (
       arith,
-      read_small a.image.now a.script.now a.at read-into.new.1.1.1.0 read-into.result read-into.ensures,
+      read_small a.image.now a.script.now a.at read-into.new.buffer read-into.result read-into.ensures,
       length-data a.script.now a.at
           p.0,
       get32.ensures,
@@ -28,5 +28,5 @@ returns c =
     let a = c.args in
     let p = c.requires in
     let l = filled-length a.image.now a.script.now a.at ∙ length-data a.script.now a.at p.0 ∙ sym get32.ensures in
-    read-written a.part.now read-into.new.1.1.1.0 _ _ get32.result read-into.result _ _ _ _ read-into.ensures l
+    read-written a.part.now read-into.new.buffer _ _ get32.result read-into.result _ _ _ _ read-into.ensures l
     (p.1 ∙ rw get32.ensures) (omega arith) filled-numbers.ensures put-numbers.ensures

@@ -10,5 +10,5 @@ pub returns : goal.returns
 returns c =
     let a = c.args in
     let i = c.entry_into-v in
-    let l : length i.new.1.1.1.0 ≡ length a.part.now - 64 = omega arith in
-    entered-written a.part.now i.new.1.1.1.0 _ _ i.result _ i.ensures (omega (arith, l, c.requires)) l c.put_entry.ensures
+    let l : length i.new.buffer ≡ length a.part.now - 64 = omega arith in
+    entered-written a.part.now i.new.buffer _ _ i.result _ i.ensures (omega (arith, l, c.requires)) l c.put_entry.ensures

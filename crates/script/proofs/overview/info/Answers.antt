@@ -10,5 +10,5 @@ pub returns : goal.returns
 returns c =
     let a = c.args in
     let i = c.volume_into-v in
-    let l : length i.new.1.1.1.0 ≡ length a.part.now - 32 = omega arith in
-    described-written a.part.now i.new.1.1.1.0 _ _ i.result _ i.ensures (omega (arith, l, c.requires)) l c.put_volume.ensures
+    let l : length i.new.buffer ≡ length a.part.now - 32 = omega arith in
+    described-written a.part.now i.new.buffer _ _ i.result _ i.ensures (omega (arith, l, c.requires)) l c.put_volume.ensures

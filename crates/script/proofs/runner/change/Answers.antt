@@ -43,4 +43,4 @@ returns c =
     let if1 = c.if-script-at-eq8 in
     let p = c.requires in
     let call = item-change _ _ change-of.result _ _ name-of.ensures data_of.ensures change-of.ensures p.1 if1.false in
-    change-made _ _ _ _ _ _ _ _ _ _ changed-numbers.ensures put-numbers.ensures _ _ call p.0.room change.ensures.answer change.ensures.state.0
+    change-made _ _ _ _ _ _ _ _ _ _ changed-numbers.ensures put-numbers.ensures _ _ call p.0.room change.ensures.answer change.ensures.state

@@ -15,4 +15,4 @@ returns c =
     let directory-of = c.directory_of-directory in
     let p = c.requires in
     let call = item-put _ _ _ _ _ _ directory-of.ensures serial-of.ensures get64.ensures data_of.ensures in
-    change-made _ _ _ _ _ _ _ _ _ _ changed-numbers.ensures put-numbers.ensures _ _ call p.1 made.ensures.answer made.ensures.state.0
+    change-made _ _ _ _ _ _ _ _ _ _ changed-numbers.ensures put-numbers.ensures _ _ call p.1 made.ensures.answer made.ensures.state

@@ -8,4 +8,4 @@ returns c =
     let undone-numbers = c.undone_numbers in
     let undo = c.undo-u in
     let p = c.requires in
-    undo-made _ _ _ _ _ _ _ _ _ _ undone-numbers.ensures put-numbers.ensures (p) undo.ensures.answer undo.ensures.state.0
+    undo-made _ _ _ _ _ _ _ _ _ _ undone-numbers.ensures put-numbers.ensures (p) undo.ensures.answer undo.ensures.state

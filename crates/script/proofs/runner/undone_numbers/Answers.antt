@@ -4,8 +4,8 @@ use Rattle.script.proofs.runner.undone_numbers.Goals as goal
 
 pub returns-in-Done : goal.returns-in-Done
 unfolding encoded
-returns-in-Done c = rw c.u-1.given.1
+returns-in-Done c = rw c.in-Done.is
 
 pub returns-in-Refused : goal.returns-in-Refused
 unfolding encoded
-returns-in-Refused c = rw c.u-in-Refused-1.given.1
+returns-in-Refused c = rw c.in-Refused.is

@@ -10,5 +10,5 @@ pub returns : goal.returns
 returns c =
     let a = c.args in
     let g = c.get_into-g in
-    let l : length g.new.1.1.1.0 ≡ length a.part.now - 16 = omega arith in
-    c.put_numbers.ensures ∙ got-written a.part.now g.new.1.1.1.0 _ _ _ _ _ g.ensures (omega (arith, l, c.requires)) l
+    let l : length g.new.buffer ≡ length a.part.now - 16 = omega arith in
+    c.put_numbers.ensures ∙ got-written a.part.now g.new.buffer _ _ _ _ _ g.ensures (omega (arith, l, c.requires)) l

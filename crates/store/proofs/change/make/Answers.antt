@@ -7,20 +7,20 @@ pub make-requires : goal.make-requires
 unfolding refusal Target
 make-requires c =
     let p = c.requires in
-    let given = c.what-1.given.1 in
+    let given = c.in-Volume.is in
     (p.0, rw given at p.1, rw given at p.2)
 
 pub put-requires : goal.put-requires
 unfolding refusal Target
 put-requires c =
     let p = c.requires in
-    let given = c.what-in-Put-1.given.1 in
+    let given = c.in-Put.is in
     (p.0, rw given at p.1, rw given at p.2)
 
 pub returns-in-Volume : goal.returns-in-Volume
 unfolding after slot_given
-returns-in-Volume c = rw c.what-1.given.1 c.make.ensures
+returns-in-Volume c = rw c.in-Volume.is c.make.ensures
 
 pub returns-in-Put : goal.returns-in-Put
 unfolding after slot_given
-returns-in-Put c = rw c.what-in-Put-1.given.1 c.put.ensures
+returns-in-Put c = rw c.in-Put.is c.put.ensures

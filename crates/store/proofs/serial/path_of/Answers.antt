@@ -21,10 +21,10 @@ copy_part-requires-2 c =
     let p = c.requires in
     let a = c.args in
     let s = path-short _ _ p.0 in
-    let m = c.copy_part.new.1.1.0 in
+    let m = c.copy_part.new.dst in
     let l = path-begun _ _ p.0 _ m _ p.1 c.no_path-path.ensures c.copy_part.ensures in
     let g = length-set m a.k 47 in
     (omega arith, omega arith)
 
 pub returns : goal.returns
-returns c = let p = c.requires in path-stored _ _ p.0 _ c.no_path-path.result c.copy_part.new.1.1.0 _ p.1 c.no_path-path.ensures c.copy_part.ensures c.copy_part-2.ensures
+returns c = let p = c.requires in path-stored _ _ p.0 _ c.no_path-path.result c.copy_part.new.dst _ p.1 c.no_path-path.ensures c.copy_part.ensures c.copy_part-2.ensures

@@ -20,7 +20,7 @@ returns-then-count c =
     let if2 = c.if-not-whole_blocks in
     let path-refusal = c.path_refusal in
     let if1 = c.if-path_refusal-eq9 in
-    let t : whole-blocks.result ≡ true = not-false _ if2.false in
+    let t : whole-blocks.result ≡ true = not-false _ if2.false-raw in
     set_long _ _ (form-other _ _ path-refusal.ensures if1.false) (sym t ∙ whole-blocks.ensures) (omega arith)
 
 pub returns : goal.returns
@@ -29,5 +29,5 @@ returns c =
     let if2 = c.if-not-whole_blocks in
     let path-refusal = c.path_refusal in
     let if1 = c.if-path_refusal-eq9 in
-    let t : whole-blocks.result ≡ true = not-false _ if2.false in
+    let t : whole-blocks.result ≡ true = not-false _ if2.false-raw in
     set-short _ _ (form-other _ _ path-refusal.ensures if1.false) (sym t ∙ whole-blocks.ensures) (omega arith)

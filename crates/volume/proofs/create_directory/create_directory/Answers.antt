@@ -26,7 +26,7 @@ put_directory-requires c =
     let a = c.args in
     let g = create-directory-given a.image.now a.path.now a.given.kind a.given.flags a.d p.1 in
     let t = c.take_blocks-t.ensures in
-    let r = create-directory-room p.2 a.d p.0 g.least g.room (directory-path p.0 g) g.placed _ _ t.first.0 t.first.1 _ t.bytes in
+    let r = create-directory-room p.2 a.d p.0 g.least g.room (directory-path p.0 g) g.placed _ _ t.first t.last _ t.bytes in
     (r.0, r.1, r.2, r.3, name-short a.path.now _ g.good c.last_part-name.ensures)
 
 pub overflow_cast-f : goal.overflow_cast-f
@@ -35,7 +35,7 @@ overflow_cast-f c =
     let a = c.args in
     let g = create-directory-given a.image.now a.path.now a.given.kind a.given.flags a.d p.1 in
     let t = c.take_blocks-t.ensures in
-    let r = (create-directory-room p.2 a.d p.0 g.least g.room (directory-path p.0 g) g.placed _ _ t.first.0 t.first.1 _ t.bytes).2 in
+    let r = (create-directory-room p.2 a.d p.0 g.least g.room (directory-path p.0 g) g.placed _ _ t.first t.last _ t.bytes).2 in
     omega (arith, r)
 
 pub put_slot-requires : goal.put_slot-requires
@@ -59,5 +59,5 @@ returns c = let p = c.requires in
     let made = c.put_directory.ensures in record {
       slot = v.lowest;
       bytes = c.put_slot.ensures
-          ∙ create-directory-written v a.d p.0 g.least g.room _ _ a.given.time _ name t.first.0 t.first.1 _ _ t.bytes made a.given.kind a.given.user a.given.group a.given.permissions a.given.flags _ name;
+          ∙ create-directory-written v a.d p.0 g.least g.room _ _ a.given.time _ name t.first t.last _ _ t.bytes made a.given.kind a.given.user a.given.group a.given.permissions a.given.flags _ name;
     }

@@ -18,4 +18,4 @@ pub returns : goal.returns
 returns c =
     let p = c.requires in
     let grow = c.grow-first in
-    (grow.ensures.bytes, (grow.ensures.first, taken-last c.args.image.now p.0 _ p.1 p.2 _ grow.ensures.bytes _ grow.ensures.first _ c.nth-last.ensures))
+    record { bytes = grow.ensures.bytes; first = grow.ensures.first; last = taken-last c.args.image.now p.0 _ p.1 p.2 _ grow.ensures.bytes _ grow.ensures.first _ c.nth-last.ensures }

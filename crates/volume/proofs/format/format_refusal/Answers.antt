@@ -31,7 +31,7 @@ returns-then-name-ne128 c =
     let if1 = c.if-not-sized in
     let sized = c.sized in
     let a = c.args in
-    let t : sized.result ≡ true = not-false _ if1.false in
+    let t : sized.result ≡ true = not-false _ if1.false-raw in
     refused-label a.image.now a.d a.name.now (sym t ∙ sized.ensures) if2.false c.if-d-gt-MAX_DIRECTORY.false c.if-name-ne128.true
 
 pub root_block-root-requires : goal.root_block-root-requires
@@ -49,7 +49,7 @@ returns-then-n-root c =
     let if1 = c.if-not-sized in
     let sized = c.sized in
     let a = c.args in
-    let t : sized.result ≡ true = not-false _ if1.false in
+    let t : sized.result ≡ true = not-false _ if1.false-raw in
     refused-room a.image.now a.d a.name.now (sym t ∙ sized.ensures) if2.false if3.false if4.false (omega arith)
 
 pub returns : goal.returns
@@ -60,5 +60,5 @@ returns c =
     let if1 = c.if-not-sized in
     let sized = c.sized in
     let a = c.args in
-    let t : sized.result ≡ true = not-false _ if1.false in
+    let t : sized.result ≡ true = not-false _ if1.false-raw in
     not-refused a.image.now a.d a.name.now (sym t ∙ sized.ensures) if2.false if3.false if4.false (omega arith)

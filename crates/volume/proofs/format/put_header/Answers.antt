@@ -18,8 +18,8 @@ returns c =
     let a = c.args in
     let s = a.image.now in
     let h = length-header a.n a.used in
-    let e = lent-part s 0 512 0 (header_bytes a.n a.used) put-numbers.new.0 put-numbers.ensures (omega arith) (omega arith) in
+    let e = lent-part s 0 512 0 (header_bytes a.n a.used) put-numbers.new.block put-numbers.ensures (omega arith) (omega arith) in
     let l = ap length e ∙ length-splice s 0 (header_bytes a.n a.used) (omega arith) in
     let u : length (a.uuid ++ a.name.now) ≡ 144 = length-append a.uuid a.name.now ∙ omega arith in
-    lent-part _ 0 512 112 (a.uuid ++ a.name.now) put-labels.new.0 put-labels.ensures (omega arith) (omega arith)
+    lent-part _ 0 512 112 (a.uuid ++ a.name.now) put-labels.new.block put-labels.ensures (omega arith) (omega arith)
     ∙ ap (λ (x : List ℕ). splice x 112 (a.uuid ++ a.name.now)) e

@@ -10,4 +10,4 @@ returns c =
     let copy-part = c.copy_part in
     let a = c.args in
     let p = c.requires in
-    copy-part2.ensures ∙ rw copy-part.ensures (labels-written a.block.now a.t2 a.name.now (omega arith) p.1 p.0)
+    copy-part2.ensures ∙ rw copy-part.ensures (labels-written a.block.now a.uuid a.name.now (omega arith) p.1 p.0)

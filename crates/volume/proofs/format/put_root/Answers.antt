@@ -24,8 +24,8 @@ returns c =
     let last : ℕ = at + 512 * (a.d - 1) in
     let p : List ℕ = entry_bytes 1 0 0 0 a.root a.root a.d a.time 0 [] in
     let h = length-entry 1 0 0 0 a.root a.root a.d a.time 0 [] (omega arith) in
-    let e = lent-part s at (at + 512 - at) 0 p put-entry.new.0 put-entry.ensures (omega arith) (omega arith) ∙ ap (λ (x : ℕ). splice s x p) (add-zero at) in
+    let e = lent-part s at (at + 512 - at) 0 p put-entry.new.block put-entry.ensures (omega arith) (omega arith) ∙ ap (λ (x : ℕ). splice s x p) (add-zero at) in
     let l = ap length e ∙ length-splice s at p (omega arith) in
-    lent-part _ last (last + 512 - last) 384 (0xFF ∷ []) put-end.new.0 put-end.ensures (omega arith) (omega arith)
+    lent-part _ last (last + 512 - last) 384 (0xFF ∷ []) put-end.new.block put-end.ensures (omega arith) (omega arith)
     ∙ ap (λ (x : List ℕ). splice x (last + 384) (0xFF ∷ [])) e
     ∙ directory-written s a.root a.d a.time p'.1

@@ -11,8 +11,9 @@ use Rattle.volume.proofs.Walks.Grow.{MarkingFree, marking-free, free-marked, mar
 use Rattle.volume.proofs.marks.mark_free.Given as goal
 
 abbrev pub invariant-loop-left : goal.invariant-loop-left
-invariant-loop-left l = without (next l.image) (chain (next l.image) l.first l.k) in
-    MarkingFree l.v l.n (marked l.initial.marks (joined (λ x. x ∷ table_block_of x ∷ []) (take l.count (free_blocks l.v l.n)))) l.marks l.from l.left
+invariant-loop-left l =
+    let v = without (next l.image) (chain (next l.image) l.first l.k) in
+    MarkingFree v l.n (marked l.initial.marks (joined (λ x. x ∷ table_block_of x ∷ []) (take l.count (free_blocks v l.n)))) l.marks l.from l.left
 
 abbrev pub decreases-loop-left : goal.decreases-loop-left
 decreases-loop-left l = l.left

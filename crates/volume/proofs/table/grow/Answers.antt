@@ -4,7 +4,7 @@ use Rattle.volume.proofs.Walks.Grow.{grow-none, search-zero, search-all}
 use Rattle.volume.proofs.table.grow.Goals as goal
 
 pub returns-then-count-eq0 : goal.returns-then-count-eq0
-returns-then-count-eq0 c = grow-none _ _ _ _ _ c.if-count-eq0.true
+returns-then-count-eq0 c = let g = grow-none _ _ _ _ _ c.if-count-eq0.true in record { bytes = g.0; first = g.1 }
 
 pub take_notes-notes-requires : goal.take_notes-notes-requires
 take_notes-notes-requires c = c.requires.shape

@@ -19,16 +19,16 @@ pub overflow_mul-at : goal.overflow_mul-at
 overflow_mul-at c = let f = prepare-fill _ _ _ _ _ _ c.prepare_refusal-number.ensures c.if-number-ne0.false c.home_sectors-h.ensures in omega (arith, f.few)
 
 pub overflow_cast-k : goal.overflow_cast-k
-overflow_cast-k c = let f = prepare-fill _ _ _ _ _ _ c.prepare_refusal-number.ensures c.if-number-ne0.false c.home_sectors-h.ensures in omega (arith, f.few, c.fill_log-k.ensures.file.1)
+overflow_cast-k c = let f = prepare-fill _ _ _ _ _ _ c.prepare_refusal-number.ensures c.if-number-ne0.false c.home_sectors-h.ensures in omega (arith, f.few, c.fill_log-k.ensures.few)
 
 pub put32-requires : goal.put32-requires
 put32-requires c = omega (arith, prepare-room _ _ _ _ _ _ c.prepare_refusal-number.ensures c.if-number-ne0.false c.home_sectors-h.ensures)
 
 pub log_places-requires : goal.log_places-requires
-log_places-requires c = let f = prepare-fill _ _ _ _ _ _ c.prepare_refusal-number.ensures c.if-number-ne0.false c.home_sectors-h.ensures in (f.few, c.fill_log-k.ensures.file.1)
+log_places-requires c = let f = prepare-fill _ _ _ _ _ _ c.prepare_refusal-number.ensures c.if-number-ne0.false c.home_sectors-h.ensures in (f.few, c.fill_log-k.ensures.few)
 
 pub returns : goal.returns
 returns c = let e = c.prepare_refusal-number.ensures in
     let z = c.if-number-ne0.false in
     let h = c.home_sectors-h.ensures in
-    let k = c.fill_log-k.ensures in record { answer = prepare-answered _ _ _ _ _ _ e z h _ k.count _ c.log_places.ensures; file = prepare-done _ _ _ _ _ _ e z h _ k.count _ _ k.file.0 c.put32.ensures }
+    let k = c.fill_log-k.ensures in record { answer = prepare-answered _ _ _ _ _ _ e z h _ k.count _ c.log_places.ensures; file = prepare-done _ _ _ _ _ _ e z h _ k.count _ _ k.file c.put32.ensures }
