@@ -14,7 +14,7 @@ slice_bounds-out-end c =
       arith,
       listing-short (take read-full.result read-full.new.1.0),
       c.render-count.ensures.1,
-      c.render-count.auto.1.0,
+      c.render-count.auto.out,
       listing-buffer.ensures,
     )
 
@@ -24,4 +24,4 @@ slice_bounds-write_all-end c =
     let listing-buffer = c.listing_buffer-out in
     let read-full = c.read_full-got in
     sym (length-take-le render.result render.new.out
-    (omega (arith, listing-short (take read-full.result read-full.new.1.0), render.ensures.1, render.auto.1.0, listing-buffer.ensures)))
+    (omega (arith, listing-short (take read-full.result read-full.new.1.0), render.ensures.1, render.auto.out, listing-buffer.ensures)))

@@ -129,6 +129,7 @@ latest-is (r ∷ rs) last f =
     omega arith
 
 all-low : (rs : List Revision) (last : ℕ) → follow last rs ≡ true → (r : Revision) → In r rs → r.number ≤ last + length rs
+all-low [] last f r x'' = elim x'' [ ]
 all-low (q ∷ rs) last f r (inl e) = let n = eqb-true q.number (suc last) (and_split (eqb q.number (suc last)) _ f).0 in rw e (omega arith)
 all-low (q ∷ rs) last f r (inr i) =
     let a = and_split (eqb q.number (suc last)) _ f in

@@ -47,7 +47,7 @@ pub put_byte-requires : goal.put_byte-requires
 put_byte-requires c = (l₃ c).fits
 
 pub shape_of-out : goal.shape_of-out
-shape_of-out c = c.put_byte.auto.0 ∙ (l₃ c).size
+shape_of-out c = c.put_byte.auto.out ∙ (l₃ c).size
 
 pub returns : goal.returns
 returns c = last (l₃ c) c.put_byte.ensures refl

@@ -63,7 +63,7 @@ pub put_byte-requires : goal.put_byte-requires
 put_byte-requires c = (l₅ c).fits
 
 pub shape_of-out : goal.shape_of-out
-shape_of-out c = c.put_byte.auto.0 ∙ (l₅ c).size
+shape_of-out c = c.put_byte.auto.out ∙ (l₅ c).size
 
 pub returns : goal.returns
 returns c = last (l₅ c) c.put_byte.ensures refl

@@ -53,7 +53,7 @@ file_lines-requires c =
     (rw e (root-at s p.0 _ (rw e at number_at.ensures)), rw e (root-chain s p.0 _ (rw e at number_at.ensures)), (l₁ c).fits)
 
 pub shape_of-out : goal.shape_of-out
-shape_of-out c = c.file_lines.auto.1.1.1.1.0 ∙ (l₁ c).size
+shape_of-out c = c.file_lines.auto.out ∙ (l₁ c).size
 
 pub returns : goal.returns
 returns c = last (l₁ c) c.file_lines.ensures refl

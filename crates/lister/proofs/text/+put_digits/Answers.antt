@@ -33,7 +33,7 @@ pub put_byte-requires : goal.put_byte-requires
 put_byte-requires t c = (one c).ranges
 
 pub shape_of-out-then-x-lt10 : goal.shape_of-out-then-x-lt10
-shape_of-out-then-x-lt10 t c = c.put_byte.auto.0
+shape_of-out-then-x-lt10 t c = c.put_byte.auto.out
 
 pub returns-then-x-lt10 : goal.returns-then-x-lt10
 returns-then-x-lt10 t c = last (one c) c.put_byte.ensures refl
@@ -57,7 +57,7 @@ pub put_byte-requires-2 : goal.put_byte-requires-2
 put_byte-requires-2 t c = (more-than-one c).ranges
 
 pub shape_of-out : goal.shape_of-out
-shape_of-out t c = c.put_byte-2.auto.0 ∙ (more-than-one c).size
+shape_of-out t c = c.put_byte-2.auto.out ∙ (more-than-one c).size
 
 pub returns : goal.returns
 returns t c = last (more-than-one c) c.put_byte-2.ensures refl

@@ -12,7 +12,7 @@ returns-then-not-form c =
     let m = c.least-m in
     let F = file-front _ _ _ _ _ p.0 p.1 _ _ m.result (m.result - 0) m.ensures (omega arith) p.2 c.read_chain.ensures in
     let P = c.parse-form.ensures in
-    parsed-wrong _ _ _ _ _ _ _ c.not_of_form.ensures (load-wrong _ _ _ F _ _ _ _ _ P.form P.used (not-true _ c.if-not-form.true-raw))
+    parsed-wrong _ _ _ _ _ _ _ c.not_of_form.ensures (load-wrong _ _ _ F _ _ _ _ _ P.form P.used (not-true _ c.if-not-form.true))
 
 pub overflow_sub-size : goal.overflow_sub-size
 overflow_sub-size c =
@@ -20,7 +20,7 @@ overflow_sub-size c =
     let m = c.least-m in
     let F = file-front _ _ _ _ _ p.0 p.1 _ _ m.result (m.result - 0) m.ensures (omega arith) p.2 c.read_chain.ensures in
     let P = c.parse-form.ensures in
-    load_inside _ _ _ F _ _ _ _ _ P.form P.used (not-false _ c.if-not-form.false-raw)
+    load_inside _ _ _ F _ _ _ _ _ P.form P.used (not-false _ c.if-not-form.false)
 
 pub zero_along-requires : goal.zero_along-requires
 zero_along-requires c =
@@ -28,7 +28,7 @@ zero_along-requires c =
     let m = c.least-m in
     let F = file-front _ _ _ _ _ p.0 p.1 _ _ m.result (m.result - 0) m.ensures (omega arith) p.2 c.read_chain.ensures in
     let P = c.parse-form.ensures in
-    let i = load_inside _ _ _ F _ _ _ _ _ P.form P.used (not-false _ c.if-not-form.false-raw) in
+    let i = load_inside _ _ _ F _ _ _ _ _ P.form P.used (not-false _ c.if-not-form.false) in
     (p.0, omega (arith, i, p.1))
 
 pub returns-then-not-zero_along : goal.returns-then-not-zero_along
@@ -37,7 +37,7 @@ returns-then-not-zero_along c =
     let m = c.least-m in
     let F = file-front _ _ _ _ _ p.0 p.1 _ _ m.result (m.result - 0) m.ensures (omega arith) p.2 c.read_chain.ensures in
     let P = c.parse-form.ensures in
-    let t = not-false _ c.if-not-form.false-raw in
+    let t = not-false _ c.if-not-form.false in
     let i = load_inside _ _ _ F _ _ _ _ _ P.form P.used t in
     let z = sym (zeros-behind _ _ _ _ _ p.0 p.1 _ i) ∙ sym c.zero_along.ensures ∙ not-true _ c.if-not-zero_along.true-raw in
     parsed-wrong _ _ _ _ _ _ _ c.not_of_form-then-not-zero_along.ensures (load_cut _ _ _ F _ _ _ _ _ P.form P.used t z)
@@ -48,7 +48,7 @@ returns c =
     let m = c.least-m in
     let F = file-front _ _ _ _ _ p.0 p.1 _ _ m.result (m.result - 0) m.ensures (omega arith) p.2 c.read_chain.ensures in
     let P = c.parse-form.ensures in
-    let t = not-false _ c.if-not-form.false-raw in
+    let t = not-false _ c.if-not-form.false in
     let i = load_inside _ _ _ F _ _ _ _ _ P.form P.used t in
     let z = sym (zeros-behind _ _ _ _ _ p.0 p.1 _ i) ∙ sym c.zero_along.ensures ∙ not-false _ c.if-not-zero_along.false-raw in
     load-right _ _ _ F _ _ _ _ _ P.form P.used t z

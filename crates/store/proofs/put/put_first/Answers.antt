@@ -23,7 +23,7 @@ slice_bounds-write_at-end c =
     let r = c.rewrite-used in
     let u = first-used c.empty_room-old.result c.args.bytes.now _ _ r.result c.no_records.ensures.1 r.ensures.bytes r.ensures.size in
     let s = c.requires.2 in
-    let k = r.auto.1.1.1.0 in
+    let k = r.auto.new in
     let l : length c.empty_room-new.result ≡ max_form = ap length c.empty_room-new.ensures ∙ length-zeros max_form in
     omega arith
 

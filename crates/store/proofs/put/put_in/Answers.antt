@@ -12,7 +12,7 @@ pub rewrite-used-requires : goal.rewrite-used-requires
 rewrite-used-requires c =
     let p = c.requires in
     let P = c.load-form.ensures in
-    (more-summary p.1 p.0 _ _ _ _ _ _ P _ p.3, more-low p.1 p.0 _ _ _ _ _ _ P _ p.3, p.2, c.load-form.auto.1.1.0 ∙ p.4, p.5)
+    (more-summary p.1 p.0 _ _ _ _ _ _ P _ p.3, more-low p.1 p.0 _ _ _ _ _ _ P _ p.3, p.2, c.load-form.auto.room ∙ p.4, p.5)
 
 pub slice_bounds-write_at-end : goal.slice_bounds-write_at-end
 slice_bounds-write_at-end c =
@@ -21,7 +21,7 @@ slice_bounds-write_at-end c =
     let w = c.rewrite-used.ensures in
     let k : c.larger-k.result - 0 ≡ max c.load-form.result.used c.rewrite-used.result = (let l = c.larger-k.ensures in omega arith) in
     let q = more-right p.1 p.0 _ _ _ _ _ _ P _ p.3 in
-    let f = more-fits p.1 p.0 _ _ _ _ _ _ P q _ p.2 (λ i. omega (arith, c.slice_known-4-1.given i)) (c.load-form.auto.1.1.0 ∙ p.4) (λ i. omega (arith, c.slice_known-1.given i)) _ _ _ w.bytes w.size k in
+    let f = more-fits p.1 p.0 _ _ _ _ _ _ P q _ p.2 (λ i. omega (arith, c.slice_known-4-1.given i)) (c.load-form.auto.room ∙ p.4) (λ i. omega (arith, c.slice_known-1.given i)) _ _ _ w.bytes w.size k in
     omega (arith, f, c.larger-k.ensures)
 
 pub write_at-requires : goal.write_at-requires
@@ -31,7 +31,7 @@ write_at-requires c =
     let w = c.rewrite-used.ensures in
     let k : c.larger-k.result - 0 ≡ max c.load-form.result.used c.rewrite-used.result = (let l = c.larger-k.ensures in omega arith) in
     let q = more-right p.1 p.0 _ _ _ _ _ _ P _ p.3 in
-    (p.0, p.1, more-accepted p.1 p.0 _ _ _ _ _ _ P q _ p.2 (λ i. omega (arith, c.slice_known-4-1.given i)) (c.load-form.auto.1.1.0 ∙ p.4) (λ i. omega (arith, c.slice_known-1.given i)) _ _ _ w.bytes w.size k p.3)
+    (p.0, p.1, more-accepted p.1 p.0 _ _ _ _ _ _ P q _ p.2 (λ i. omega (arith, c.slice_known-4-1.given i)) (c.load-form.auto.room ∙ p.4) (λ i. omega (arith, c.slice_known-1.given i)) _ _ _ w.bytes w.size k p.3)
 
 pub overflow_add-result : goal.overflow_add-result
 overflow_add-result c =
@@ -43,4 +43,4 @@ returns c = let p = c.requires in
     let P = c.load-form.ensures in
     let w = c.rewrite-used.ensures in
     let k : c.larger-k.result - 0 ≡ max c.load-form.result.used c.rewrite-used.result = (let l = c.larger-k.ensures in omega arith) in
-    let q = more-right p.1 p.0 _ _ _ _ _ _ P _ p.3 in record { revision = more-number p.1 p.0 _ _ _ _ _ _ P q; bytes = c.write_at.ensures ∙ more-image p.1 p.0 _ _ _ _ _ _ P q _ p.2 (λ i. omega (arith, c.slice_known-4-1.given i)) (c.load-form.auto.1.1.0 ∙ p.4) (λ i. omega (arith, c.slice_known-1.given i)) _ _ _ w.bytes w.size k _ }
+    let q = more-right p.1 p.0 _ _ _ _ _ _ P _ p.3 in record { revision = more-number p.1 p.0 _ _ _ _ _ _ P q; bytes = c.write_at.ensures ∙ more-image p.1 p.0 _ _ _ _ _ _ P q _ p.2 (λ i. omega (arith, c.slice_known-4-1.given i)) (c.load-form.auto.room ∙ p.4) (λ i. omega (arith, c.slice_known-1.given i)) _ _ _ w.bytes w.size k _ }

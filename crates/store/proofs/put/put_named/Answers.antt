@@ -24,7 +24,7 @@ pub mark_grown-requires : goal.mark_grown-requires
 mark_grown-requires c =
     let p = c.requires in
     let h = sound-shape _ p.0 in
-    (h, omega (arith, h.low), first-room _ _ _ _ _ p.0 p.1 (target-absent p.2 c.if-found-eq0.true), omega (arith, p.3, c.mark.auto.0))
+    (h, omega (arith, h.low), first-room _ _ _ _ _ p.0 p.1 (target-absent p.2 c.if-found-eq0.true), omega (arith, p.3, c.mark.auto.marks))
 
 pub returns-then-found-eq0 : goal.returns-then-found-eq0
 returns-then-found-eq0 c =
