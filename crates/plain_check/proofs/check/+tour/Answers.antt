@@ -18,16 +18,6 @@ use Rattle.plain_check.proofs.Walks.Tours.{stands-first, end-slot, slot-inside, 
 use Prim.Native.Nat.{ℕ, ◌<◌}
 use Rattle.plain_check.proofs.check.+tour.Goals as goal
 
-record Inv (s : List ℕ) (n levels d before end met e k : ℕ) : Type 0 where
-  low : 2 ≤ k
-  few : end ≤ 4 * word
-  whole : end ≡ 4 * blocks_of s (512 * d)
-  some : 1 ≤ met
-  most : met ≤ n
-  place : Place s d e (k - 2)
-  right : (j : ℕ) → 1 ≤ j → j < k - 1 → slot_ok s (slot_at (directory s d) j) ≡ true
-  equal : tour_entries (tour_child levels s n d) s (directory s d) before ≡ tour_slots (tour_child levels s n d) s (directory s d) (interval (k - 1) (end - k)) met
-
 pub overflow_mul-d : goal.overflow_mul-d
 overflow_mul-d t c = omega (arith, stands-first _ _ _ c.requires.1, c.requires.0)
 
