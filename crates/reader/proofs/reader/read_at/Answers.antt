@@ -8,12 +8,12 @@ use Rattle.reader.proofs.reader.read_at.Goals as goal
 pub overflow_add-result : goal.overflow_add-result
 overflow_add-result c =
     let a = c.args in
-    let e = ap (λ (x : ReadAnswer). x.count) (read-case _ _ c.in-Bytes.is c.read.ensures.answer) in
+    let e = ap (λ (x : ReadAnswer). x.count) c.in-Bytes.ensures.answer in
     let h = place-fits a.image.now a.path.now a.position a.buffer.now (λ i. omega (arith, c.shared_slice_known-1.given i)) (omega arith) in
     omega (arith, e, h)
 
 pub returns-in-Bytes : goal.returns-in-Bytes
-returns-in-Bytes c = record { answer = read-case _ _ c.in-Bytes.is c.read.ensures.answer; next = refl }
+returns-in-Bytes c = record { answer = c.in-Bytes.ensures.answer; next = refl }
 
 pub returns-in-Refused : goal.returns-in-Refused
-returns-in-Refused c = record { answer = read-case _ _ c.in-Refused.is c.read.ensures.answer; next = omega arith }
+returns-in-Refused c = record { answer = c.in-Refused.ensures.answer; next = omega arith }
