@@ -22,7 +22,7 @@ put_byte-requires c =
     (more (begin a.out.now 0 (refused_line a.number) _ (omega (arith, p)) (refused-pieces a.number)) put-labelled.ensures _ refl).fits
 
 pub shape_of-out : goal.shape_of-out
-shape_of-out c = c.put_byte.auto.0 ∙ c.put_labelled-p.auto.0
+shape_of-out c = c.put_byte.auto.out ∙ c.put_labelled-p.auto.out
 
 pub returns : goal.returns
 returns c =
