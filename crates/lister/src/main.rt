@@ -2,7 +2,11 @@
 #![tactic(auto)]
 
 ghost use Rattle.std.specs.Prelude.{◌≡◌, length};
+ghost use Rattle.std.specs.Counts.{IsPrefixLen};
 ghost use Rattle.lister.specs.Text.{max_listing};
+
+use std::io;
+use std::io::Read;
 
 mod listing;
 mod text;
@@ -22,10 +26,25 @@ fn listing_buffer() -> [u8; listing::MAX_LISTING]
     [0; listing::MAX_LISTING]
 }
 
-fn main() {
+// Reads until the buffer is full, the input ends or a read fails, and gives how many bytes it put at the start of the buffer.
+fn read_full<R: Read>(input: &mut R, buf: &mut [u8]) -> usize
+    ensures { IsPrefixLen result buf.new }
+{
+    let mut done = 0;
+    while done < buf.len() {
+        match input.read(&mut buf[done..]) {
+            Ok(0) => break,
+            Ok(n) => done += n,
+            Err(_) => break,
+        }
+    }
+    done
+}
+
+fn main(rt: HostRuntime) -> io::Result<()> {
     let mut image = input_buffer();
-    let got = io::read_full(libc::STDIN_FILENO, &mut image);
+    let got = read_full(&mut rt.reader(), &mut image);
     let mut out = listing_buffer();
     let count = listing::render(&image[..got], &mut out);
-    io::write_all(libc::STDOUT_FILENO, &out[..count]);
+    rt.write_all(&out[..count])
 }

@@ -2,6 +2,11 @@
 // byte that says whether the script was run, then image, journal and answers. For tests: everything that it shows is made by `script::runner::run`.
 #![tactic(auto)]
 
+ghost use Rattle.std.specs.Counts.{IsPrefixLen};
+
+use std::io;
+use std::io::Read;
+
 const INPUT: usize = 65536;
 
 const IMAGE: usize = 8192;
@@ -35,9 +40,24 @@ fn status_of(ran: script::runner::Ran) -> u8 {
     }
 }
 
-fn main() {
+// Reads until the buffer is full, the input ends or a read fails, and gives how many bytes it put at the start of the buffer.
+fn read_full<R: Read>(input: &mut R, buf: &mut [u8]) -> usize
+    ensures { IsPrefixLen result buf.new }
+{
+    let mut done = 0;
+    while done < buf.len() {
+        match input.read(&mut buf[done..]) {
+            Ok(0) => break,
+            Ok(n) => done += n,
+            Err(_) => break,
+        }
+    }
+    done
+}
+
+fn main(rt: HostRuntime) -> io::Result<()> {
     let mut script = input_buffer();
-    let got = io::read_full(libc::STDIN_FILENO, &mut script);
+    let got = read_full(&mut rt.reader(), &mut script);
     let mut image = image_buffer();
     let mut journal = journal_buffer();
     let mut answers = answers_buffer();
@@ -47,8 +67,8 @@ fn main() {
     journal::start::start(&mut journal);
     let ran = script::runner::run(&script[..got], &mut image, &mut journal, &mut answers);
     let status = [status_of(ran)];
-    io::write_all(libc::STDOUT_FILENO, &status);
-    io::write_all(libc::STDOUT_FILENO, &image);
-    io::write_all(libc::STDOUT_FILENO, &journal);
-    io::write_all(libc::STDOUT_FILENO, &answers);
+    rt.write_all(&status)?;
+    rt.write_all(&image)?;
+    rt.write_all(&journal)?;
+    rt.write_all(&answers)
 }

@@ -8,20 +8,15 @@ use Rattle.lister.proofs.main.Goals as goal
 
 pub slice_bounds-out-end : goal.slice_bounds-out-end
 slice_bounds-out-end c =
-    let listing-buffer = c.listing_buffer-out in
-    let read-full = c.read_full-got in
     omega (
       arith,
-      listing-short (take read-full.result read-full.new.1.0),
+      listing-short (take c.read_full-got.result c.read_full-got.new.buf),
       c.render-count.ensures.1,
       c.render-count.auto.out,
-      listing-buffer.ensures,
+      c.listing_buffer-out.ensures,
     )
 
 pub slice_bounds-write_all-end : goal.slice_bounds-write_all-end
 slice_bounds-write_all-end c =
-    let render = c.render-count in
-    let listing-buffer = c.listing_buffer-out in
-    let read-full = c.read_full-got in
-    sym (length-take-le render.result render.new.out
-    (omega (arith, listing-short (take read-full.result read-full.new.1.0), render.ensures.1, render.auto.out, listing-buffer.ensures)))
+    sym (length-take-le c.render-count.result c.render-count.new.out
+    (omega (arith, listing-short (take c.read_full-got.result c.read_full-got.new.buf), c.render-count.ensures.1, c.render-count.auto.out, c.listing_buffer-out.ensures)))

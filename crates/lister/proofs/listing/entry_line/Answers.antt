@@ -1,69 +1,67 @@
 -- The steps l₀ to l₅ say what is left of the line after each piece.
-use mathlib.Core.Path.{refl, ◌∙◌}
+use mathlib.Core.Path.{◌≡◌, refl, ◌∙◌}
 use mathlib.Core.List.{List, [], ◌∷◌, ◌++◌}
-use Prim.Native.Nat.{ℕ}
+use Prim.Native.Nat.{ℕ, ◌+◌, ◌≤◌}
+use lib.ListN.{length}
+use Rattle.layout.specs.Bytes.{be32, part}
+use Rattle.lister.specs.Text.{TextPut}
 use Rattle.layout.specs.Directory.{unpadded}
+use Rattle.layout.specs.Walks.Slots.{entry_at}
 use Rattle.layout.specs.Listing.{entry_line, decimal, printed}
 use Rattle.lister.proofs.Pieces.{Pending, begin, room, more, last}
 use Rattle.lister.proofs.Lines.{after_slot, after_size, entry-pieces}
 use borrow.Author.Rules.{rules}
-use Rattle.layout.specs.Walks.Slots.{entry_at}
 use Rattle.lister.proofs.listing.entry_line.Goals as goal
 
-abbrev start : tie.After-field-at → tie.Start
-start c = c.before.before.before.before.before
+module _ (s : List ℕ) (e k : ℕ) {o : List ℕ} {at size blocks : ℕ} {field : List ℕ} (h : at + length (entry_line s e k) ≤ length o)
+    (es : size ≡ be32 s (e + 8)) (eb : blocks ≡ be32 s (e + 12)) (ef : field ≡ part s (e + 48) 80) where
+  l₀ : Pending o at (entry_line s e k) o at (decimal k ++ after_slot size blocks (unpadded field))
+  l₀ = begin o at _ _ h (entry-pieces s e k size blocks field es eb ef)
 
-abbrev name : tie.After-field-at → List ℕ
-name c = unpadded c.field_at.result.now
+  module _ {o₁ : List ℕ} {p₁ : ℕ} (w₁ : TextPut o at (decimal k) o₁ p₁) where
+    l₁ : Pending o at (entry_line s e k) o₁ p₁ (after_slot size blocks (unpadded field))
+    l₁ = more l₀ w₁ _ refl
 
-abbrev Rest : tie.After-field-at → List ℕ → ℕ → List ℕ → Type 0
-Rest c out p rest = let a = (start c).args in Pending a.out.now a.at (entry_line a.image.now (entry_at a.b a.k) a.k) out p rest
+    module _ {o₂ : List ℕ} {p₂ : ℕ} (w₂ : TextPut o₁ p₁ ((32 ∷ []) ++ decimal size) o₂ p₂) where
+      l₂ : Pending o at (entry_line s e k) o₂ p₂ (after_size blocks (unpadded field))
+      l₂ = more l₁ w₂ _ refl
 
-l₀ : (c : tie.After-field-at) → Rest c (start c).args.out.now (start c).args.at (decimal (start c).args.k ++ after_slot c.before.before.number_at.result c.before.number-at2.result (name c))
-l₀ c =
-    let a = (start c).args in
-    begin a.out.now _ _ _ (start c).requires.1
-    (entry-pieces a.image.now (entry_at a.b a.k) a.k _ _ _ c.before.before.number_at.ensures c.before.number-at2.ensures c.field_at.ensures)
+      module _ {o₃ : List ℕ} {p₃ : ℕ} (w₃ : TextPut o₂ p₂ ((32 ∷ []) ++ decimal blocks) o₃ p₃) where
+        l₃ : Pending o at (entry_line s e k) o₃ p₃ ((32 ∷ []) ++ (printed (unpadded field) ++ (10 ∷ [])))
+        l₃ = more l₂ w₃ _ refl
 
-l₁ : (c : tie.After-put-decimal) → let d = c.before.before in Rest d c.put-decimal.new.0 c.put-decimal.result (after_slot d.before.before.number_at.result d.before.number-at2.result (name d))
-l₁ c = more (l₀ c.before.before) c.put-decimal.ensures _ refl
+        module _ {o₄ : List ℕ} {p₄ : ℕ} (w₄ : TextPut o₃ p₃ (32 ∷ []) o₄ p₄) where
+          l₄ : Pending o at (entry_line s e k) o₄ p₄ (printed (unpadded field) ++ (10 ∷ []))
+          l₄ = more l₃ w₄ _ refl
 
-l₂ : (c : tie.After-put-labelled) → let d = c.before.before.before.before.before.before.before in Rest d c.put-labelled.new.0 c.put-labelled.result (after_size d.before.number-at2.result (name d))
-l₂ c = more (l₁ c.before.before.before.before.before) c.put-labelled.ensures _ refl
-
-l₃ : (c : tie.After-put-labelled2) → let d = c.before.before.before.before.before.before.before.before.before.before.before.before in Rest d c.put-labelled2.new.0 c.put-labelled2.result ((32 ∷ []) ++ (printed (name d) ++ (10 ∷ [])))
-l₃ c = more (l₂ c.before.before.before.before.before) c.put-labelled2.ensures _ refl
-
-l₄ : (c : tie.After-put-byte) → let d = c.before.before.before.before.before.before.before.before.before.before.before.before.before.before.before.before in Rest d c.put_byte.new.out c.put_byte.result (printed (name d) ++ (10 ∷ []))
-l₄ c = more (l₃ c.before.before.before.before) c.put_byte.ensures _ refl
-
-l₅ : (c : tie.After-put-name) → let d = c.before.before.before.before.before.before.before.before.before.before.before.before.before.before.before.before.before.before.before.before in Rest d c.put-name.new.0 c.put-name.result (10 ∷ [])
-l₅ c = more (l₄ c.before.before.before.before) c.put-name.ensures _ refl
+          module _ {o₅ : List ℕ} {p₅ : ℕ} (w₅ : TextPut o₄ p₄ (printed (unpadded field)) o₅ p₅) where
+            l₅ : Pending o at (entry_line s e k) o₅ p₅ (10 ∷ [])
+            l₅ = more l₄ w₅ _ refl
 
 pub put_decimal-p-requires : goal.put_decimal-p-requires
-put_decimal-p-requires c = room (l₀ c) (decimal c.args.k) _ refl
+put_decimal-p-requires c = room (l₀ c.args.image.now (entry_at c.args.b c.args.k) c.args.k c.requires.1 c.number_at-size.ensures c.number_at-blocks.ensures c.field_at-name.ensures) (decimal c.args.k) _ refl
 
 pub put_labelled-q-requires : goal.put_labelled-q-requires
 put_labelled-q-requires c =
     let number_at = c.number_at-size in
-    room (l₁ c) ((32 ∷ []) ++ decimal number_at.result) _ refl
+    room (l₁ c.args.image.now (entry_at c.args.b c.args.k) c.args.k c.requires.1 c.number_at-size.ensures c.number_at-blocks.ensures c.field_at-name.ensures c.put_decimal-p.ensures) ((32 ∷ []) ++ decimal number_at.result) _ refl
 
 pub put_labelled-r-requires : goal.put_labelled-r-requires
 put_labelled-r-requires c =
     let number-at2 = c.number_at-blocks in
-    room (l₂ c) ((32 ∷ []) ++ decimal number-at2.result) _ refl
+    room (l₂ c.args.image.now (entry_at c.args.b c.args.k) c.args.k c.requires.1 c.number_at-size.ensures c.number_at-blocks.ensures c.field_at-name.ensures c.put_decimal-p.ensures c.put_labelled-q.ensures) ((32 ∷ []) ++ decimal number-at2.result) _ refl
 
 pub put_byte-s-requires : goal.put_byte-s-requires
-put_byte-s-requires c = room (l₃ c) (32 ∷ []) _ refl
+put_byte-s-requires c = room (l₃ c.args.image.now (entry_at c.args.b c.args.k) c.args.k c.requires.1 c.number_at-size.ensures c.number_at-blocks.ensures c.field_at-name.ensures c.put_decimal-p.ensures c.put_labelled-q.ensures c.put_labelled-r.ensures) (32 ∷ []) _ refl
 
 pub put_name-t-requires : goal.put_name-t-requires
-put_name-t-requires c = room (l₄ c) (printed (name c)) _ refl
+put_name-t-requires c = room (l₄ c.args.image.now (entry_at c.args.b c.args.k) c.args.k c.requires.1 c.number_at-size.ensures c.number_at-blocks.ensures c.field_at-name.ensures c.put_decimal-p.ensures c.put_labelled-q.ensures c.put_labelled-r.ensures c.put_byte-s.ensures) (printed (unpadded c.field_at-name.result.now)) _ refl
 
 pub put_byte-requires : goal.put_byte-requires
-put_byte-requires c = (l₅ c).fits
+put_byte-requires c = (l₅ c.args.image.now (entry_at c.args.b c.args.k) c.args.k c.requires.1 c.number_at-size.ensures c.number_at-blocks.ensures c.field_at-name.ensures c.put_decimal-p.ensures c.put_labelled-q.ensures c.put_labelled-r.ensures c.put_byte-s.ensures c.put_name-t.ensures).fits
 
 pub shape_of-out : goal.shape_of-out
-shape_of-out c = c.put_byte.auto.out ∙ (l₅ c).size
+shape_of-out c = c.put_byte.auto.out ∙ (l₅ c.args.image.now (entry_at c.args.b c.args.k) c.args.k c.requires.1 c.number_at-size.ensures c.number_at-blocks.ensures c.field_at-name.ensures c.put_decimal-p.ensures c.put_labelled-q.ensures c.put_labelled-r.ensures c.put_byte-s.ensures c.put_name-t.ensures).size
 
 pub returns : goal.returns
-returns c = last (l₅ c) c.put_byte.ensures refl
+returns c = last (l₅ c.args.image.now (entry_at c.args.b c.args.k) c.args.k c.requires.1 c.number_at-size.ensures c.number_at-blocks.ensures c.field_at-name.ensures c.put_decimal-p.ensures c.put_labelled-q.ensures c.put_labelled-r.ensures c.put_byte-s.ensures c.put_name-t.ensures) c.put_byte.ensures refl

@@ -1,6 +1,5 @@
 use mathlib.Core.Path.{◌≡◌, refl, sym, ◌∙◌}
 use mathlib.Core.Bool.{true, false}
-use borrow.Author.Tests.{not-true, not-false}
 use Rattle.lister.proofs.Pieces.{begin, last, finish}
 use Rattle.lister.proofs.Lines.{slot-none, slot-file}
 use borrow.Author.Rules.{rules}
@@ -12,7 +11,7 @@ returns-then-not-is_file c =
     let type_at = c.type_at in
     let a = c.args in
     let p = c.requires in
-    let t : c.is_file.result ≡ false = not-true _ c.if-not-is_file.true-raw in
+    let t : c.is_file.result ≡ false = c.if-not-is_file.true in
     finish (begin a.out.now _ _ _ p.1 refl)
     (slot-none a.image.now (entry_at a.b a.k) a.k _ type_at.ensures (sym t ∙ c.is_file.ensures))
 
@@ -22,7 +21,7 @@ entry_line-requires c =
     let type_at = c.type_at in
     let a = c.args in
     let p = c.requires in
-    let t : is-file.result ≡ true = not-false _ c.if-not-is_file.false-raw in
+    let t : is-file.result ≡ true = c.if-not-is_file.false in
     (p.0, (begin a.out.now _ _ _ p.1 (slot-file a.image.now (entry_at a.b a.k) a.k _ type_at.ensures (sym t ∙ is-file.ensures))).fits)
 
 pub returns : goal.returns
@@ -33,6 +32,6 @@ returns c =
     let type_at = c.type_at in
     let a = c.args in
     let p = c.requires in
-    let t : is-file.result ≡ true = not-false _ if1.false-raw in
+    let t : is-file.result ≡ true = if1.false in
     last (begin a.out.now _ _ _ p.1 (slot-file a.image.now (entry_at a.b a.k) a.k _ type_at.ensures (sym t ∙ is-file.ensures)))
     entry-line.ensures refl
