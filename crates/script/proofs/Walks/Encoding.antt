@@ -107,13 +107,13 @@ shown-encoded s bytes start h k =
 -- number and count of a read do not depend on the buffer
 module _ (f : Filled) (b : List ℕ) where
   pub number-alone : (read_answer f []).number ≡ (read_answer f b).number
-  number-alone = elim f [ Bytes count ↦ refl | Refused number ↦ refl ]
+  number-alone = elim f as (λ k. (read_answer k []).number ≡ (read_answer k b).number) [ Bytes count ↦ refl | Refused number ↦ refl ]
 
   pub count-alone : (read_answer f []).count ≡ (read_answer f b).count
-  count-alone = elim f [ Bytes count ↦ refl | Refused number ↦ refl ]
+  count-alone = elim f as (λ k. (read_answer k []).count ≡ (read_answer k b).count) [ Bytes count ↦ refl | Refused number ↦ refl ]
 
   pub buffer-alone : (read_answer f b).buffer ≡ b
-  buffer-alone = elim f [ Bytes count ↦ refl | Refused number ↦ refl ]
+  buffer-alone = elim f as (λ k. (read_answer k b).buffer ≡ b) [ Bytes count ↦ refl | Refused number ↦ refl ]
 
 -- what read_into left in the part, and the numbers before it
 pub read-answered : (s b : List ℕ) (a : ReadAnswer) (f : Filled) → read_answer f b ≡ a → length s ≡ 16 + length a.buffer
