@@ -82,6 +82,7 @@ module _ (v : ℕ → ℕ) (b : ℕ) where
 
   tally-some : (cs : List Pair) → In b (owned v cs) → 1 ≤ tally v b cs
   unfolding owned
+  tally-some [] i = elim i [ ]
   tally-some (c ∷ cs) i =
       ⊎_elim
       (λ j. let z : one (has eqb b (blocks_on v c)) ≡ 1 = ap one (in-has-eqb b (blocks_on v c) j) in omega (arith, tally-more c cs))

@@ -47,6 +47,7 @@ right-more s n l b left p r ok new =
     }
   where
     last : (d : Dir) → In d ((b, left) ∷ []) → (q : ℕ) × (directory_ok s n d.0 q ≡ true)
+    last d (inr x') = elim x' [ ]
     last d (inl e) = (p, subst (λ (x : Dir). directory_ok s n x.0 p ≡ true) (sym e) ok)
 
 -- the directories met are at most n: each has a block of its own

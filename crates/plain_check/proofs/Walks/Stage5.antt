@@ -100,7 +100,9 @@ module _ (s ds : List ℕ) (e k j : ℕ) where
     other-clash t = rw (slots_next j k l h, ← at, ← ex, ← ey, ← ef, t)
 
     pub other-next : ((not (eqb x 0) && not (eqb y 0)) && f) ≡ false → others ≡ every (λ j. not (clash s e (slot_at ds j))) (interval (j + 1 - 1) (k - (j + 1)))
-    other-next t = rw (slots_next j k l h, ← at, ← ex, ← ey, ← ef, t)
+    other-next t =
+        let none : clash s e (slot_at ds (j - 1)) ≡ false = rw (← at, ← ex, ← ey, ← ef, t) in
+        rw (slots_next j k l h) (ap (λ (u : Bool). not u && every (λ j. not (clash s e (slot_at ds j))) (interval (j + 1 - 1) (k - (j + 1)))) none)
 
 pub other-start : (s ds : List ℕ) (e k : ℕ) → new_field s ds e (k - 1) ≡ every (λ j. not (clash s e (slot_at ds j))) (interval (2 - 1) (k - 2))
 unfolding new_field

@@ -7,7 +7,7 @@ use Rattle.append.proofs.call.append.Goals as goal
 pub returns-then-unready-ne0 : goal.returns-then-unready-ne0
 returns-then-unready-ne0 c =
     let d = append-unready _ _ _ _ _ _ c.ready_refusal-unready.ensures c.if-unready-ne0.true in
-    (d.0, (d.1, c.if-unready-ne0.true))
+    record { answer = d.0; state = d.1; numbered = c.if-unready-ne0.true }
 
 pub file_end-end-requires : goal.file_end-end-requires
 file_end-end-requires c =
@@ -24,7 +24,7 @@ returns-then-piece-eq0 c =
     let w = ready _ _ (sym c.ready_refusal-unready.ensures ∙ c.if-unready-ne0.false) in
     let n = c.append_nothing.ensures in
     let d = append-empty _ _ _ _ w _ c.if-piece-eq0.true _ c.file_end-end.ensures n.answer in
-    (d.0, (d.1, n.numbered))
+    record { answer = d.0; state = d.1; numbered = n.numbered }
 
 pub change_ready-requires : goal.change_ready-requires
 change_ready-requires c =
@@ -35,4 +35,4 @@ pub returns : goal.returns
 returns c =
     let n = c.change_ready.ensures in
     let d = append-some _ _ _ _ _ c.if-piece-eq0.false _ c.file_end-end.ensures n.answer n.state in
-    (d.0, (d.1, n.numbered))
+    record { answer = d.0; state = d.1; numbered = n.numbered }

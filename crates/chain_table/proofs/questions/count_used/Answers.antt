@@ -8,6 +8,7 @@ use Rattle.layout.proofs.Walks.Chains.{count_used-end, count_used-free, count_us
 use Rattle.chain_table.specs.Numbers.{value_in}
 use Rattle.chain_table.proofs.Laws.Turns.{count-occupied}
 use Rattle.chain_table.proofs.questions.count_used.Goals as goal
+use Rattle.chain_table.proofs.questions.count_used.Goals.{then-numbers-b-ne0, else-numbers-b-ne0}
 
 pub loop-left-init : goal.loop-left-init
 loop-left-init c = (omega arith, omega arith, omega arith)
@@ -34,12 +35,14 @@ pub loop-left-preserved : goal.loop-left-preserved
 loop-left-preserved c =
     let l = c.loop-left in
     let r = c.args.numbers.now in
-    ⊎_elim
-    (λ w. let e = count_used-used (value_in r) l.b l.left (omega arith) w.0.taken in
-    (omega arith, omega arith, omega (arith, e, l.invariant.2)))
-    (λ w. let e = count_used-free (value_in r) l.b l.left (omega arith) w.0.left in
-    (omega arith, omega arith, omega (arith, e, l.invariant.2)))
-    c.if-numbers-b-ne0.branch
+    elim c.if-numbers-b-ne0.branch [
+      | then-numbers-b-ne0 w ↦
+          let e = count_used-used (value_in r) l.b l.left (omega arith) w.if-numbers-b-ne0.true in
+          (omega arith, omega arith, omega (arith, e, l.invariant.2))
+      | else-numbers-b-ne0 w ↦
+          let e = count_used-free (value_in r) l.b l.left (omega arith) w.if-numbers-b-ne0.false in
+          (omega arith, omega arith, omega (arith, e, l.invariant.2))
+    ]
 
 pub returns : goal.returns
 returns c =

@@ -6,7 +6,7 @@ use Rattle.journal.proofs.calls.change_in.Goals as goal
 pub returns-then-unready-ne0 : goal.returns-then-unready-ne0
 returns-then-unready-ne0 c =
     let d = change-unready _ _ _ _ c.ready_refusal-unready.ensures c.if-unready-ne0.true in
-    (d.0, (d.1, c.if-unready-ne0.true))
+    record { answer = d.0; state = d.1; numbered = c.if-unready-ne0.true }
 
 pub change_ready_in-requires : goal.change_ready_in-requires
 change_ready_in-requires c =

@@ -12,7 +12,7 @@ pub returns-then-refusal-ne0 : goal.returns-then-refusal-ne0
 returns-then-refusal-ne0 c =
     let p = c.requires in
     let d = change-refused _ _ _ p _ c.refusal-found.ensures.number_is c.if-refusal-ne0.true in
-    (d.0, (d.1, c.if-refusal-ne0.true))
+    record { answer = d.0; state = d.1; numbered = c.if-refusal-ne0.true }
 
 pub record_change-size-requires : goal.record_change-size-requires
 record_change-size-requires c =
@@ -25,7 +25,7 @@ returns-then-size-eq0 c =
     let refusal = c.refusal-found in
     let p = c.requires in
     let d = change-full _ _ _ p (sym refusal.ensures.number_is ∙ c.if-refusal-ne0.false) _ _ record-change.ensures c.if-size-eq0.true in
-    (d.0, (d.1, λ e. omega arith))
+    record { answer = d.0; state = d.1; numbered = λ e. omega arith }
 
 pub make-slot-requires : goal.make-slot-requires
 make-slot-requires c =
@@ -39,4 +39,4 @@ returns c =
     let refusal = c.refusal-found in
     let p = c.requires in
     let d = change-done _ _ _ p (sym refusal.ensures.number_is ∙ c.if-refusal-ne0.false) _ _ record-change.ensures c.if-size-eq0.false _ make.ensures.slot _ make.ensures.bytes in
-    (d.0, (d.1, tt))
+    record { answer = d.0; state = d.1; numbered = tt }

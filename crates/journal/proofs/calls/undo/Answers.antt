@@ -9,14 +9,14 @@ use Rattle.journal.proofs.calls.undo.Goals as goal
 pub returns-then-unready-ne0 : goal.returns-then-unready-ne0
 returns-then-unready-ne0 c =
     let d = undo-unready _ _ _ c.inspect-found.ensures.number_is c.if-unready-ne0.true in
-    (d.0, (d.1, c.if-unready-ne0.true))
+    record { answer = d.0; state = d.1; numbered = c.if-unready-ne0.true }
 
 pub returns-then-at-eq0 : goal.returns-then-at-eq0
 returns-then-at-eq0 c =
     let inspect = c.inspect-found in
     let d = undo-none _ _ (ready _ _ (sym inspect.ensures.number_is ∙ c.if-unready-ne0.false))
     (sym (inspected-last _ inspect.ensures c.if-unready-ne0.false) ∙ c.if-at-eq0.true) in
-    (d.0, (d.1, λ e. omega arith))
+    record { answer = d.0; state = d.1; numbered = λ e. omega arith }
 
 pub take_back-size-requires : goal.take_back-size-requires
 take_back-size-requires c =
@@ -31,5 +31,5 @@ returns c =
     let inspect = c.inspect-found in
     let t = take_back.ensures in
     let w = ready _ _ (sym inspect.ensures.number_is ∙ if1.false) in
-    let d = undo-done _ _ _ (last-ready w (inspected-last _ inspect.ensures if1.false) if2.false) w.sound _ t.0 _ _ t.1.0 t.1.1 in
-    (d.0, (d.1, tt))
+    let d = undo-done _ _ _ (last-ready w (inspected-last _ inspect.ensures if1.false) if2.false) w.sound _ t.size _ _ t.image t.journal in
+    record { answer = d.0; state = d.1; numbered = tt }

@@ -14,7 +14,7 @@ unfolding used
 save_blocks-requires c =
     let get32 = c.get32-at in
     let p = c.requires in
-    (p.0.0, omega (arith, p, get32.ensures))
+    (p.marks.0, omega (arith, p, get32.ensures))
 
 pub overflow_cast-end : goal.overflow_cast-end
 unfolding used
@@ -33,4 +33,4 @@ returns c =
     let a = c.args in
     let p = c.requires in
     put322.ensures ∙ rw (save-blocks.ensures, put32.ensures)
-    (record-made a.image.now a.marks.now a.journal.now a.n _ a.size p.0.0 get32.ensures p.0.1 (omega (arith, p, get32.ensures)))
+    (record-made a.image.now a.marks.now a.journal.now a.n _ a.size p.marks.0 get32.ensures p.marks.1 (omega (arith, p, get32.ensures)))

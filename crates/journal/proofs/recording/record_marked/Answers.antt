@@ -35,7 +35,7 @@ add_record-requires c =
     let record-size = c.record_size-size in
     let p = c.requires in
     let w = well _ _ p.0.well-formed in
-    ((marks-ready _ _ _ p.0 p.1, record-size.ensures), (w.used_low, omega (arith, get32.ensures, c.if-journal-used.false), w.short))
+    record { marks = (marks-ready _ _ _ p.0 p.1, record-size.ensures); bound = (w.used_low, omega (arith, get32.ensures, c.if-journal-used.false), w.short) }
 
 pub overflow_cast-result : goal.overflow_cast-result
 unfolding used

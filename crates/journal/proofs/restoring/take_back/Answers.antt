@@ -33,10 +33,8 @@ returns c =
     let drop-record = c.drop_record in
     let restore = c.restore in
     let get32 = c.get32-size in
-    let p = c.requires in (
-      get32.ensures ∙ rw p.last,
-      (
-        restore.ensures ∙ last-image _ _ _ (p) _ (ap (λ (x : ℕ). (x - 4) / 516) get32.ensures),
-        drop-record.ensures ∙ last-journal _ _ _ (p) _ get32.ensures,
-      ),
-    )
+    let p = c.requires in record {
+      size = get32.ensures ∙ rw p.last;
+      image = restore.ensures ∙ last-image _ _ _ (p) _ (ap (λ (x : ℕ). (x - 4) / 516) get32.ensures);
+      journal = drop-record.ensures ∙ last-journal _ _ _ (p) _ get32.ensures;
+    }

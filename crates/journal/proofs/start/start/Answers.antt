@@ -15,10 +15,10 @@ made : (j a b : List ℕ) → 5 ≤ length j → a ≡ replicate (length j) 0 �
 made j a b h e f = f ∙ rw e (start-stored (length j) h)
 
 pub returns-then-journal-lt-MIN_JOURNAL : goal.returns-then-journal-lt-MIN_JOURNAL
-returns-then-journal-lt-MIN_JOURNAL c = rw (start-short _ c.if-journal-lt-MIN_JOURNAL.true) (refl, refl)
+returns-then-journal-lt-MIN_JOURNAL c = rw (start-short _ c.if-journal-lt-MIN_JOURNAL.true) (record { number = refl; bytes = refl })
 
 pub returns-then-journal-gt-MAX_JOURNAL : goal.returns-then-journal-gt-MAX_JOURNAL
-returns-then-journal-gt-MAX_JOURNAL c = rw (start-long _ c.if-journal-gt-MAX_JOURNAL.true) (refl, refl)
+returns-then-journal-gt-MAX_JOURNAL c = rw (start-long _ c.if-journal-gt-MAX_JOURNAL.true) (record { number = refl; bytes = refl })
 
 pub put32-requires : goal.put32-requires
 put32-requires c =
@@ -43,4 +43,4 @@ returns c =
     let if1 = c.if-journal-lt-MIN_JOURNAL in
     let a = c.args in
     let j = a.journal.now in
-    rw (start_fits j if1.false if2.false) (refl, made j _ _ if1.false clear.ensures put32.ensures)
+    rw (start_fits j if1.false if2.false) (record { number = refl; bytes = made j _ _ if1.false clear.ensures put32.ensures })

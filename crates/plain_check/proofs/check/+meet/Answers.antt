@@ -12,17 +12,6 @@ use Rattle.plain_check.proofs.Walks.Meets.{down, meet-start, meet-end, meet-skip
 use Prim.Native.Nat.{ℕ, ◌<◌}
 use Rattle.plain_check.proofs.check.+meet.Goals as goal
 
-record Inv (s : List ℕ) (levels b d still before end more held e k : ℕ) : Type 0 where
-  low : 2 ≤ k
-  few : end ≤ 4 * word
-  whole : end ≡ 4 * blocks_of s (512 * d)
-  sums : more + held ≤ still + before
-  place : Place s d e (k - 2)
-  equal : meet levels s b d (count still before) ≡ meet_slots (down levels s b) s (directory s d) (interval (k - 1) (end - k)) (count more held)
-
-abbrev meet_below : ℕ → In 1 meet-kinds.ps
-meet_below t = and 1 meet-kinds.ps (falls 1 meet-kinds.ps ◌<◌ μ-meet t) meet.Pre
-
 pub overflow_mul-d : goal.overflow_mul-d
 overflow_mul-d t c = omega arith
 

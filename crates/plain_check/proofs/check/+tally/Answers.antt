@@ -13,13 +13,6 @@ use Rattle.plain_check.proofs.Walks.Tallies.{Sofar, sofar-over, sofar-end, sofar
 use Prim.Native.Nat.{ℕ, ◌<◌}
 use Rattle.plain_check.proofs.check.+tally.Goals as goal
 
-record Inv (s : List ℕ) (n : ℕ) (q : Question) (levels d before end sum e k : ℕ) : Type 0 where
-  low : 2 ≤ k
-  few : end ≤ 4 * word
-  whole : end ≡ 4 * blocks_of s (512 * d)
-  place : Place s d e (k - 2)
-  sums : Sofar n (before + ask_tree (answer q s n) levels s d) sum (rest q s n d levels k end)
-
 pub overflow_mul-d : goal.overflow_mul-d
 overflow_mul-d t c = omega arith
 

@@ -14,11 +14,19 @@ use Rattle.plain_check.proofs.Walks.Tallies.{Sofar, sofar-over, sofar-end, sofar
 use Prim.Native.Nat.{ℕ, ◌<◌}
 use Rattle.plain_check.proofs.check.+tally.Given as goal
 
-abbrev pub invariant-tally-loop-k : goal.invariant-tally-loop-k
-invariant-tally-loop-k l = Inv l.image l.n l.q l.levels l.d l.before l.k-end l.sum l.e l.k
+-- what holds at the head of the loop
+pub record Inv (s : List ℕ) (n : ℕ) (q : Question) (levels d before end sum e k : ℕ) : Type 0 where
+  pub low : 2 ≤ k
+  pub few : end ≤ 4 * word
+  pub whole : end ≡ 4 * blocks_of s (512 * d)
+  pub place : Place s d e (k - 2)
+  pub sums : Sofar n (before + ask_tree (answer q s n) levels s d) sum (rest q s n d levels k end)
 
-abbrev pub decreases-tally-loop-k : goal.decreases-tally-loop-k
-decreases-tally-loop-k l = l.k-end - l.k
+abbrev pub invariant-loop-k : goal.invariant-loop-k
+invariant-loop-k l = Inv l.image l.n l.q l.levels l.d l.before l.k-end l.sum l.e l.k
+
+abbrev pub decreases-loop-k : goal.decreases-loop-k
+decreases-loop-k l = l.k-end - l.k
 
 abbrev pub decreases-tally : goal.decreases-tally
 decreases-tally l = l.levels

@@ -18,16 +18,6 @@ use Rattle.plain_check.proofs.Walks.Tours.{stands-first, end-slot, slot-inside, 
 use Prim.Native.Nat.{ℕ, ◌<◌}
 use Rattle.plain_check.proofs.check.+tour.Goals as goal
 
-record Inv (s : List ℕ) (n levels d before end met e k : ℕ) : Type 0 where
-  low : 2 ≤ k
-  few : end ≤ 4 * word
-  whole : end ≡ 4 * blocks_of s (512 * d)
-  some : 1 ≤ met
-  most : met ≤ n
-  place : Place s d e (k - 2)
-  right : (j : ℕ) → 1 ≤ j → j < k - 1 → slot_ok s (slot_at (directory s d) j) ≡ true
-  equal : tour_entries (tour_child levels s n d) s (directory s d) before ≡ tour_slots (tour_child levels s n d) s (directory s d) (interval (k - 1) (end - k)) met
-
 pub overflow_mul-d : goal.overflow_mul-d
 overflow_mul-d t c = omega (arith, stands-first _ _ _ c.requires.1, c.requires.0)
 
@@ -91,7 +81,7 @@ returns-then-not-slot_ok-new_name t c = let i = c.loop-k.invariant in
     let S = c.requires.1 in
     let h : c.loop-k.k < 4 * blocks_of c.args.image.now (512 * c.args.d) = omega (arith, c.loop-k.invariant.whole) in
     let at = (place-next _ _ _ (c.loop-k.k - 2) (c.loop-k.k - 1) _ c.loop-k.invariant.place (omega (arith, c.loop-k.invariant.low)) c.after-e.ensures.0 c.after-e.ensures.1 c.after-e.ensures.2).here (omega (arith, h)) in
-    let t : (c.slot_ok.result && c.new_name.result) ≡ false = not-true _ c.if-not-slot_ok-new_name.true-raw in record { equal = sym (i.equal ∙ slots-bad _ _ _ _ c.loop-k.k (4 * c.number-size.result) i.low (omega arith) _ at (sym t ∙ slot-tests _ _ _ c.loop-k.k _ v S i.low h at i.right _ _ c.slot_ok.ensures c.new_name.ensures)); bound = (λ z. omega arith, omega arith) }
+    let t : (c.slot_ok.result && c.new_name.result) ≡ false = c.if-not-slot_ok-new_name.true in record { equal = sym (i.equal ∙ slots-bad _ _ _ _ c.loop-k.k (4 * c.number-size.result) i.low (omega arith) _ at (sym t ∙ slot-tests _ _ _ c.loop-k.k _ v S i.low h at i.right _ _ c.slot_ok.ensures c.new_name.ensures)); bound = (λ z. omega arith, omega arith) }
 
 pub overflow_step-k : goal.overflow_step-k
 overflow_step-k t c = omega arith
@@ -106,10 +96,10 @@ loop-k-preserved-then-not-is_directory t c =
     let S = c.requires.1 in
     let h : c.loop-k.k < 4 * blocks_of c.args.image.now (512 * c.args.d) = omega (arith, c.loop-k.invariant.whole) in
     let at = (place-next _ _ _ (c.loop-k.k - 2) (c.loop-k.k - 1) _ c.loop-k.invariant.place (omega (arith, c.loop-k.invariant.low)) c.after-e.ensures.0 c.after-e.ensures.1 c.after-e.ensures.2).here (omega (arith, h)) in
-    let t : (c.slot_ok.result && c.new_name.result) ≡ true = not-false _ c.if-not-slot_ok-new_name.false-raw in
+    let t : (c.slot_ok.result && c.new_name.result) ≡ true = c.if-not-slot_ok-new_name.false in
     let ok = sym c.slot_ok.ensures ∙ (and_split c.slot_ok.result c.new_name.result t).0 in
     let test = sym t ∙ slot-tests _ _ _ c.loop-k.k _ v S i.low h at i.right _ _ c.slot_ok.ensures c.new_name.ensures in
-    let u = not-true c.is_directory.result c.if-not-is_directory.true-raw in
+    let u = c.if-not-is_directory.true in
     record {
       low = omega (arith, i.low);
       few = i.few;
@@ -136,10 +126,10 @@ returns-then-levels-child_ok t c = let i = c.loop-k.invariant in
     let S = c.requires.1 in
     let h : c.loop-k.k < 4 * blocks_of c.args.image.now (512 * c.args.d) = omega (arith, c.loop-k.invariant.whole) in
     let at = (place-next _ _ _ (c.loop-k.k - 2) (c.loop-k.k - 1) _ c.loop-k.invariant.place (omega (arith, c.loop-k.invariant.low)) c.after-e.ensures.0 c.after-e.ensures.1 c.after-e.ensures.2).here (omega (arith, h)) in
-    let t : (c.slot_ok.result && c.new_name.result) ≡ true = not-false _ c.if-not-slot_ok-new_name.false-raw in
+    let t : (c.slot_ok.result && c.new_name.result) ≡ true = c.if-not-slot_ok-new_name.false in
     let ok = sym c.slot_ok.ensures ∙ (and_split c.slot_ok.result c.new_name.result t).0 in
     let test = sym t ∙ slot-tests _ _ _ c.loop-k.k _ v S i.low h at i.right _ _ c.slot_ok.ensures c.new_name.ensures in
-    let u = not-false c.is_directory.result c.if-not-is_directory.false-raw in record { equal = sym (i.equal ∙ slots-stop _ _ _ _ c.loop-k.k (4 * c.number-size.result) i.low (omega arith) _ at test _ c.byte-in-loop-k.ensures.0 (sym u ∙ c.is_directory.ensures) 4 0 (child-bad _ _ _ _ _ c.args.levels c.child_ok.result c.child_ok.ensures c.if-levels-child_ok.true) (λ z. omega arith)); bound = (λ z. omega arith, omega arith) }
+    let u = c.if-not-is_directory.false in record { equal = sym (i.equal ∙ slots-stop _ _ _ _ c.loop-k.k (4 * c.number-size.result) i.low (omega arith) _ at test _ c.byte-in-loop-k.ensures.0 (sym u ∙ c.is_directory.ensures) 4 0 (child-bad _ _ _ _ _ c.args.levels c.child_ok.result c.child_ok.ensures c.if-levels-child_ok.true) (λ z. omega arith)); bound = (λ z. omega arith, omega arith) }
 
 pub overflow_sub-levels : goal.overflow_sub-levels
 overflow_sub-levels t c = omega (arith, (goes_down c.args.levels c.child_ok.result c.if-levels-child_ok.false).0)
@@ -164,10 +154,10 @@ returns-then-v-ne0 t c = let i = c.loop-k.invariant in
     let S = c.requires.1 in
     let h : c.loop-k.k < 4 * blocks_of c.args.image.now (512 * c.args.d) = omega (arith, c.loop-k.invariant.whole) in
     let at = (place-next _ _ _ (c.loop-k.k - 2) (c.loop-k.k - 1) _ c.loop-k.invariant.place (omega (arith, c.loop-k.invariant.low)) c.after-e.ensures.0 c.after-e.ensures.1 c.after-e.ensures.2).here (omega (arith, h)) in
-    let t : (c.slot_ok.result && c.new_name.result) ≡ true = not-false _ c.if-not-slot_ok-new_name.false-raw in
+    let t : (c.slot_ok.result && c.new_name.result) ≡ true = c.if-not-slot_ok-new_name.false in
     let ok = sym c.slot_ok.ensures ∙ (and_split c.slot_ok.result c.new_name.result t).0 in
     let test = sym t ∙ slot-tests _ _ _ c.loop-k.k _ v S i.low h at i.right _ _ c.slot_ok.ensures c.new_name.ensures in
-    let u = not-false c.is_directory.result c.if-not-is_directory.false-raw in
+    let u = c.if-not-is_directory.false in
     let g = goes_down c.args.levels c.child_ok.result c.if-levels-child_ok.false in record { equal = sym (i.equal ∙ slots-stop _ _ _ _ c.loop-k.k (4 * c.number-size.result) i.low (omega arith) _ at test _ c.byte-in-loop-k.ensures.0 (sym u ∙ c.is_directory.ensures) _ _ (c.tour-v.ensures.equal ∙ child-down _ _ _ _ _ _ g.0 (sym g.1 ∙ c.child_ok.ensures) _ c.number.ensures.0) c.if-v-ne0.true); bound = c.tour-v.ensures.bound }
 
 pub overflow_step-k-in-loop-k : goal.overflow_step-k-in-loop-k
@@ -183,10 +173,10 @@ loop-k-preserved t c =
     let S = c.requires.1 in
     let h : c.loop-k.k < 4 * blocks_of c.args.image.now (512 * c.args.d) = omega (arith, c.loop-k.invariant.whole) in
     let at = (place-next _ _ _ (c.loop-k.k - 2) (c.loop-k.k - 1) _ c.loop-k.invariant.place (omega (arith, c.loop-k.invariant.low)) c.after-e.ensures.0 c.after-e.ensures.1 c.after-e.ensures.2).here (omega (arith, h)) in
-    let t : (c.slot_ok.result && c.new_name.result) ≡ true = not-false _ c.if-not-slot_ok-new_name.false-raw in
+    let t : (c.slot_ok.result && c.new_name.result) ≡ true = c.if-not-slot_ok-new_name.false in
     let ok = sym c.slot_ok.ensures ∙ (and_split c.slot_ok.result c.new_name.result t).0 in
     let test = sym t ∙ slot-tests _ _ _ c.loop-k.k _ v S i.low h at i.right _ _ c.slot_ok.ensures c.new_name.ensures in
-    let u = not-false c.is_directory.result c.if-not-is_directory.false-raw in
+    let u = c.if-not-is_directory.false in
     let g = goes_down c.args.levels c.child_ok.result c.if-levels-child_ok.false in
     record {
       low = omega (arith, i.low);

@@ -19,11 +19,22 @@ use Rattle.plain_check.proofs.Walks.Tours.{stands-first, end-slot, slot-inside, 
 use Prim.Native.Nat.{ℕ, ◌<◌}
 use Rattle.plain_check.proofs.check.+tour.Given as goal
 
-abbrev pub invariant-tour-loop-k : goal.invariant-tour-loop-k
-invariant-tour-loop-k l = Inv l.image l.n l.levels l.d l.before l.k-end l.met l.e l.k
+-- what holds at the head of the loop
+pub record Inv (s : List ℕ) (n levels d before end met e k : ℕ) : Type 0 where
+  pub low : 2 ≤ k
+  pub few : end ≤ 4 * word
+  pub whole : end ≡ 4 * blocks_of s (512 * d)
+  pub some : 1 ≤ met
+  pub most : met ≤ n
+  pub place : Place s d e (k - 2)
+  pub right : (j : ℕ) → 1 ≤ j → j < k - 1 → slot_ok s (slot_at (directory s d) j) ≡ true
+  pub equal : tour_entries (tour_child levels s n d) s (directory s d) before ≡ tour_slots (tour_child levels s n d) s (directory s d) (interval (k - 1) (end - k)) met
 
-abbrev pub decreases-tour-loop-k : goal.decreases-tour-loop-k
-decreases-tour-loop-k l = l.k-end - l.k
+abbrev pub invariant-loop-k : goal.invariant-loop-k
+invariant-loop-k l = Inv l.image l.n l.levels l.d l.before l.k-end l.met l.e l.k
+
+abbrev pub decreases-loop-k : goal.decreases-loop-k
+decreases-loop-k l = l.k-end - l.k
 
 abbrev pub decreases-tour : goal.decreases-tour
 decreases-tour l = l.levels

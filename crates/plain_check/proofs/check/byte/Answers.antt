@@ -10,4 +10,4 @@ returns-then-image-at c = (sym (get_or-eq_default c.args.image.now 0 (omega arit
 
 -- src/check.rt:20:1
 pub returns : goal.returns
-returns c = (refl, omega (arith, c.shared_slice_known-1.given c.args.at))
+returns c = (refl, omega (arith, c.type_inv.image c.args.at))

@@ -9,7 +9,7 @@ use Rattle.plain_check.proofs.Walks.Stages.{value-is, value_not}
 use Rattle.plain_check.proofs.check.entries_are.Given as goal
 
 abbrev pub invariant-loop-x : goal.invariant-loop-x
-invariant-loop-x l = (l.b ≤ l.x) × (every (λ l.x. eqb (next l.image l.x) l.value) (interval l.b (l.end - l.b)) ≡ every (λ l.x. eqb (next l.image l.x) l.value) (interval l.x (l.end - l.x)))
+invariant-loop-x l = (l.b ≤ l.x) × (every (λ x. eqb (next l.image x) l.value) (interval l.b (l.end - l.b)) ≡ every (λ x. eqb (next l.image x) l.value) (interval l.x (l.end - l.x)))
 
 abbrev pub decreases-loop-x : goal.decreases-loop-x
 decreases-loop-x l = l.end - l.x

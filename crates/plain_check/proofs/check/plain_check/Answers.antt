@@ -8,46 +8,46 @@ use borrow.Author.Rules.{rules}
 use Rattle.plain_check.proofs.check.plain_check.Goals as goal
 
 pub returns-then-not-sized : goal.returns-then-not-sized
-returns-then-not-sized c = plain-1 _ (sym (not-true c.sized.result c.if-not-sized.true-raw) ∙ c.sized.ensures) ∙ plain-is-check _
+returns-then-not-sized c = plain-1 _ (sym c.if-not-sized.true ∙ c.sized.ensures) ∙ plain-is-check _
 
 pub signed-requires : goal.signed-requires
-signed-requires c = omega (arith, sized-volume c.args.image.now (sym (not-false c.sized.result c.if-not-sized.false-raw) ∙ c.sized.ensures))
+signed-requires c = omega (arith, sized-volume c.args.image.now (sym c.if-not-sized.false ∙ c.sized.ensures))
 
 pub returns-then-not-signed : goal.returns-then-not-signed
-returns-then-not-signed c = plain-2 _ (sym (not-false c.sized.result c.if-not-sized.false-raw) ∙ c.sized.ensures) (sym (not-true c.signed.result c.if-not-signed.true-raw) ∙ c.signed.ensures) ∙ plain-is-check _
+returns-then-not-signed c = plain-2 _ (sym c.if-not-sized.false ∙ c.sized.ensures) (sym c.if-not-signed.true ∙ c.signed.ensures) ∙ plain-is-check _
 
 pub numbered-requires : goal.numbered-requires
-numbered-requires c = sized-volume c.args.image.now (sym (not-false c.sized.result c.if-not-sized.false-raw) ∙ c.sized.ensures)
+numbered-requires c = sized-volume c.args.image.now (sym c.if-not-sized.false ∙ c.sized.ensures)
 
 pub returns-then-not-numbered : goal.returns-then-not-numbered
-returns-then-not-numbered c = plain-3 _ (sym (not-false c.sized.result c.if-not-sized.false-raw) ∙ c.sized.ensures) (sym (not-false c.signed.result c.if-not-signed.false-raw) ∙ c.signed.ensures) (sym (not-true c.numbered.result c.if-not-numbered.true-raw) ∙ c.numbered.ensures) ∙ plain-is-check _
+returns-then-not-numbered c = plain-3 _ (sym c.if-not-sized.false ∙ c.sized.ensures) (sym c.if-not-signed.false ∙ c.signed.ensures) (sym c.if-not-numbered.true ∙ c.numbered.ensures) ∙ plain-is-check _
 
 pub root_block-root-requires : goal.root_block-root-requires
-root_block-root-requires c = (sized-volume c.args.image.now (sym (not-false c.sized.result c.if-not-sized.false-raw) ∙ c.sized.ensures)).high
+root_block-root-requires c = (sized-volume c.args.image.now (sym c.if-not-sized.false ∙ c.sized.ensures)).high
 
 pub directory_ok-requires : goal.directory_ok-requires
-directory_ok-requires c = ((sized-volume c.args.image.now (sym (not-false c.sized.result c.if-not-sized.false-raw) ∙ c.sized.ensures)).high, omega (arith, sized-volume c.args.image.now (sym (not-false c.sized.result c.if-not-sized.false-raw) ∙ c.sized.ensures), c.root_block-root.ensures))
+directory_ok-requires c = ((sized-volume c.args.image.now (sym c.if-not-sized.false ∙ c.sized.ensures)).high, omega (arith, sized-volume c.args.image.now (sym c.if-not-sized.false ∙ c.sized.ensures), c.root_block-root.ensures))
 
 pub returns-then-not-directory_ok : goal.returns-then-not-directory_ok
-returns-then-not-directory_ok c = plain-tree _ (sym (not-false c.sized.result c.if-not-sized.false-raw) ∙ c.sized.ensures) (sym (not-false c.signed.result c.if-not-signed.false-raw) ∙ c.signed.ensures) (sym (not-false c.numbered.result c.if-not-numbered.false-raw) ∙ c.numbered.ensures) 4 (root-refused _ _ _ (sized-volume c.args.image.now (sym (not-false c.sized.result c.if-not-sized.false-raw) ∙ c.sized.ensures)) c.root_block-root.ensures (sym (not-true c.directory_ok.result c.if-not-directory_ok.true-raw) ∙ c.directory_ok.ensures)) (λ z. omega arith) ∙ plain-is-check _
+returns-then-not-directory_ok c = plain-tree _ (sym c.if-not-sized.false ∙ c.sized.ensures) (sym c.if-not-signed.false ∙ c.signed.ensures) (sym c.if-not-numbered.false ∙ c.numbered.ensures) 4 (root-refused _ _ _ (sized-volume c.args.image.now (sym c.if-not-sized.false ∙ c.sized.ensures)) c.root_block-root.ensures (sym c.if-not-directory_ok.true ∙ c.directory_ok.ensures)) (λ z. omega arith) ∙ plain-is-check _
 
 pub tour-v-requires : goal.tour-v-requires
-tour-v-requires c = (sized-volume c.args.image.now (sym (not-false c.sized.result c.if-not-sized.false-raw) ∙ c.sized.ensures), four-stands _ _ _ _ (sym (not-false c.directory_ok.result c.if-not-directory_ok.false-raw) ∙ c.directory_ok.ensures), omega arith, omega (arith, sized-volume c.args.image.now (sym (not-false c.sized.result c.if-not-sized.false-raw) ∙ c.sized.ensures)))
+tour-v-requires c = (sized-volume c.args.image.now (sym c.if-not-sized.false ∙ c.sized.ensures), four-stands _ _ _ _ (sym c.if-not-directory_ok.false ∙ c.directory_ok.ensures), omega arith, omega (arith, sized-volume c.args.image.now (sym c.if-not-sized.false ∙ c.sized.ensures)))
 
 pub returns-then-v-ne0 : goal.returns-then-v-ne0
-returns-then-v-ne0 c = plain-tree _ (sym (not-false c.sized.result c.if-not-sized.false-raw) ∙ c.sized.ensures) (sym (not-false c.signed.result c.if-not-signed.false-raw) ∙ c.signed.ensures) (sym (not-false c.numbered.result c.if-not-numbered.false-raw) ∙ c.numbered.ensures) _ (root-toured _ _ _ (sized-volume c.args.image.now (sym (not-false c.sized.result c.if-not-sized.false-raw) ∙ c.sized.ensures)) c.root_block-root.ensures (sym (not-false c.directory_ok.result c.if-not-directory_ok.false-raw) ∙ c.directory_ok.ensures) _ _ c.tour-v.ensures.equal) c.if-v-ne0.true ∙ plain-is-check _
+returns-then-v-ne0 c = plain-tree _ (sym c.if-not-sized.false ∙ c.sized.ensures) (sym c.if-not-signed.false ∙ c.signed.ensures) (sym c.if-not-numbered.false ∙ c.numbered.ensures) _ (root-toured _ _ _ (sized-volume c.args.image.now (sym c.if-not-sized.false ∙ c.sized.ensures)) c.root_block-root.ensures (sym c.if-not-directory_ok.false ∙ c.directory_ok.ensures) _ _ c.tour-v.ensures.equal) c.if-v-ne0.true ∙ plain-is-check _
 
 pub table_ok-requires : goal.table_ok-requires
-table_ok-requires c = sized-volume c.args.image.now (sym (not-false c.sized.result c.if-not-sized.false-raw) ∙ c.sized.ensures)
+table_ok-requires c = sized-volume c.args.image.now (sym c.if-not-sized.false ∙ c.sized.ensures)
 
 pub returns-then-not-table_ok : goal.returns-then-not-table_ok
-returns-then-not-table_ok c = plain-6 _ (sym (not-false c.sized.result c.if-not-sized.false-raw) ∙ c.sized.ensures) (sym (not-false c.signed.result c.if-not-signed.false-raw) ∙ c.signed.ensures) (sym (not-false c.numbered.result c.if-not-numbered.false-raw) ∙ c.numbered.ensures) _ (root-toured _ _ _ (sized-volume c.args.image.now (sym (not-false c.sized.result c.if-not-sized.false-raw) ∙ c.sized.ensures)) c.root_block-root.ensures (sym (not-false c.directory_ok.result c.if-not-directory_ok.false-raw) ∙ c.directory_ok.ensures) _ _ c.tour-v.ensures.equal) c.if-v-ne0.false (sym (not-true c.table_ok.result c.if-not-table_ok.true-raw) ∙ c.table_ok.ensures) ∙ plain-is-check _
+returns-then-not-table_ok c = plain-6 _ (sym c.if-not-sized.false ∙ c.sized.ensures) (sym c.if-not-signed.false ∙ c.signed.ensures) (sym c.if-not-numbered.false ∙ c.numbered.ensures) _ (root-toured _ _ _ (sized-volume c.args.image.now (sym c.if-not-sized.false ∙ c.sized.ensures)) c.root_block-root.ensures (sym c.if-not-directory_ok.false ∙ c.directory_ok.ensures) _ _ c.tour-v.ensures.equal) c.if-v-ne0.false (sym c.if-not-table_ok.true ∙ c.table_ok.ensures) ∙ plain-is-check _
 
 pub counts_ok-requires : goal.counts_ok-requires
-counts_ok-requires c = sized-volume c.args.image.now (sym (not-false c.sized.result c.if-not-sized.false-raw) ∙ c.sized.ensures)
+counts_ok-requires c = sized-volume c.args.image.now (sym c.if-not-sized.false ∙ c.sized.ensures)
 
 pub returns-then-not-counts_ok : goal.returns-then-not-counts_ok
-returns-then-not-counts_ok c = plain-7 _ (sym (not-false c.sized.result c.if-not-sized.false-raw) ∙ c.sized.ensures) (sym (not-false c.signed.result c.if-not-signed.false-raw) ∙ c.signed.ensures) (sym (not-false c.numbered.result c.if-not-numbered.false-raw) ∙ c.numbered.ensures) _ (root-toured _ _ _ (sized-volume c.args.image.now (sym (not-false c.sized.result c.if-not-sized.false-raw) ∙ c.sized.ensures)) c.root_block-root.ensures (sym (not-false c.directory_ok.result c.if-not-directory_ok.false-raw) ∙ c.directory_ok.ensures) _ _ c.tour-v.ensures.equal) c.if-v-ne0.false (sym (not-false c.table_ok.result c.if-not-table_ok.false-raw) ∙ c.table_ok.ensures) (sym (not-true c.counts_ok.result c.if-not-counts_ok.true-raw) ∙ c.counts_ok.ensures) ∙ plain-is-check _
+returns-then-not-counts_ok c = plain-7 _ (sym c.if-not-sized.false ∙ c.sized.ensures) (sym c.if-not-signed.false ∙ c.signed.ensures) (sym c.if-not-numbered.false ∙ c.numbered.ensures) _ (root-toured _ _ _ (sized-volume c.args.image.now (sym c.if-not-sized.false ∙ c.sized.ensures)) c.root_block-root.ensures (sym c.if-not-directory_ok.false ∙ c.directory_ok.ensures) _ _ c.tour-v.ensures.equal) c.if-v-ne0.false (sym c.if-not-table_ok.false ∙ c.table_ok.ensures) (sym c.if-not-counts_ok.true ∙ c.counts_ok.ensures) ∙ plain-is-check _
 
 pub returns : goal.returns
-returns c = plain-0 _ (sym (not-false c.sized.result c.if-not-sized.false-raw) ∙ c.sized.ensures) (sym (not-false c.signed.result c.if-not-signed.false-raw) ∙ c.signed.ensures) (sym (not-false c.numbered.result c.if-not-numbered.false-raw) ∙ c.numbered.ensures) _ (root-toured _ _ _ (sized-volume c.args.image.now (sym (not-false c.sized.result c.if-not-sized.false-raw) ∙ c.sized.ensures)) c.root_block-root.ensures (sym (not-false c.directory_ok.result c.if-not-directory_ok.false-raw) ∙ c.directory_ok.ensures) _ _ c.tour-v.ensures.equal) c.if-v-ne0.false (sym (not-false c.table_ok.result c.if-not-table_ok.false-raw) ∙ c.table_ok.ensures) (sym (not-false c.counts_ok.result c.if-not-counts_ok.false-raw) ∙ c.counts_ok.ensures) ∙ plain-is-check _
+returns c = plain-0 _ (sym c.if-not-sized.false ∙ c.sized.ensures) (sym c.if-not-signed.false ∙ c.signed.ensures) (sym c.if-not-numbered.false ∙ c.numbered.ensures) _ (root-toured _ _ _ (sized-volume c.args.image.now (sym c.if-not-sized.false ∙ c.sized.ensures)) c.root_block-root.ensures (sym c.if-not-directory_ok.false ∙ c.directory_ok.ensures) _ _ c.tour-v.ensures.equal) c.if-v-ne0.false (sym c.if-not-table_ok.false ∙ c.table_ok.ensures) (sym c.if-not-counts_ok.false ∙ c.counts_ok.ensures) ∙ plain-is-check _

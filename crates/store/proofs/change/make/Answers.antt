@@ -19,8 +19,8 @@ put-requires c =
 
 pub returns-in-Volume : goal.returns-in-Volume
 unfolding after slot_given
-returns-in-Volume c = rw c.in-Volume.is c.make.ensures
+returns-in-Volume c = rw c.in-Volume.is (record { slot = c.make.ensures.slot; bytes = c.make.ensures.bytes })
 
 pub returns-in-Put : goal.returns-in-Put
 unfolding after slot_given
-returns-in-Put c = rw c.in-Put.is c.put.ensures
+returns-in-Put c = rw c.in-Put.is (record { slot = c.put.ensures.revision; bytes = c.put.ensures.bytes })

@@ -19,4 +19,5 @@ returns-then-used-gt-MAX_FORM c = record { form = parsed-wrong _ _ _ _ _ _ _ c.n
 
 pub returns : goal.returns
 returns c =
-    parse-right _ _ _ c.get32-used.ensures c.if-room-ne1.false c.if-used-lt5.false c.if-size-used.false c.if-used-gt-MAX_FORM.false _ _ _ _ _ c.requires c.scan.ensures
+    let p = parse-right _ _ _ c.get32-used.ensures c.if-room-ne1.false c.if-used-lt5.false c.if-size-used.false c.if-used-gt-MAX_FORM.false _ _ _ _ _ c.requires c.scan.ensures in
+    record { form = p.0; used = p.1 }

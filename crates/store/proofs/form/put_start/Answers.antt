@@ -19,7 +19,4 @@ returns c =
 pub shape_of-room : goal.shape_of-room
 shape_of-room c =
     let a = c.args in
-    ap length (started c) ∙ length-splice a.room.now a.at (a.first ∷ bytes4 a.number) (omega (arith, length-bytes4 a.number))
-
-pub returns : goal.returns
-returns c = started c
+    ap length (c.put32.ensures ∙ sym (splice-cons a.room.now a.at a.first (bytes4 a.number) (omega (arith, length-bytes4 a.number)))) ∙ length-splice a.room.now a.at (a.first ∷ bytes4 a.number) (omega (arith, length-bytes4 a.number))

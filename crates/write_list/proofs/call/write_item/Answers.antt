@@ -30,4 +30,4 @@ pub returns : goal.returns
 returns c =
     let ready = c.change_ready-c in
     rw (← c.get32.ensures, ← c.get64.ensures, ← c.path_of-path.ensures, ← c.data_of-bytes.ensures)
-    (c.number_of_lem.ensures ∙ ap number_of ready.ensures.answer ∙ answer-number _ _, ready.ensures.state)
+    (record { number = c.number_of.ensures ∙ ap number_of ready.ensures.answer ∙ answer-number _ _; state = ready.ensures.state })
