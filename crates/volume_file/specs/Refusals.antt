@@ -27,10 +27,10 @@ log_waits = 6
 
 -- image, journal or the program's own bytes are not as long as their places
 abbrev pub image_length_of : ℕ
-image_length = 7
+image_length_of = 7
 
 abbrev pub journal_length_of : ℕ
-journal_length = 8
+journal_length_of = 8
 
 abbrev pub own_length_of : ℕ
-own_length = 9
+own_length_of = 9

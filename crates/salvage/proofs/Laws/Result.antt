@@ -218,7 +218,7 @@ module _ (s : List ℕ) (A : Given s) where
   -- the table
   all-chains : all_chains w ≡ (r, length ds) ∷ files_to w ds m
   unfolding all_chains chains files_to files
-  all-chains = rw (dirs-one, root-stays) (append-nil _)
+  all-chains = rw dirs-one (append-nil _ ∙ ap (λ (x : List ℕ). (r, length x) ∷ files_to w x (4 * length x - 2)) root-stays)
 
   own-chain : chain (next w) r (length ds) ≡ ds
   unfolding directory

@@ -93,6 +93,7 @@ module _ (o : List ℕ) (q : State) (n : ℕ) where
       where
         two : (k : ℕ) → SlotFine o q n left (ChildFine o q n left b) (directory w b) k → is_file (type_of w (slot_at (directory w b) k)) ≡ true
             → In c (file_chains w (slot_at (directory w b) k)) → chain_ok (next w) n c.0 c.1 ≡ true
+        two k f t (inr (inr x3)) = elim x3 [ ]
         two k f t (inl e) = subst (λ (z : ℕ × ℕ). chain_ok (next w) n z.0 z.1 ≡ true) (sym e) (f.first t)
         two k f t (inr (inl e)) = subst (λ (z : ℕ × ℕ). chain_ok (next w) n z.0 z.1 ≡ true) (sym e) (f.second t)
 
@@ -129,6 +130,7 @@ module _ (o : List ℕ) (q : State) (n : ℕ) where
   all_right zero b p ok F d i = first (here zero b p ok F (λ z. none (children w b) (λ e m. child-none b e (kid zero b p ok F e m)))) (rw (below-is w zero b) at i)
     where
       first : Right (b, zero) → In d ((b, zero) ∷ []) → Right d
+      first h (inr x4) = elim x4 [ ]
       first h (inl e) = subst Right (sym e) h
   all_right (suc left) b p ok F d i =
       first (here (suc left) b p ok F (λ z. absurd (omega arith)))

@@ -4,6 +4,7 @@ use Rattle.salvage.proofs.Walks.Turns.{ended-left, ended-set}
 use Prim.Native.Nat.{ℕ, ◌-◌}
 use Rattle.layout.specs.Table.{set_next}
 use borrow.Author.Rules.{rules}
+use Rattle.salvage.proofs.Walks.Claims.{ends-none, ends-right, ends-wrong, last-is}
 use Rattle.salvage.proofs.chains.end_chain.Goals as goal
 
 pub returns-then-k-eq0 : goal.returns-then-k-eq0

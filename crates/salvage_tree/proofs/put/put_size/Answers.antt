@@ -25,4 +25,6 @@ pub note-requires : goal.note-requires
 note-requires c = (omega (arith, c.requires.1), omega arith)
 
 pub returns : goal.returns
-returns c = sized-is _ _ _ _ _ _ c.number_at.ensures c.requires.0 c.requires.2 _ _ c.put_number.ensures c.note.ensures
+returns c =
+    let g = sized-is _ _ _ _ _ _ c.number_at.ensures c.requires.0 c.requires.2 _ _ c.put_number.ensures c.note.ensures in
+    record { bytes = g.0; codes = g.1 }

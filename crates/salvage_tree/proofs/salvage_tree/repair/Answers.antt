@@ -14,4 +14,6 @@ pub put_rest-requires : goal.put_rest-requires
 put_rest-requires c = ready-again _ _ _ _ _ _ _ _ c.requires.0 (omega arith) (omega arith) (omega arith)
 
 pub returns : goal.returns
-returns c = all-repaired _ _ _ _ _ _ _ _ _ _ _ _ _ c.requires.0 c.take_root.ensures c.hang_each.ensures c.put_rest.ensures
+returns c =
+    let g = all-repaired _ _ _ _ _ _ _ _ _ _ _ _ _ c.requires.0 c.take_root.ensures c.hang_each.ensures c.put_rest.ensures in
+    record { bytes = g.0; codes = g.1 }

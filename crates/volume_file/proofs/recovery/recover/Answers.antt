@@ -23,7 +23,7 @@ waiting-k-requires c = ready-size _ _ c.refusal-number.ensures c.if-number-ne0.f
 
 pub restore-requires : goal.restore-requires
 restore-requires c =
-    let w = test-true _ _ c.if-not-log_waits.false c.log_waits.ensures in
+    let w = test-true _ _ c.if-not-log_waits.false-raw c.log_waits.ensures in
     let r = ready _ _ c.refusal-number.ensures c.if-number-ne0.false _ _ w c.home_sectors-h.ensures c.waiting-k.ensures in
     (r.small, r.few, r.size, r.rise)
 
@@ -32,13 +32,13 @@ set_flag-requires c = omega (arith, file-long _ (sym c.refusal-number.ensures âˆ
 
 pub overflow_cast-result : goal.overflow_cast-result
 overflow_cast-result c =
-    let w = test-true _ _ c.if-not-log_waits.false c.log_waits.ensures in
+    let w = test-true _ _ c.if-not-log_waits.false-raw c.log_waits.ensures in
     let r = ready _ _ c.refusal-number.ensures c.if-number-ne0.false _ _ w c.home_sectors-h.ensures c.waiting-k.ensures in
     omega (arith, r.small, r.few)
 
 pub returns : goal.returns
 returns c = let e = c.refusal-number.ensures in
     let z = c.if-number-ne0.false in
-    let w = test-true _ _ c.if-not-log_waits.false c.log_waits.ensures in
+    let w = test-true _ _ c.if-not-log_waits.false-raw c.log_waits.ensures in
     let h = c.home_sectors-h.ensures in
     let k = c.waiting-k.ensures in record { answer = recover-answered _ _ e z _ _ w h k; file = recover-done _ _ e z _ _ w h k _ _ c.restore.ensures c.set_flag.ensures }

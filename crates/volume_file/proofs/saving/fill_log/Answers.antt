@@ -66,4 +66,4 @@ pub returns : goal.returns
 returns c =
     let l = c.loop-i in
     let p = c.requires in
-    (log-count _ _ _ _ _ _ l.invariant (omega arith) p.3, (log-end _ _ _ _ _ _ l.invariant (omega arith) p.3, log-few _ _ _ _ _ _ l.invariant (omega arith) p.3))
+    record { count = log-count _ _ _ _ _ _ l.invariant (omega arith) p.3; file = log-end _ _ _ _ _ _ l.invariant (omega arith) p.3; few = log-few _ _ _ _ _ _ l.invariant (omega arith) p.3 }
