@@ -92,6 +92,7 @@ without x (k ∷ ks) = cond (same x k) ks (k ∷ without x ks)
 
 without-length : (x : List ℕ) (ks : List (List ℕ)) → In x ks → length ks ≡ suc (length (without x ks))
 unfolding without
+without-length x [] x'' = elim x'' [ ]
 without-length x (k ∷ ks) (inl e) = rw (e, same_refl k)
 without-length x (k ∷ ks) (inr i) = go (same x k) (without-length x ks i)
   where
@@ -101,6 +102,7 @@ without-length x (k ∷ ks) (inr i) = go (same x k) (without-length x ks i)
 
 without_in : (x y : List ℕ) (ks : List (List ℕ)) → In y ks → y ≢ x → In y (without x ks)
 unfolding without
+without_in x y [] i ne = elim i [ ]
 without_in x y (k ∷ ks) i ne = go (same x k) refl i (λ j. without_in x y ks j ne)
   where
     go : (t : Bool) → same x k ≡ t → In y (k ∷ ks) → (In y ks → In y (without x ks)) → In y (cond t ks (k ∷ without x ks))

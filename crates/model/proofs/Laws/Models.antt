@@ -104,6 +104,7 @@ brought-other x [] m path out = refl
 brought-other x (to ∷ tos) m path out = set_other (brought x tos m) to x path (λ z. out (inl z)) ∙ brought-other x tos m path (λ i. out (inr i))
 
 brought-here : (x : Node) (tos : List (List ℕ)) (m : Model) (path : List ℕ) → In path tos → (brought x tos m).at path ≡ x
+brought-here x [] m path x'' = elim x'' [ ]
 brought-here x (to ∷ tos) m path (inl e) = rw e (set_own (brought x tos m) to x)
 brought-here x (to ∷ tos) m path (inr i) = go (same_or_not path to) (brought-here x tos m path i)
   where

@@ -156,11 +156,35 @@ module _ (s : List ℕ) (m : Model) (S : Shows s m) (ok : check s ≡ 0) (path t
 
 vacated : (s : List ℕ) (m : Model) → Shows s m → check s ≡ 0 → (c : Change) → refusal s c ≡ 0 → (to : List ℕ) → In to (further c) → shows_nothing (m.at to) ≡ true
 unfolding refusal changes.refusal further views.further
+vacated s m S ok (plain (create path type user group permissions flags time)) r q x5 = elim x5 [ ]
+vacated s m S ok (plain (write path offset bytes time)) r q x6 = elim x6 [ ]
+vacated s m S ok (plain (delete path)) r q x7 = elim x7 [ ]
+vacated s m S ok (plain (create_directory path type user group permissions flags time d)) r q x8 = elim x8 [ ]
+vacated s m S ok (plain (delete_directory path)) r q x9 = elim x9 [ ]
+vacated s m S ok (plain (set_attributes path bytes)) r q x10 = elim x10 [ ]
+vacated s m S ok (plain (clear_attributes path)) r q x11 = elim x11 [ ]
+vacated s m S ok (plain (clear_flags path)) r q x12 = elim x12 [ ]
+vacated s m S ok (plain (shorten path size time)) r q x13 = elim x13 [ ]
+vacated s m S ok (plain (replace path bytes time)) r q x14 = elim x14 [ ]
+vacated s m S ok (plain (move path to)) r q (inr x16) = elim x16 [ ]
+vacated s m S ok (put_in _ serial time bytes) r q x3 = elim x3 [ ]
 vacated s m S ok (plain (move path to)) r q (inl e) = rw e (none-at s m S ok path to r)
 
 come : (s : List ℕ) (m : Model) → Shows s m → check s ≡ 0 → (c : Change) → refusal s c ≡ 0 → (to : List ℕ) → In to (further c)
     → (file_at (after s c) to ≡ as_file (m.at (subject c))) × (folder_at (after s c) to ≡ as_folder (m.at (subject c)))
 unfolding refusal changes.refusal after changes.after subject views.subject further views.further
+come s m S ok (plain (create path type user group permissions flags time)) r q x5 = elim x5 [ ]
+come s m S ok (plain (write path offset bytes time)) r q x6 = elim x6 [ ]
+come s m S ok (plain (delete path)) r q x7 = elim x7 [ ]
+come s m S ok (plain (create_directory path type user group permissions flags time d)) r q x8 = elim x8 [ ]
+come s m S ok (plain (delete_directory path)) r q x9 = elim x9 [ ]
+come s m S ok (plain (set_attributes path bytes)) r q x10 = elim x10 [ ]
+come s m S ok (plain (clear_attributes path)) r q x11 = elim x11 [ ]
+come s m S ok (plain (clear_flags path)) r q x12 = elim x12 [ ]
+come s m S ok (plain (shorten path size time)) r q x13 = elim x13 [ ]
+come s m S ok (plain (replace path bytes time)) r q x14 = elim x14 [ ]
+come s m S ok (plain (move path to)) r q (inr x16) = elim x16 [ ]
+come s m S ok (put_in _ serial time bytes) r q x3 = elim x3 [ ]
 come s m S ok (plain (move path to)) r q (inl e) = rw e (come-file s m S ok path to r, come-folder s m S ok path to r)
 
 -- used and free blocks are all blocks

@@ -42,9 +42,9 @@ loop-rest-preserved c =
     let i = c.loop-rest.invariant in
     let s = c.requires.0.shape.whole in
     elim c.if-o-ge512.branch [
-      then-o-ge512 w ↦ rw (w.buf-is, w.o-is, w.p-is, w.rest-is, c.entry-b.ensures) (reading-pass _ _ _ _ _ _ _ _ _ _ _ _ s i (omega arith) w.if-o-ge512.true)
-    | else-o-ge512 w ↦ rw (w.buf-is ∙ w.copy_block.ensures, w.o-is, w.p-is, w.rest-is, c.entry-b.ensures)
-        (reading_step _ _ _ _ _ _ _ _ _ _ _ _ s _ (least-cases _ _ _ w.if-o-ge512.false w.least-m.ensures) i (omega arith))
+      | then-o-ge512 w ↦ rw (w.buf-is, w.o-is, w.p-is, w.rest-is, c.entry-b.ensures) (reading-pass _ _ _ _ _ _ _ _ _ _ _ _ s i (omega arith) w.if-o-ge512.true)
+      | else-o-ge512 w ↦ rw (w.buf-is ∙ w.copy_block.ensures, w.o-is, w.p-is, w.rest-is, c.entry-b.ensures)
+          (reading_step _ _ _ _ _ _ _ _ _ _ _ _ s _ (least-cases _ _ _ w.if-o-ge512.false w.least-m.ensures) i (omega arith))
     ]
 
 pub shape_of-buf : goal.shape_of-buf
