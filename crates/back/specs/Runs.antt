@@ -1,6 +1,6 @@
 -- Runs in which journals are asked and marks are gone back to (FORMAT.md, 11): an info is a look; an undo to a mark is, in a run, the undos that it does. And the
 -- claims: back to the start, and back to any moment of a run whose changes all still stand.
-use Rattle.std.specs.Prelude.{ℕ, ◌+◌, ◌-◌, ◌≤◌, List, [], ◌∷◌, ◌++◌, ◌≡◌, length}
+use Rattle.std.specs.Prelude.{ℕ, ◌-◌, ◌≤◌, List, [], ◌∷◌, ◌++◌, ◌≡◌, length}
 use Rattle.layout.specs.Limits.{min_journal, max_journal}
 use Rattle.layout.specs.Check.{check}
 use Rattle.store.specs.Change.{Change}

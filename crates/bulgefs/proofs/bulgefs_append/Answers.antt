@@ -1,6 +1,5 @@
 use mathlib.Core.Path.{◌∙◌}
 use Rattle.append.proofs.Laws.Turns.{append-slotless}
-use borrow.Author.Rules.{rules}
 use Rattle.bulgefs.proofs.bulgefs_append.Goals as goal
 
 pub returns : goal.returns

@@ -1,5 +1,4 @@
 use mathlib.Core.Path.{◌∙◌}
-use borrow.Author.Rules.{rules}
 use Rattle.bulgefs.proofs.bulgefs_create_directory.Goals as goal
 
 pub returns : goal.returns

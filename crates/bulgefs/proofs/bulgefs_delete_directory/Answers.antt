@@ -1,7 +1,6 @@
 use mathlib.Core.Path.{refl}
 use Rattle.volume.specs.Change as volume
 use Rattle.store.specs.Change.{slot_given}
-use borrow.Author.Rules.{rules}
 use Rattle.bulgefs.proofs.bulgefs_delete_directory.Goals as goal
 
 pub returns : goal.returns

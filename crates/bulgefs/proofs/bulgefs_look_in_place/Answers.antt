@@ -1,5 +1,4 @@
 use native.Mathlib.Omega.{arith}
-use borrow.Author.Rules.{rules}
 use Rattle.layout.proofs.Laws.Looks.{extent-small}
 use Rattle.bulgefs.proofs.bulgefs_look_in_place.Goals as goal
 

@@ -1,6 +1,5 @@
 use mathlib.Core.Path.{ap, sym, ◌∙◌}
 use Rattle.layout.specs.Answers.{lookup_answer}
-use borrow.Author.Rules.{rules}
 use Rattle.bulgefs.proofs.bulgefs_lookup.Goals as goal
 
 pub returns-in-File : goal.returns-in-File

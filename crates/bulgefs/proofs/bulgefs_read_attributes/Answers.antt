@@ -2,7 +2,6 @@ use Rattle.reader.proofs.Laws.{read-case}
 use mathlib.Core.Path.{ap}
 use native.Mathlib.Omega.{arith}
 use Rattle.layout.specs.Looks.{ReadAnswer}
-use borrow.Author.Rules.{rules}
 use Rattle.layout.proofs.Laws.Looks.{attributes-small}
 use Rattle.bulgefs.proofs.bulgefs_read_attributes.Goals as goal
 

@@ -2,7 +2,6 @@ use mathlib.Core.Path.{ap}
 use native.Mathlib.Omega.{arith}
 use Rattle.layout.specs.Looks.{ReadAnswer}
 use Rattle.layout.proofs.Laws.Looks.{count_small}
-use borrow.Author.Rules.{rules}
 use Rattle.bulgefs.proofs.bulgefs_read_next.Goals as goal
 
 pub overflow_cast-result : goal.overflow_cast-result

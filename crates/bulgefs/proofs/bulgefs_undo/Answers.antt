@@ -1,5 +1,4 @@
 use Rattle.bulgefs.proofs.Bounds.{undo-case}
-use borrow.Author.Rules.{rules}
 use Rattle.bulgefs.proofs.bulgefs_undo.Goals as goal
 
 pub returns-in-Done : goal.returns-in-Done

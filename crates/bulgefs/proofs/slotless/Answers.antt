@@ -1,5 +1,4 @@
 use Rattle.bulgefs.proofs.Bounds.{change-case, no_slot}
-use borrow.Author.Rules.{rules}
 use Rattle.bulgefs.proofs.slotless.Goals as goal
 
 pub returns-in-Done : goal.returns-in-Done

@@ -1,6 +1,6 @@
 -- A change below one directory of the tree, seen from the root: the directories of two images x and y that differ only below the directory b₀, and how
 -- (Rel) they differ there, they differ so in all.
-use Prim.Native.Nat.{ℕ, zero, suc, ◌+◌, ◌≤◌}
+use Prim.Native.Nat.{ℕ, zero, suc, ◌≤◌}
 use mathlib.Core.Bool.{true}
 use mathlib.Core.List.{List, [], ◌∷◌, ◌++◌, append-nil}
 use mathlib.Core.Logic.{◌⊎◌, inl, inr}

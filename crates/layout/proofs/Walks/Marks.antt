@@ -8,7 +8,7 @@ use lib.Dec.{eqb}
 use lib.ListN.{length, get_or, set, length-set}
 use lib.Seq.{append_snoc, get_or-set_other, get_or-set_same}
 use borrow.Author.Tests.{eqb-false, eqb-true}
-use Rattle.layout.specs.Lists.{interval, every, has, distinct, joined}
+use Rattle.layout.specs.Lists.{every, has, distinct, joined}
 use Rattle.layout.specs.Bytes.{zeros}
 use Rattle.layout.specs.Geometry.{in_volume}
 use Rattle.layout.specs.Table.{chain, ends_after, chain_ok}

@@ -3,7 +3,6 @@ use native.Mathlib.Omega.{arith}
 use lib.ListN.{take}
 use lib.Seq.{length-take-le}
 use Rattle.lister.proofs.Bounds.{listing-short}
-use borrow.Author.Rules.{rules}
 use Rattle.lister.proofs.main.Goals as goal
 
 pub slice_bounds-out-end : goal.slice_bounds-out-end

@@ -14,7 +14,6 @@ use Rattle.store.specs.Change.{Change, refusal, after, subject, further}
 use Rattle.store.proofs.Theorems.{change-sound}
 use Rattle.journal.specs.Journal.{started, used, well_formed}
 use Rattle.journal.specs.Run.{Look, check_image, find_file, read_file, look_at, read_attributes_of, show_volume, show_entry, get_settings_in, Call, change, undo, look, checked, found, filled, shown, got, number_of, State, record_of, change_refusal, after_change, change_answer, look_answer, answer, run, answers}
-use Rattle.journal.specs.Run as rules
 use Rattle.journal.specs.Replay.{RunInvariant, replayed, standing_after, standing, replay_answer}
 use Rattle.journal.proofs.Laws.Undo.{first, kept}
 use Rattle.journal.proofs.Laws.Runs.{Stand, One, one-call, run-stands}

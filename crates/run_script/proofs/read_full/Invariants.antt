@@ -1,5 +1,5 @@
 -- By the room that is left in the buffer.
-use Rattle.std.specs.Prelude.{length, ◌-◌, ◌≡◌, ◌≤◌}
+use Rattle.std.specs.Prelude.{length, ◌-◌, ◌≤◌}
 use Rattle.run_script.proofs.read_full.Given as goal
 
 abbrev pub invariant-loop-done : goal.invariant-loop-done

@@ -1,5 +1,5 @@
 -- ONE FILE SHOWN BY TWO SOUND IMAGES: the looks answer alike, wherever it lies in each; look up gives the same but for the slot.
-use Prim.Native.Nat.{ℕ, zero, suc, ◌/◌, ◌-◌, ◌<◌, ◌≤◌}
+use Prim.Native.Nat.{ℕ, zero, suc, ◌/◌, ◌<◌, ◌≤◌}
 use mathlib.Core.Path.{◌≡◌, refl, sym, ap, ◌∙◌}
 use mathlib.Core.Bool.{Bool, true, false, not}
 use mathlib.Core.List.{List}

@@ -3,7 +3,6 @@ use Prim.Native.Nat.{ℕ}
 use mathlib.Core.Path.{◌≡◌, refl, sym, ap, ◌∙◌}
 use mathlib.Core.List.{List}
 use mathlib.Core.Logic.{◌⊎◌, inl, inr, ⊎_elim, ◌≢◌}
-use native.Mathlib.Omega.{arith}
 use Rattle.layout.specs.Lists.{has, same}
 use Rattle.layout.specs.Bytes.{bytes4, zeros}
 use Rattle.layout.specs.Directory.{slot_at, type_of, is_file, directory}

@@ -10,7 +10,6 @@ use borrow.Author.Tests.{eq-eqb, ne_eqb}
 use lib.ListN.{length}
 use Rattle.layout.specs.Claims.{Untouched, Reached}
 use Rattle.layout.specs.Limits.{max_levels}
-use Rattle.layout.specs.Lists.{same}
 use Rattle.layout.specs.Bytes.{be32, part}
 use Rattle.layout.specs.Directory.{slot_at, type_of, blocks_of, is_file, is_directory, name_of, directory, dirs, slot_of, content, attributes}
 use Rattle.layout.specs.Paths.{parts, path_ok, leading, last_part, shallow, home, path_slot, entry_of, file_refusal, directory_refusal}

@@ -1,7 +1,6 @@
 use mathlib.Core.Path.{sym, ◌∙◌}
 use Rattle.journal.proofs.Walks.Changes.{ready}
 use Rattle.append.proofs.Laws.Turns.{append-unready, append-empty, append-some}
-use borrow.Author.Rules.{rules}
 use Rattle.append.proofs.call.append.Goals as goal
 
 pub returns-then-unready-ne0 : goal.returns-then-unready-ne0

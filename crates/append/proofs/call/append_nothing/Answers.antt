@@ -1,7 +1,6 @@
 use mathlib.Core.Path.{sym, ap, ◌∙◌}
 use Prim.Native.Nat.{ℕ}
 use Rattle.journal.specs.Run.{changed}
-use borrow.Author.Rules.{rules}
 use Rattle.append.proofs.call.append_nothing.Goals as goal
 
 pub returns : goal.returns

@@ -1,5 +1,4 @@
 use Rattle.append.proofs.Laws.Turns.{opened-end}
-use borrow.Author.Rules.{rules}
 use Rattle.append.proofs.call.file_end.Goals as goal
 
 pub returns : goal.returns

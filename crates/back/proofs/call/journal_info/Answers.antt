@@ -1,6 +1,5 @@
 use mathlib.Core.Path.{sym, ◌∙◌}
 use native.Mathlib.Omega.{arith}
-use borrow.Author.Rules.{rules}
 use Rattle.journal.specs.Journal.{used}
 use Rattle.journal.proofs.Walks.Changes.{ready}
 use Rattle.back.proofs.Laws.Turns.{right-ready, right-head, info-unready, info-ready}

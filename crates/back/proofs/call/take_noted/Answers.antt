@@ -1,9 +1,6 @@
-use mathlib.Core.Path.{◌≡◌, refl}
+use mathlib.Core.Path.{refl}
 use native.Mathlib.Omega.{arith}
-use borrow.Author.Rules.{rules}
-use lib.ListN.{length}
-use Rattle.journal.specs.Run.{state}
-use Rattle.back.proofs.Laws.Turns.{Taking, take-start, take_last, take_next, take-end}
+use Rattle.back.proofs.Laws.Turns.{take-start, take_last, take_next, take-end}
 use Rattle.back.proofs.call.take_noted.Goals as goal
 
 pub loop-left-init : goal.loop-left-init

@@ -1,10 +1,8 @@
 -- What is left to take back from here gives what all gives.
-use mathlib.Core.Path.{◌≡◌, refl}
-use native.Mathlib.Omega.{arith}
-use borrow.Author.Rules.{rules}
+use mathlib.Core.Path.{◌≡◌}
 use lib.ListN.{length}
 use Rattle.journal.specs.Run.{state}
-use Rattle.back.proofs.Laws.Turns.{Taking, take-start, take_last, take_next, take-end}
+use Rattle.back.proofs.Laws.Turns.{Taking}
 use Rattle.back.proofs.call.take_noted.Given as goal
 
 abbrev pub invariant-loop-left : goal.invariant-loop-left

@@ -1,11 +1,7 @@
-use mathlib.Core.Path.{◌≡◌, refl}
-use Prim.Native.Nat.{◌≤◌}
+use mathlib.Core.Path.{refl}
 use native.Mathlib.Omega.{arith}
-use borrow.Author.Rules.{rules}
-use lib.ListN.{length}
 use Rattle.journal.specs.Journal.{used as usedLength}
-use Rattle.journal.specs.Run.{state}
-use Rattle.back.proofs.Laws.Turns.{right-ready, right-head, Going, go-start, go_right, go-record, go-lower, go-next, go-end}
+use Rattle.back.proofs.Laws.Turns.{right-ready, right-head, go-start, go_right, go-record, go-lower, go-next, go-end}
 use Rattle.back.proofs.call.take_with.Goals as goal
 
 pub get32-used-requires : goal.get32-used-requires

@@ -1,12 +1,9 @@
 -- What is left to take back from here, with so many done, gives what all gives.
-use mathlib.Core.Path.{◌≡◌, refl}
+use mathlib.Core.Path.{◌≡◌}
 use Prim.Native.Nat.{◌≤◌}
-use native.Mathlib.Omega.{arith}
-use borrow.Author.Rules.{rules}
 use lib.ListN.{length}
-use Rattle.journal.specs.Journal.{used as usedLength}
 use Rattle.journal.specs.Run.{state}
-use Rattle.back.proofs.Laws.Turns.{right-ready, right-head, Going, go-start, go_right, go-record, go-lower, go-next, go-end}
+use Rattle.back.proofs.Laws.Turns.{Going}
 use Rattle.back.proofs.call.take_with.Given as goal
 
 abbrev pub invariant-loop-used : goal.invariant-loop-used

@@ -1,7 +1,6 @@
 -- Each exit is one law of Turns.
 use mathlib.Core.Path.{◌≡◌, sym, ◌∙◌}
 use mathlib.Core.Bool.{true, false}
-use borrow.Author.Rules.{rules}
 use borrow.Author.Tests.{not-true, not-false}
 use Rattle.journal.proofs.Walks.Changes.{ready}
 use Rattle.back.proofs.Laws.Turns.{right-ready, back-unready, back-unmarked, back_done}

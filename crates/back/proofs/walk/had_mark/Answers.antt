@@ -1,9 +1,7 @@
-use mathlib.Core.Path.{◌≡◌, sym}
-use Prim.Native.Nat.{◌-◌}
+use mathlib.Core.Path.{sym}
 use native.Mathlib.Omega.{arith}
-use borrow.Author.Rules.{rules}
 use Rattle.journal.specs.Journal.{used as usedLength}
-use Rattle.back.proofs.Laws.Turns.{right-head, ahead-size, Searching, search-start, search-met, search-next, search-end}
+use Rattle.back.proofs.Laws.Turns.{right-head, ahead-size, search-start, search-met, search-next, search-end}
 use Rattle.back.proofs.walk.had_mark.Goals as goal
 
 pub get32-used-requires : goal.get32-used-requires

@@ -1,10 +1,8 @@
 -- A mark is one of the journal's exactly if it is ahead of here.
-use mathlib.Core.Path.{◌≡◌, sym}
+use mathlib.Core.Path.{◌≡◌}
 use Prim.Native.Nat.{◌-◌}
-use native.Mathlib.Omega.{arith}
-use borrow.Author.Rules.{rules}
 use Rattle.journal.specs.Journal.{used as usedLength}
-use Rattle.back.proofs.Laws.Turns.{right-head, ahead-size, Searching, search-start, search-met, search-next, search-end}
+use Rattle.back.proofs.Laws.Turns.{Searching}
 use Rattle.back.proofs.walk.had_mark.Given as goal
 
 abbrev pub invariant-loop-at : goal.invariant-loop-at

@@ -1,10 +1,8 @@
-use mathlib.Core.Path.{◌≡◌, refl}
-use Prim.Native.Nat.{◌+◌, ◌-◌, ◌≤◌}
+use mathlib.Core.Path.{refl}
 use native.Mathlib.Omega.{arith}
-use borrow.Author.Rules.{rules}
-use lib.ListN.{length, length-set}
+use lib.ListN.{length-set}
 use Rattle.journal.specs.Journal.{used as usedLength}
-use Rattle.back.proofs.Laws.Turns.{right-head, ahead-size, Noting, note-start, note-again, note-more, note-end, note-count}
+use Rattle.back.proofs.Laws.Turns.{right-head, ahead-size, note-start, note-again, note-more, note-end, note-count}
 use Rattle.back.proofs.walk.note.Goals as goal
 
 pub get32-used-requires : goal.get32-used-requires

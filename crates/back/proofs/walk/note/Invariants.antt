@@ -1,11 +1,9 @@
 -- The numbers noted, and what is ahead of here, are the last records. A turn moves on, or begins the numbers anew.
-use mathlib.Core.Path.{◌≡◌, refl}
+use mathlib.Core.Path.{◌≡◌}
 use Prim.Native.Nat.{◌+◌, ◌-◌, ◌≤◌}
-use native.Mathlib.Omega.{arith}
-use borrow.Author.Rules.{rules}
-use lib.ListN.{length, length-set}
+use lib.ListN.{length}
 use Rattle.journal.specs.Journal.{used as usedLength}
-use Rattle.back.proofs.Laws.Turns.{right-head, ahead-size, Noting, note-start, note-again, note-more, note-end, note-count}
+use Rattle.back.proofs.Laws.Turns.{Noting}
 use Rattle.back.proofs.walk.note.Given as goal
 
 abbrev pub invariant-loop-at : goal.invariant-loop-at

@@ -1,9 +1,6 @@
-use mathlib.Core.Path.{◌≡◌}
-use Prim.Native.Nat.{◌-◌}
 use native.Mathlib.Omega.{arith}
-use borrow.Author.Rules.{rules}
 use Rattle.journal.specs.Journal.{used as usedLength}
-use Rattle.back.proofs.Laws.Turns.{right-head, ahead-size, Tallying, tally-start, tally-next, tally-count, tally-last}
+use Rattle.back.proofs.Laws.Turns.{right-head, ahead-size, tally-start, tally-next, tally-count, tally-last}
 use Rattle.back.proofs.walk.tally.Goals as goal
 
 pub get32-used-requires : goal.get32-used-requires

@@ -1,10 +1,8 @@
 -- What is ahead of here, with what was met, is the whole journal.
 use mathlib.Core.Path.{◌≡◌}
 use Prim.Native.Nat.{◌-◌}
-use native.Mathlib.Omega.{arith}
-use borrow.Author.Rules.{rules}
 use Rattle.journal.specs.Journal.{used as usedLength}
-use Rattle.back.proofs.Laws.Turns.{right-head, ahead-size, Tallying, tally-start, tally-next, tally-count, tally-last}
+use Rattle.back.proofs.Laws.Turns.{Tallying}
 use Rattle.back.proofs.walk.tally.Given as goal
 
 abbrev pub invariant-loop-at : goal.invariant-loop-at

@@ -1,5 +1,4 @@
 use Rattle.chain_table.specs.Numbers.{freed_in}
-use borrow.Author.Rules.{rules}
 use Rattle.chain_table.proofs.changes.free.Goals as goal
 
 pub returns : goal.returns

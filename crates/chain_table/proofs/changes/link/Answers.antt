@@ -1,6 +1,5 @@
 use Rattle.chain_table.proofs.Laws.Turns.{linked-none, linked-some}
 use mathlib.Core.Path.{sym, ◌∙◌}
-use borrow.Author.Rules.{rules}
 use Rattle.chain_table.proofs.changes.link.Goals as goal
 
 pub returns-then-last-eq0 : goal.returns-then-last-eq0

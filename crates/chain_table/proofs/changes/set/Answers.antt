@@ -1,7 +1,6 @@
 use mathlib.Core.Path.{sym}
 use lib.Seq.{set_out}
 use native.Mathlib.Omega.{arith}
-use borrow.Author.Rules.{rules}
 use Rattle.chain_table.proofs.changes.set.Goals as goal
 
 pub returns-then-numbers-b : goal.returns-then-numbers-b

@@ -1,6 +1,5 @@
 use mathlib.Core.Path.{◌∙◌}
 use Rattle.chain_table.specs.Numbers.{taken_in}
-use borrow.Author.Rules.{rules}
 use Rattle.chain_table.proofs.changes.take.Goals as goal
 
 pub returns : goal.returns

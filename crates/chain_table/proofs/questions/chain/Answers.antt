@@ -1,13 +1,12 @@
-use Prim.Native.Nat.{ℕ, ◌≤◌, ◌<◌, ◌-◌}
-use mathlib.Core.Path.{◌≡◌, refl, sym, ap, ◌∙◌}
+use Prim.Native.Nat.{ℕ}
+use mathlib.Core.Path.{refl, sym, ap, ◌∙◌}
 use native.Mathlib.Numerals.{add-one}
 use native.Mathlib.Omega.{arith}
-use lib.ListN.{length, length-set}
+use lib.ListN.{length-set}
 use Rattle.layout.proofs.Laws.Chains.{nth, nth-suc}
 use Rattle.chain_table.specs.Numbers.{value_in}
 use Rattle.chain_table.proofs.Laws.Turns.{fill_more}
 use Rattle.chain_table.proofs.Laws.Numbers.{entries-are, chain-entries}
-use borrow.Author.Rules.{rules}
 use Rattle.chain_table.proofs.questions.chain.Goals as goal
 
 pub loop-i-init : goal.loop-i-init

@@ -1,13 +1,8 @@
 use Prim.Native.Nat.{ℕ, ◌≤◌, ◌<◌, ◌-◌}
-use mathlib.Core.Path.{◌≡◌, refl, sym, ap, ◌∙◌}
-use native.Mathlib.Numerals.{add-one}
-use native.Mathlib.Omega.{arith}
-use lib.ListN.{length, length-set}
-use Rattle.layout.proofs.Laws.Chains.{nth, nth-suc}
+use mathlib.Core.Path.{◌≡◌}
+use lib.ListN.{length}
+use Rattle.layout.proofs.Laws.Chains.{nth}
 use Rattle.chain_table.specs.Numbers.{value_in}
-use Rattle.chain_table.proofs.Laws.Turns.{fill_more}
-use Rattle.chain_table.proofs.Laws.Numbers.{entries-are, chain-entries}
-use borrow.Author.Rules.{rules}
 use Rattle.chain_table.proofs.questions.chain.Given as goal
 
 abbrev pub invariant-loop-i : goal.invariant-loop-i

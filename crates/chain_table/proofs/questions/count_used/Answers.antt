@@ -1,9 +1,5 @@
-use Prim.Native.Nat.{◌≤◌, ◌+◌}
-use mathlib.Core.Logic.{⊎_elim}
-use mathlib.Core.Path.{◌≡◌}
 use native.Mathlib.Omega.{arith}
 use lib.ListN.{length}
-use Rattle.layout.specs.Walks.Chains.{count_used}
 use Rattle.layout.proofs.Walks.Chains.{count_used-end, count_used-free, count_used-used}
 use Rattle.chain_table.specs.Numbers.{value_in}
 use Rattle.chain_table.proofs.Laws.Turns.{count-occupied}

@@ -1,9 +1,5 @@
-use Prim.Native.Nat.{◌+◌, ◌/◌}
-use mathlib.Core.Path.{◌≡◌, refl, sym, ◌∙◌}
+use mathlib.Core.Path.{refl, sym, ◌∙◌}
 use native.Mathlib.Omega.{arith}
-use lib.ListN.{length}
-use Rattle.layout.specs.Table.{ends_after}
-use Rattle.chain_table.specs.Numbers.{value_in}
 use Rattle.layout.proofs.Walks.Chains.{ends-none, ends_next, ends_low, ends-high}
 use Rattle.chain_table.proofs.questions.ends_after.Goals as goal
 

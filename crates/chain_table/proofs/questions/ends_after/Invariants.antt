@@ -1,10 +1,8 @@
 use Prim.Native.Nat.{◌+◌, ◌/◌}
-use mathlib.Core.Path.{◌≡◌, refl, sym, ◌∙◌}
-use native.Mathlib.Omega.{arith}
+use mathlib.Core.Path.{◌≡◌}
 use lib.ListN.{length}
 use Rattle.layout.specs.Table.{ends_after}
 use Rattle.chain_table.specs.Numbers.{value_in}
-use Rattle.layout.proofs.Walks.Chains.{ends-none, ends_next, ends_low, ends-high}
 use Rattle.chain_table.proofs.questions.ends_after.Given as goal
 
 abbrev pub invariant-loop-left : goal.invariant-loop-left

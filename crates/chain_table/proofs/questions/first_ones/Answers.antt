@@ -1,12 +1,6 @@
-use Prim.Native.Nat.{◌+◌}
-use mathlib.Core.Path.{◌≡◌, refl, sym, ◌∙◌}
+use mathlib.Core.Path.{refl, sym, ◌∙◌}
 use native.Mathlib.Omega.{arith}
-use lib.ListN.{length}
-use borrow.Author.Rules.{rules}
-use Rattle.layout.specs.Geometry.{table_blocks}
-use Rattle.layout.specs.Table.{all_ones}
 use Rattle.layout.proofs.Walks.Chains.{all_ones-end, all_ones-next, all_ones-stop}
-use Rattle.chain_table.specs.Numbers.{value_in}
 use Rattle.chain_table.proofs.questions.first_ones.Goals as goal
 
 pub overflow_add-left : goal.overflow_add-left

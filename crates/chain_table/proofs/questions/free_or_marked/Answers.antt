@@ -1,7 +1,6 @@
 use mathlib.Core.Path.{sym, ◌∙◌}
 use lib.ListN.{get_or}
 use Rattle.chain_table.proofs.Laws.Turns.{free-or, marked-or}
-use borrow.Author.Rules.{rules}
 use Rattle.chain_table.proofs.questions.free_or_marked.Goals as goal
 
 pub returns-then-value-eq0 : goal.returns-then-value-eq0

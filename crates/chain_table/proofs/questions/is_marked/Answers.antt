@@ -3,7 +3,6 @@ use mathlib.Core.Bool.{not}
 use Prim.Native.Nat.{ℕ}
 use lib.Dec.{eqb}
 use lib.ListN.{get_or-eq_default}
-use borrow.Author.Rules.{rules}
 use Rattle.chain_table.proofs.questions.is_marked.Goals as goal
 
 pub returns-then-marks-b : goal.returns-then-marks-b

@@ -1,6 +1,5 @@
 use mathlib.Core.Path.{sym, ◌∙◌}
 use native.Mathlib.Omega.{arith}
-use borrow.Author.Rules.{rules}
 use Rattle.layout.proofs.Laws.Chains.{last_none, last_some}
 use Rattle.chain_table.proofs.questions.last.Goals as goal
 

@@ -1,10 +1,8 @@
 use Prim.Native.Nat.{◌-◌}
-use mathlib.Core.Path.{◌≡◌, refl, sym, ◌∙◌}
-use native.Mathlib.Omega.{arith}
+use mathlib.Core.Path.{◌≡◌}
 use lib.ListN.{length}
 use Rattle.volume.specs.Search.{lowest_free}
 use Rattle.chain_table.specs.Numbers.{value_in}
-use Rattle.chain_table.proofs.Laws.Turns.{search-next, search-here, search-end}
 use Rattle.chain_table.proofs.questions.lowest_free.Given as goal
 
 abbrev pub invariant-loop-b : goal.invariant-loop-b

@@ -1,8 +1,6 @@
-use Prim.Native.Nat.{◌<◌}
-use mathlib.Core.Path.{◌≡◌, refl, sym, ◌∙◌}
+use mathlib.Core.Path.{refl, sym, ◌∙◌}
 use native.Mathlib.Omega.{arith}
-use borrow.Author.Rules.{rules}
-use Rattle.layout.proofs.Laws.Chains.{nth, get_d-chain}
+use Rattle.layout.proofs.Laws.Chains.{get_d-chain}
 use Rattle.chain_table.specs.Numbers.{value_in}
 use Rattle.chain_table.proofs.Laws.Turns.{nth-next, nth-none, nth_past}
 use Rattle.chain_table.proofs.questions.nth.Goals as goal

@@ -1,10 +1,7 @@
 use Prim.Native.Nat.{◌<◌}
-use mathlib.Core.Path.{◌≡◌, refl, sym, ◌∙◌}
-use native.Mathlib.Omega.{arith}
-use borrow.Author.Rules.{rules}
-use Rattle.layout.proofs.Laws.Chains.{nth, get_d-chain}
+use mathlib.Core.Path.{◌≡◌}
+use Rattle.layout.proofs.Laws.Chains.{nth}
 use Rattle.chain_table.specs.Numbers.{value_in}
-use Rattle.chain_table.proofs.Laws.Turns.{nth-next, nth-none, nth_past}
 use Rattle.chain_table.proofs.questions.nth.Given as goal
 
 abbrev pub invariant-loop-left : goal.invariant-loop-left

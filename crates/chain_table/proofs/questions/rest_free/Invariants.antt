@@ -1,14 +1,9 @@
 use Prim.Native.Nat.{◌+◌, ◌-◌}
-use mathlib.Core.Bool.{true, false}
-use mathlib.Core.Path.{◌≡◌, refl, sym, ◌∙◌}
-use native.Mathlib.Omega.{arith}
+use mathlib.Core.Path.{◌≡◌}
 use lib.ListN.{length}
-use borrow.Author.Rules.{rules}
-use borrow.Author.Tests.{not-true, not-false}
 use Rattle.layout.specs.Geometry.{table_blocks}
 use Rattle.layout.specs.Table.{rest_free}
 use Rattle.chain_table.specs.Numbers.{value_in}
-use Rattle.chain_table.proofs.Laws.Turns.{rest-next, rest-stop, rest_end}
 use Rattle.chain_table.proofs.questions.rest_free.Given as goal
 
 abbrev pub invariant-loop-b : goal.invariant-loop-b

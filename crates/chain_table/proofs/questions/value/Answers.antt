@@ -1,6 +1,5 @@
 use mathlib.Core.Path.{sym}
 use lib.ListN.{get_or-eq_default}
-use borrow.Author.Rules.{rules}
 use Rattle.chain_table.proofs.questions.value.Goals as goal
 
 pub returns-then-numbers-b : goal.returns-then-numbers-b

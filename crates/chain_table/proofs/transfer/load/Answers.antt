@@ -1,11 +1,10 @@
-use Prim.Native.Nat.{ℕ, ◌≤◌, ◌<◌, ◌-◌, ◌+◌, ◌%◌}
+use Prim.Native.Nat.{ℕ, ◌≤◌, ◌-◌, ◌+◌, ◌%◌}
 use mathlib.Core.Path.{◌≡◌, refl, sym, ap, ◌∙◌}
 use native.Mathlib.Omega.{arith}
 use lib.ListN.{length}
-use Rattle.layout.specs.Table.{next}
 use Rattle.layout.specs.Walks.Chains.{entry_in}
 use Rattle.layout.proofs.Laws.Bytes.{length_part, lent}
-use Rattle.chain_table.specs.Numbers.{value_in, entries_of}
+use Rattle.chain_table.specs.Numbers.{entries_of}
 use Rattle.chain_table.proofs.Laws.Numbers.{length-entries, entries-are}
 use Rattle.chain_table.proofs.Laws.Turns.{next-block, load-turn}
 use Rattle.chain_table.proofs.transfer.load.Goals as goal

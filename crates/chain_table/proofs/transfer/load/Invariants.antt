@@ -1,13 +1,8 @@
-use Prim.Native.Nat.{ℕ, ◌≤◌, ◌<◌, ◌-◌, ◌+◌, ◌%◌}
-use mathlib.Core.Path.{◌≡◌, refl, sym, ap, ◌∙◌}
-use native.Mathlib.Omega.{arith}
+use Prim.Native.Nat.{ℕ, ◌≤◌, ◌<◌, ◌-◌, ◌%◌}
+use mathlib.Core.Path.{◌≡◌}
 use lib.ListN.{length}
 use Rattle.layout.specs.Table.{next}
-use Rattle.layout.specs.Walks.Chains.{entry_in}
-use Rattle.layout.proofs.Laws.Bytes.{length_part, lent}
-use Rattle.chain_table.specs.Numbers.{value_in, entries_of}
-use Rattle.chain_table.proofs.Laws.Numbers.{length-entries, entries-are}
-use Rattle.chain_table.proofs.Laws.Turns.{next-block, load-turn}
+use Rattle.chain_table.specs.Numbers.{value_in}
 use Rattle.chain_table.proofs.transfer.load.Given as goal
 
 abbrev pub invariant-loop-b : goal.invariant-loop-b

@@ -1,9 +1,7 @@
-use Prim.Native.Nat.{ℕ, ◌≤◌, ◌<◌, ◌-◌}
-use mathlib.Core.Path.{◌≡◌, refl}
+use mathlib.Core.Path.{refl}
 use native.Mathlib.Omega.{arith}
-use lib.ListN.{length, length-set}
+use lib.ListN.{length-set}
 use Rattle.layout.specs.Walks.Chains.{entry_in}
-use Rattle.chain_table.specs.Numbers.{value_in}
 use Rattle.chain_table.proofs.Laws.Turns.{fill_more}
 use Rattle.chain_table.proofs.Laws.Numbers.{entries-are}
 use Rattle.chain_table.proofs.transfer.load_block.Goals as goal

@@ -1,6 +1,5 @@
 use mathlib.Core.Path.{sym, ◌∙◌}
 use Rattle.chain_table.proofs.Laws.Outcomes.{refused-check, refused-length, not-refused}
-use borrow.Author.Rules.{rules}
 use Rattle.chain_table.proofs.transfer.refusal.Goals as goal
 
 pub returns-then-number-ne0 : goal.returns-then-number-ne0

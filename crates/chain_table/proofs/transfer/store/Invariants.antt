@@ -1,13 +1,9 @@
-use Prim.Native.Nat.{ℕ, ◌≤◌, ◌<◌, ◌-◌, ◌+◌, ◌*◌, ◌/◌, ◌%◌}
-use mathlib.Core.List.{List}
-use mathlib.Core.Path.{◌≡◌, refl, sym, ap, ◌∙◌}
-use native.Mathlib.Omega.{arith}
+use Prim.Native.Nat.{◌≤◌, ◌<◌, ◌-◌, ◌+◌, ◌*◌, ◌%◌}
+use mathlib.Core.Path.{◌≡◌}
 use lib.ListN.{length, drop}
 use Rattle.layout.specs.Lists.{joined}
-use Rattle.layout.specs.Bytes.{bytes4, part, splice}
-use Rattle.layout.proofs.Laws.Bytes.{length_part, length-joined4, lent-part}
+use Rattle.layout.specs.Bytes.{bytes4, splice}
 use Rattle.chain_table.specs.Numbers.{stored}
-use Rattle.chain_table.proofs.Laws.Turns.{next-block, all-stored, store-turn}
 use Rattle.chain_table.proofs.transfer.store.Given as goal
 
 abbrev pub invariant-loop-b : goal.invariant-loop-b

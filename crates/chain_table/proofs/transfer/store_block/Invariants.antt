@@ -1,10 +1,8 @@
 use Prim.Native.Nat.{◌≤◌, ◌-◌, ◌*◌}
-use mathlib.Core.Path.{◌≡◌, refl, sym, ◌∙◌}
-use native.Mathlib.Omega.{arith}
+use mathlib.Core.Path.{◌≡◌}
 use lib.ListN.{length, drop}
 use Rattle.layout.specs.Lists.{joined}
 use Rattle.layout.specs.Bytes.{bytes4, splice}
-use Rattle.chain_table.proofs.Laws.Turns.{store-end, store-next}
 use Rattle.chain_table.proofs.transfer.store_block.Given as goal
 
 abbrev pub invariant-loop-j : goal.invariant-loop-j

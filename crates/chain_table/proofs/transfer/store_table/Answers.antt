@@ -1,5 +1,4 @@
 use Rattle.chain_table.proofs.Laws.Outcomes.{fits, store-not, store-done}
-use borrow.Author.Rules.{rules}
 use Rattle.chain_table.proofs.transfer.store_table.Goals as goal
 
 pub returns-then-number-ne0 : goal.returns-then-number-ne0

@@ -1,6 +1,5 @@
 use mathlib.Core.Path.{sym, ◌∙◌}
 use Rattle.journal.proofs.Walks.Changes.{ready, change-unready}
-use borrow.Author.Rules.{rules}
 use Rattle.journal.proofs.calls.change_in.Goals as goal
 
 pub returns-then-unready-ne0 : goal.returns-then-unready-ne0

@@ -2,7 +2,6 @@
 use mathlib.Core.Path.{sym, ◌∙◌}
 use native.Mathlib.Omega.{arith}
 use Rattle.journal.proofs.Walks.Changes.{change-refused, change-full, change-done}
-use borrow.Author.Rules.{rules}
 use Rattle.journal.proofs.calls.change_ready_in.Goals as goal
 
 pub refusal-found-requires : goal.refusal-found-requires

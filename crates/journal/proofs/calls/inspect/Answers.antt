@@ -1,7 +1,6 @@
 use mathlib.Core.Path.{◌≡◌, sym, ◌∙◌}
 use mathlib.Core.Bool.{true, false}
 use borrow.Author.Tests.{not-true, not-false}
-use borrow.Author.Rules.{rules}
 use Rattle.layout.proofs.Laws.Sound.{sound}
 use Rattle.journal.proofs.Walks.Scanning.{scanned-last}
 use Rattle.journal.proofs.Walks.Changes.{inspects-unsound, inspects-malformed, inspects-ready}

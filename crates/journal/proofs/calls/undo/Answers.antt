@@ -1,7 +1,6 @@
 -- Each exit is one law of Undoing.
 use mathlib.Core.Path.{sym, ◌∙◌}
 use native.Mathlib.Omega.{arith}
-use borrow.Author.Rules.{rules}
 use Rattle.journal.proofs.Walks.Undoing.{undo-unready, undo-none, undo-done, last-ready}
 use Rattle.journal.proofs.Walks.Changes.{ready, inspected-last}
 use Rattle.journal.proofs.calls.undo.Goals as goal

@@ -1,5 +1,4 @@
 use native.Mathlib.Omega.{arith}
-use borrow.Author.Rules.{rules}
 use Rattle.layout.proofs.Laws.Bytes.{zeros-own}
 use Rattle.journal.proofs.naming.record_small.Goals as goal
 

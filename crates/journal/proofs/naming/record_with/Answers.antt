@@ -1,4 +1,3 @@
-use borrow.Author.Rules.{rules}
 use Rattle.journal.proofs.Walks.Changes.{recorded-named}
 use Rattle.journal.proofs.naming.record_with.Goals as goal
 

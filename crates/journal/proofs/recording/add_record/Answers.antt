@@ -1,7 +1,6 @@
 use mathlib.Core.Path.{◌∙◌}
 use native.Mathlib.Omega.{arith}
 use Rattle.journal.specs.Journal.{used}
-use borrow.Author.Rules.{rules}
 use Rattle.journal.proofs.Walks.Saves.{record-made}
 use Rattle.journal.proofs.recording.add_record.Goals as goal
 

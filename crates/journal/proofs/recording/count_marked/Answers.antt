@@ -1,9 +1,6 @@
-use mathlib.Core.Path.{◌≡◌, ap}
-use Prim.Native.Nat.{◌≤◌, ◌+◌, ◌-◌}
+use mathlib.Core.Path.{ap}
 use native.Mathlib.Omega.{arith}
-use borrow.Author.Rules.{rules}
 use lib.ListN.{length}
-use Rattle.journal.specs.Walks.Saves.{marked_from}
 use Rattle.journal.proofs.Walks.Marked.{marked_next, marked-done}
 use Rattle.journal.proofs.recording.count_marked.Goals as goal
 

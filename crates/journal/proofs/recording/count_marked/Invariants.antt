@@ -1,11 +1,8 @@
 -- The count so far and that of the marked blocks from b on make the whole.
-use mathlib.Core.Path.{◌≡◌, ap}
+use mathlib.Core.Path.{◌≡◌}
 use Prim.Native.Nat.{◌≤◌, ◌+◌, ◌-◌}
-use native.Mathlib.Omega.{arith}
-use borrow.Author.Rules.{rules}
 use lib.ListN.{length}
 use Rattle.journal.specs.Walks.Saves.{marked_from}
-use Rattle.journal.proofs.Walks.Marked.{marked_next, marked-done}
 use Rattle.journal.proofs.recording.count_marked.Given as goal
 
 abbrev pub invariant-loop-b : goal.invariant-loop-b

@@ -2,7 +2,6 @@ use Prim.Native.Nat.{◌/◌}
 use lib.ListN.{length}
 use native.Mathlib.Omega.{arith}
 use Rattle.journal.specs.Journal.{used}
-use borrow.Author.Rules.{rules}
 use Rattle.layout.proofs.Laws.Sound.{sound}
 use Rattle.journal.proofs.Laws.Append.{well}
 use Rattle.journal.proofs.Walks.Marked.{marked-few}

@@ -1,9 +1,6 @@
-use mathlib.Core.Path.{◌≡◌}
-use Prim.Native.Nat.{◌≤◌, ◌+◌, ◌-◌}
+use Prim.Native.Nat.{◌+◌}
 use native.Mathlib.Omega.{arith}
 use native.Mathlib.Nat.{sub-zero}
-use lib.ListN.{length}
-use Rattle.journal.specs.Walks.Saves.{marked_from}
 use Rattle.journal.proofs.Walks.Marked.{marked-parts}
 use Rattle.journal.proofs.recording.record_size.Goals as goal
 

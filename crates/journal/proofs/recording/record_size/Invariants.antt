@@ -1,11 +1,8 @@
 -- The count so far and that of the marked blocks from a on make the whole.
 use mathlib.Core.Path.{◌≡◌}
 use Prim.Native.Nat.{◌≤◌, ◌+◌, ◌-◌}
-use native.Mathlib.Omega.{arith}
-use native.Mathlib.Nat.{sub-zero}
 use lib.ListN.{length}
 use Rattle.journal.specs.Walks.Saves.{marked_from}
-use Rattle.journal.proofs.Walks.Marked.{marked-parts}
 use Rattle.journal.proofs.recording.record_size.Given as goal
 
 abbrev pub invariant-loop-a : goal.invariant-loop-a

@@ -2,7 +2,6 @@ use mathlib.Core.Path.{ap, ◌∙◌}
 use mathlib.Core.List.{List}
 use Prim.Native.Nat.{ℕ}
 use Rattle.layout.specs.Bytes.{splice}
-use borrow.Author.Rules.{rules}
 use Rattle.layout.proofs.Laws.Bytes.{lent}
 use Rattle.journal.proofs.Walks.Saves.{piece-made}
 use Rattle.journal.proofs.recording.save_block.Goals as goal

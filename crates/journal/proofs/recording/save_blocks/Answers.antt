@@ -1,8 +1,7 @@
 use mathlib.Core.Path.{sym, ◌∙◌}
-use Prim.Native.Nat.{◌+◌, ◌-◌}
+use Prim.Native.Nat.{◌+◌}
 use native.Mathlib.Omega.{arith}
-use Rattle.journal.specs.Walks.Saves.{marked_from}
-use Rattle.journal.proofs.Walks.Saves.{marks-fewer, Saving, save-all, save-room, save-more, save-none}
+use Rattle.journal.proofs.Walks.Saves.{marks-fewer, save-all, save-room, save-more, save-none}
 use Rattle.journal.proofs.recording.save_blocks.Goals as goal
 
 pub loop-b-init : goal.loop-b-init

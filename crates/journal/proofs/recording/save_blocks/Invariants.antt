@@ -1,9 +1,7 @@
 -- What is left to save, saved from here, gives what all gives from the start.
-use mathlib.Core.Path.{sym, ◌∙◌}
-use Prim.Native.Nat.{◌+◌, ◌-◌}
-use native.Mathlib.Omega.{arith}
+use Prim.Native.Nat.{◌-◌}
 use Rattle.journal.specs.Walks.Saves.{marked_from}
-use Rattle.journal.proofs.Walks.Saves.{marks-fewer, Saving, save-all, save-room, save-more, save-none}
+use Rattle.journal.proofs.Walks.Saves.{Saving}
 use Rattle.journal.proofs.recording.save_blocks.Given as goal
 
 abbrev pub invariant-loop-b : goal.invariant-loop-b

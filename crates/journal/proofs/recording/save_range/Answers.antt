@@ -2,10 +2,9 @@ use mathlib.Core.Path.{◌≡◌, ◌∙◌}
 use Prim.Native.Nat.{◌+◌, ◌-◌, ◌*◌}
 use native.Mathlib.Omega.{arith}
 use lib.ListN.{length-take, length-drop}
-use Rattle.journal.specs.Walks.Saves.{marked_from}
 use Rattle.layout.proofs.Laws.Bytes.{lent}
 use Rattle.journal.proofs.Laws.Records.{piece, length-piece}
-use Rattle.journal.proofs.Walks.Saves.{Saving, save-start, save-skip, save-room-one, save-one, save-place, save-end}
+use Rattle.journal.proofs.Walks.Saves.{save-start, save-skip, save-room-one, save-one, save-place, save-end}
 use Rattle.journal.proofs.recording.save_range.Goals as goal
 
 pub loop-b-init : goal.loop-b-init

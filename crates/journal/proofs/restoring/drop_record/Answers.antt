@@ -3,7 +3,6 @@ use Prim.Native.Nat.{ℕ, ◌+◌, ◌-◌}
 use native.Mathlib.Omega.{arith}
 use mathlib.Core.List.{List}
 use Rattle.layout.specs.Bytes.{bytes4, splice}
-use borrow.Author.Rules.{rules}
 use Rattle.layout.proofs.Laws.Bytes.{lent-zeros}
 use Rattle.journal.proofs.restoring.drop_record.Goals as goal
 

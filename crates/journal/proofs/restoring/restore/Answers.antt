@@ -1,11 +1,10 @@
 use mathlib.Core.Path.{◌≡◌, ◌∙◌}
 use Prim.Native.Nat.{◌+◌, ◌-◌, ◌*◌}
 use native.Mathlib.Omega.{arith}
-use borrow.Author.Rules.{rules}
 use lib.ListN.{length, length-take, length-drop}
 use Rattle.journal.specs.Journal.{bytes_at}
 use Rattle.layout.proofs.Laws.Bytes.{lent, length_part}
-use Rattle.journal.proofs.Walks.Restores.{Restoring, restore-start, restore-below, restore-one, restore-end}
+use Rattle.journal.proofs.Walks.Restores.{restore-start, restore-below, restore-one, restore-end}
 use Rattle.journal.proofs.restoring.restore.Goals as goal
 
 pub loop-i-init : goal.loop-i-init

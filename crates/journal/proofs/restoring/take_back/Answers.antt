@@ -2,7 +2,6 @@ use mathlib.Core.Path.{ap, ◌∙◌}
 use Prim.Native.Nat.{ℕ, ◌-◌, ◌/◌}
 use native.Mathlib.Omega.{arith}
 use Rattle.journal.specs.Journal.{copies}
-use borrow.Author.Rules.{rules}
 use Rattle.journal.proofs.Walks.Undoing.{last-well, last-fine, last-saved, last-image, last-journal}
 use Rattle.journal.proofs.restoring.take_back.Goals as goal
 

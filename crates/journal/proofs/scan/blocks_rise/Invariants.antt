@@ -1,12 +1,8 @@
 -- What is left to ask of the numbers from the i-th on is what is asked of all.
-use mathlib.Core.Path.{◌≡◌, sym, ◌∙◌}
+use mathlib.Core.Path.{◌≡◌}
 use Prim.Native.Nat.{◌≤◌, ◌-◌}
-use native.Mathlib.Nat.{sub-zero}
-use native.Mathlib.Omega.{arith}
-use borrow.Author.Rules.{rules}
 use Rattle.layout.specs.Limits.{max_blocks}
 use Rattle.journal.specs.Walks.Scanning.{blocks_rise}
-use Rattle.journal.proofs.Walks.Scanning.{numbers-low, numbers-high, numbers-step, numbers-end}
 use Rattle.journal.proofs.scan.blocks_rise.Given as goal
 
 abbrev pub invariant-loop-i : goal.invariant-loop-i

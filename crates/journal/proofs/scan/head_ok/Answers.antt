@@ -1,7 +1,6 @@
 use mathlib.Core.Path.{sym}
 use native.Mathlib.Omega.{arith}
 use Rattle.journal.specs.Journal.{used}
-use borrow.Author.Rules.{rules}
 use Rattle.journal.proofs.Walks.Scanning.{head-facts, head-rest}
 use Rattle.layout.proofs.Laws.Tests.{is_false}
 use Rattle.journal.proofs.scan.head_ok.Goals as goal

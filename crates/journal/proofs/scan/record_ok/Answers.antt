@@ -2,7 +2,6 @@
 use mathlib.Core.Path.{sym, ◌∙◌}
 use native.Mathlib.Omega.{arith}
 use Rattle.journal.specs.Journal.{copies}
-use borrow.Author.Rules.{rules}
 use Rattle.journal.proofs.Walks.Scanning.{record-bad, record-rest}
 use Rattle.journal.proofs.scan.record_ok.Goals as goal
 

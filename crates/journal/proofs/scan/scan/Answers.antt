@@ -3,7 +3,6 @@ use mathlib.Core.Bool.{true, false}
 use native.Mathlib.Omega.{arith}
 use borrow.Author.Tests.{not-true, not-false}
 use Rattle.journal.specs.Journal.{used}
-use borrow.Author.Rules.{rules}
 use Rattle.journal.proofs.Walks.Scanning.{head-facts, head-well}
 use Rattle.journal.proofs.scan.scan.Goals as goal
 

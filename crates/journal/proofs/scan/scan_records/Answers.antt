@@ -1,10 +1,8 @@
 use mathlib.Core.Path.{◌≡◌, refl, sym, ◌∙◌}
 use mathlib.Core.Bool.{true, false}
-use Prim.Native.Nat.{◌-◌}
 use native.Mathlib.Omega.{arith}
-use borrow.Author.Rules.{rules}
 use borrow.Author.Tests.{not-true, not-false}
-use Rattle.journal.proofs.Walks.Scanning.{Scanning, record-size, scan-start, scan-bad, scan_step, scan-end}
+use Rattle.journal.proofs.Walks.Scanning.{record-size, scan-start, scan-bad, scan_step, scan-end}
 use Rattle.journal.proofs.scan.scan_records.Goals as goal
 
 pub loop-at-init : goal.loop-at-init

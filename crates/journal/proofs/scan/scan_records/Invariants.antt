@@ -1,11 +1,6 @@
 -- What the records from here on give is what all give; a right record has at least 520 bytes, so the scan moves on.
-use mathlib.Core.Path.{◌≡◌, refl, sym, ◌∙◌}
-use mathlib.Core.Bool.{true, false}
 use Prim.Native.Nat.{◌-◌}
-use native.Mathlib.Omega.{arith}
-use borrow.Author.Rules.{rules}
-use borrow.Author.Tests.{not-true, not-false}
-use Rattle.journal.proofs.Walks.Scanning.{Scanning, record-size, scan-start, scan-bad, scan_step, scan-end}
+use Rattle.journal.proofs.Walks.Scanning.{Scanning}
 use Rattle.journal.proofs.scan.scan_records.Given as goal
 
 abbrev pub invariant-loop-at : goal.invariant-loop-at

@@ -5,7 +5,6 @@ use native.Mathlib.Omega.{arith}
 use lib.ListN.{length, set, replicate, length-set, length-replicate}
 use Rattle.layout.specs.Bytes.{bytes4, splice}
 use Rattle.journal.specs.Journal.{started}
-use borrow.Author.Rules.{rules}
 use Rattle.journal.proofs.Walks.Starts.{start-short, start-long, start_fits, start-stored}
 use Rattle.journal.proofs.Laws.Shape.{length-started}
 use Rattle.journal.proofs.start.start.Goals as goal

@@ -1,10 +1,6 @@
-use Prim.Native.Nat.{◌≤◌, ◌-◌}
-use mathlib.Core.Bool.{◌&&◌}
 use mathlib.Core.Path.{◌≡◌, refl, sym, ◌∙◌}
 use native.Mathlib.Omega.{arith}
-use lib.Dec.{eqb}
-use lib.ListN.{length, drop}
-use Rattle.layout.specs.Walks.Entries.{all_zero}
+use lib.ListN.{length}
 use Rattle.layout.proofs.Walks.Names.{all_zero-more, all_zero-end}
 use Rattle.layout.proofs.bytes.all_zero.Goals as goal
 

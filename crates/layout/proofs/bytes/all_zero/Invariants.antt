@@ -1,11 +1,9 @@
 use Prim.Native.Nat.{◌≤◌, ◌-◌}
 use mathlib.Core.Bool.{◌&&◌}
-use mathlib.Core.Path.{◌≡◌, refl, sym, ◌∙◌}
-use native.Mathlib.Omega.{arith}
+use mathlib.Core.Path.{◌≡◌}
 use lib.Dec.{eqb}
 use lib.ListN.{length, drop}
 use Rattle.layout.specs.Walks.Entries.{all_zero}
-use Rattle.layout.proofs.Walks.Names.{all_zero-more, all_zero-end}
 use Rattle.layout.proofs.bytes.all_zero.Given as goal
 
 abbrev pub invariant-loop-i : goal.invariant-loop-i

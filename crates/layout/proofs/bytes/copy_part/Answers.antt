@@ -1,7 +1,6 @@
 use Prim.Native.Nat.{◌+◌, ◌-◌}
 use mathlib.Core.Path.{◌≡◌, ◌∙◌}
 use native.Mathlib.Omega.{arith}
-use borrow.Author.Rules.{rules}
 use Rattle.layout.specs.Bytes.{part}
 use Rattle.layout.proofs.Laws.Bytes.{lent, length_part}
 use Rattle.layout.proofs.bytes.copy_part.Goals as goal

@@ -1,10 +1,6 @@
-use Prim.Native.Nat.{◌≤◌, ◌-◌}
-use mathlib.Core.Bool.{◌&&◌}
 use mathlib.Core.Path.{◌≡◌, refl, sym, ◌∙◌}
 use native.Mathlib.Omega.{arith}
-use lib.Dec.{eqb}
-use lib.ListN.{length, drop}
-use Rattle.layout.specs.Lists.{same}
+use lib.ListN.{length}
 use Rattle.layout.proofs.Walks.Names.{same-lengths, same_more, same_end}
 use Rattle.layout.proofs.bytes.equal.Goals as goal
 

@@ -1,10 +1,8 @@
 use Prim.Native.Nat.{◌≤◌, ◌-◌}
-use mathlib.Core.Path.{◌≡◌, refl, sym, ◌∙◌}
-use native.Mathlib.Omega.{arith}
+use mathlib.Core.Path.{◌≡◌}
 use lib.ListN.{length, drop}
 use Rattle.layout.specs.Lists.{every}
 use Rattle.layout.specs.Directory.{good_name, name_byte}
-use Rattle.layout.proofs.Walks.Names.{good_name-empty, good_name-long, good_name-bytes, name_bytes-zero, name_bytes-slash, name_bytes-next, name_bytes-end}
 use Rattle.layout.proofs.bytes.good_name.Given as goal
 
 abbrev pub invariant-loop-i : goal.invariant-loop-i

@@ -1,13 +1,6 @@
 use Prim.Native.Nat.{ℕ, ◌≤◌, ◌<◌}
-use mathlib.Core.Path.{◌≡◌, sym, ◌∙◌}
-use mathlib.Core.Bool.{false, true}
-use native.Mathlib.Omega.{arith}
-use borrow.Author.Rules.{rules}
-use borrow.Author.Tests.{eqb-false, eqb-true, not-true, not-false}
+use mathlib.Core.Path.{◌≡◌}
 use lib.ListN.{length, get_or}
-use Rattle.layout.proofs.Laws.Names.{good_name-length}
-use Rattle.layout.proofs.Laws.Tests.{above_more}
-use Rattle.layout.proofs.Walks.Names.{holds-longer, holds-differ, holds-all}
 use Rattle.layout.proofs.bytes.holds_name.Given as goal
 
 abbrev pub invariant-loop-i : goal.invariant-loop-i

@@ -1,8 +1,7 @@
-use Prim.Native.Nat.{◌≤◌, ◌+◌, ◌-◌, ◌*◌}
+use Prim.Native.Nat.{◌+◌, ◌-◌, ◌*◌}
 use mathlib.Core.Path.{◌≡◌, ◌∙◌}
 use native.Mathlib.Omega.{arith}
 use lib.ListN.{get_or}
-use Rattle.layout.specs.Walks.Chains.{count_used}
 use Rattle.layout.proofs.Laws.Bytes.{length_part}
 use Rattle.layout.proofs.Walks.Chains.{count_used-end, count_used-split, set-in-part}
 use Rattle.layout.proofs.chains.count_set.Goals as goal

@@ -1,10 +1,7 @@
-use Prim.Native.Nat.{◌≤◌, ◌+◌, ◌-◌, ◌*◌}
-use mathlib.Core.Path.{◌≡◌, ◌∙◌}
-use native.Mathlib.Omega.{arith}
+use Prim.Native.Nat.{◌≤◌, ◌+◌, ◌*◌}
+use mathlib.Core.Path.{◌≡◌}
 use lib.ListN.{get_or}
 use Rattle.layout.specs.Walks.Chains.{count_used}
-use Rattle.layout.proofs.Laws.Bytes.{length_part}
-use Rattle.layout.proofs.Walks.Chains.{count_used-end, count_used-split, set-in-part}
 use Rattle.layout.proofs.chains.count_set.Given as goal
 
 abbrev pub invariant-loop-left : goal.invariant-loop-left

@@ -1,10 +1,7 @@
-use Prim.Native.Nat.{◌+◌}
 use mathlib.Core.Bool.{true, false}
 use mathlib.Core.Path.{◌≡◌, refl, sym, ◌∙◌}
 use native.Mathlib.Omega.{arith}
-use lib.ListN.{length}
 use borrow.Author.Tests.{not-true, not-false}
-use Rattle.layout.specs.Walks.Stages.{follow_slots}
 use Rattle.layout.proofs.Walks.Owned.{follow_slots-end, follow_slots-next, follow_slots-stop}
 use Rattle.layout.proofs.chains.follow_block.Goals as goal
 

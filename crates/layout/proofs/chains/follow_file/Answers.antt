@@ -2,7 +2,6 @@ use mathlib.Core.Path.{◌≡◌, ◌∙◌}
 use mathlib.Core.Bool.{true, false}
 use borrow.Author.Tests.{not-true, not-false}
 use Rattle.layout.proofs.Walks.Owned.{follow_file-stop, follow_file-next}
-use borrow.Author.Rules.{rules}
 use Rattle.layout.proofs.chains.follow_file.Goals as goal
 
 pub returns-then-not-follow_own : goal.returns-then-not-follow_own

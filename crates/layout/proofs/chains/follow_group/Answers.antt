@@ -2,7 +2,6 @@ use Prim.Native.Nat.{◌+◌, ◌-◌}
 use mathlib.Core.Path.{sym, ◌∙◌}
 use native.Mathlib.Omega.{arith}
 use Rattle.layout.proofs.Walks.Owned.{follow_blocks-none}
-use borrow.Author.Rules.{rules}
 use Rattle.layout.proofs.chains.follow_group.Goals as goal
 
 pub returns-then-all_zero : goal.returns-then-all_zero

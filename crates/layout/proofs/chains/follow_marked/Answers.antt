@@ -1,6 +1,5 @@
 use mathlib.Core.Path.{◌∙◌}
 use Rattle.layout.proofs.Walks.Owned.{follow_blocks-other, follow_blocks-marked}
-use borrow.Author.Rules.{rules}
 use Rattle.layout.proofs.chains.follow_marked.Goals as goal
 
 pub returns-then-dirs-b-eq0 : goal.returns-then-dirs-b-eq0

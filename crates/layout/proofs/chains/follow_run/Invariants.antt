@@ -1,11 +1,7 @@
 use Prim.Native.Nat.{◌+◌}
-use mathlib.Core.Bool.{true, false}
-use mathlib.Core.Path.{◌≡◌, refl, sym, ◌∙◌}
-use native.Mathlib.Omega.{arith}
+use mathlib.Core.Path.{◌≡◌}
 use lib.ListN.{length}
-use borrow.Author.Tests.{not-true, not-false}
 use Rattle.layout.specs.Walks.Stages.{follow_blocks}
-use Rattle.layout.proofs.Walks.Owned.{follow_blocks-end, follow_blocks-next, follow_blocks-stop}
 use Rattle.layout.proofs.chains.follow_run.Given as goal
 
 abbrev pub invariant-loop-left : goal.invariant-loop-left

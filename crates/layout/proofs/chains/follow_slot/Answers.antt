@@ -1,7 +1,6 @@
 use native.Mathlib.Omega.{arith}
 use mathlib.Core.Path.{sym, ◌∙◌}
 use Rattle.layout.proofs.Walks.Owned.{follow_slot-file, follow_slot-none, follow_slot-self}
-use borrow.Author.Rules.{rules}
 use Rattle.layout.proofs.chains.follow_slot.Goals as goal
 
 pub returns-then-is_file : goal.returns-then-is_file

@@ -1,8 +1,5 @@
-use Prim.Native.Nat.{◌≤◌, ◌+◌}
-use mathlib.Core.Path.{◌≡◌}
 use native.Mathlib.Omega.{arith}
-use lib.ListN.{length, get_or}
-use Rattle.layout.specs.Walks.Chains.{count_used}
+use lib.ListN.{get_or}
 use Rattle.layout.proofs.Walks.Chains.{count_used-end, count_used-next}
 use Rattle.layout.proofs.chains.set_in.Goals as goal
 

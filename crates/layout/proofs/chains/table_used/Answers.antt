@@ -4,7 +4,6 @@ use mathlib.Core.Path.{◌≡◌, refl, sym, ◌∙◌}
 use native.Mathlib.Omega.{arith}
 use borrow.Author.Tests.{not-true, not-false}
 use Rattle.layout.proofs.Walks.Owned.{follow_table-chains, follow_table-ones, follow_table-other, follow_table-all}
-use borrow.Author.Rules.{rules}
 use Rattle.layout.proofs.chains.table_used.Goals as goal
 
 low : (t k : ℕ) → t + 1 + k ≡ 0 → ⊥

@@ -2,7 +2,6 @@ use mathlib.Core.Path.{◌≡◌, ap, ◌∙◌}
 use Prim.Native.Nat.{ℕ}
 use mathlib.Core.List.{List}
 use native.Mathlib.Omega.{arith}
-use borrow.Author.Rules.{rules}
 use Rattle.layout.specs.Walks.Stages.{walk_root}
 use Rattle.layout.proofs.Walks.Stages.{body_stage-fault, visited-fresh}
 use Rattle.layout.proofs.check.body.Goals as goal

@@ -1,5 +1,4 @@
 use mathlib.Core.Path.{sym, ◌∙◌}
-use borrow.Author.Rules.{rules}
 use Rattle.layout.proofs.Walks.Stages.{stage1-shape, check-head, check-body}
 use Rattle.layout.proofs.check.check.Goals as goal
 

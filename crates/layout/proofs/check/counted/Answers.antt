@@ -1,5 +1,4 @@
 use mathlib.Core.Path.{sym}
-use borrow.Author.Rules.{rules}
 use Rattle.layout.proofs.Walks.Stages.{counts_ok-used, counts_ok-free}
 use Rattle.layout.proofs.check.counted.Goals as goal
 

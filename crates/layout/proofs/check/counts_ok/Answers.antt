@@ -2,7 +2,6 @@ use Prim.Native.Nat.{ℕ}
 use mathlib.Core.List.{List}
 use mathlib.Core.Path.{ap, ◌∙◌}
 use native.Mathlib.Omega.{arith}
-use borrow.Author.Rules.{rules}
 use Rattle.layout.specs.Table.{next}
 use Rattle.layout.specs.Walks.Stages.{counts_ok}
 use Rattle.layout.proofs.Walks.Stages.{stage7-counts}

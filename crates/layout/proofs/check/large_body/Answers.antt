@@ -1,5 +1,4 @@
 use native.Mathlib.Omega.{arith}
-use borrow.Author.Rules.{rules}
 use Rattle.layout.proofs.Laws.Bytes.{zeros-own}
 use Rattle.layout.proofs.check.large_body.Goals as goal
 

@@ -1,7 +1,6 @@
 use Prim.Native.Nat.{ℕ, ◌+◌}
 use mathlib.Core.Path.{sym, ap, ◌∙◌}
 use lib.Dec.{eqb}
-use borrow.Author.Rules.{rules}
 use Rattle.layout.proofs.Walks.Stages.{header_ok-total, header_ok-table, header_ok-root}
 use Rattle.layout.proofs.check.numbered.Goals as goal
 

@@ -1,4 +1,3 @@
-use borrow.Author.Rules.{rules}
 use Rattle.layout.specs.Check.{stage2}
 use Rattle.layout.proofs.check.signed.Goals as goal
 

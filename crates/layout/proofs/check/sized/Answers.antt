@@ -1,5 +1,4 @@
 use mathlib.Core.Path.{sym}
-use borrow.Author.Rules.{rules}
 use Rattle.layout.proofs.Walks.Stages.{stage1-length, stage1-low, stage1-high}
 use Rattle.layout.proofs.check.sized.Goals as goal
 

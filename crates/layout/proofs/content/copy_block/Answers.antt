@@ -1,7 +1,6 @@
 use Prim.Native.Nat.{ℕ}
 use mathlib.Core.List.{List}
 use mathlib.Core.Path.{refl, ap, ◌∙◌}
-use borrow.Author.Rules.{rules}
 use Rattle.layout.specs.Bytes.{part, splice}
 use Rattle.layout.proofs.Laws.Bytes.{part-in-block}
 use Rattle.layout.proofs.content.copy_block.Goals as goal

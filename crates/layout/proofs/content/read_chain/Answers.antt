@@ -1,7 +1,6 @@
 use mathlib.Core.Path.{refl, ◌∙◌}
 use native.Mathlib.Omega.{arith}
-use borrow.Author.Rules.{rules}
-use Rattle.layout.proofs.Walks.Content.{below-nth, Reading, least-cases, reading-here, reading-pass, reading_step, reading-end}
+use Rattle.layout.proofs.Walks.Content.{below-nth, least-cases, reading-here, reading-pass, reading_step, reading-end}
 use Rattle.layout.proofs.content.read_chain.Goals as goal
 use Rattle.layout.proofs.content.read_chain.Goals.{then-o-ge512, else-o-ge512}
 

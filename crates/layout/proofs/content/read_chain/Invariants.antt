@@ -1,8 +1,4 @@
-use mathlib.Core.Logic.{⊎_elim}
-use mathlib.Core.Path.{refl, ◌∙◌}
-use native.Mathlib.Omega.{arith}
-use borrow.Author.Rules.{rules}
-use Rattle.layout.proofs.Walks.Content.{below-nth, Reading, least-cases, reading-here, reading-pass, reading_step, reading-end}
+use Rattle.layout.proofs.Walks.Content.{Reading}
 use Rattle.layout.proofs.content.read_chain.Given as goal
 
 abbrev pub invariant-loop-rest : goal.invariant-loop-rest

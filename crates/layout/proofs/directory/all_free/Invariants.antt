@@ -1,9 +1,7 @@
 use Prim.Native.Nat.{◌-◌, ◌*◌}
-use mathlib.Core.Path.{◌≡◌, refl, sym, ◌∙◌}
-use native.Mathlib.Omega.{arith}
+use mathlib.Core.Path.{◌≡◌}
 use Rattle.layout.specs.Table.{next, chain}
-use Rattle.layout.specs.Walks.Slots.{Place, all_free, entry_at}
-use Rattle.layout.proofs.Walks.Slots.{place-below, place-entry, place-then, place-first, all_free-end, all_free-next, all_free-stop}
+use Rattle.layout.specs.Walks.Slots.{Place, all_free}
 use Rattle.layout.proofs.directory.all_free.Given as goal
 
 abbrev pub invariant-loop-left : goal.invariant-loop-left

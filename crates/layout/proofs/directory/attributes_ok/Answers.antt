@@ -1,6 +1,5 @@
 use native.Mathlib.Omega.{arith}
 use Rattle.layout.proofs.Walks.Entries.{attributes_ok-none, attributes_ok-empty, attributes_ok-size}
-use borrow.Author.Rules.{rules}
 use Rattle.layout.proofs.directory.attributes_ok.Goals as goal
 
 pub returns-then-get32-eq0 : goal.returns-then-get32-eq0

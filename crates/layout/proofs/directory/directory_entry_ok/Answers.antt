@@ -3,7 +3,6 @@ use mathlib.Core.Path.{◌≡◌, sym, ◌∙◌}
 use native.Mathlib.Omega.{arith}
 use borrow.Author.Tests.{not-true, not-false}
 use Rattle.layout.proofs.Walks.Entries.{entry_ok-unnamed, entry_ok-attribute, entry_ok-attribute-size, entry_ok-size}
-use borrow.Author.Rules.{rules}
 use Rattle.layout.proofs.directory.directory_entry_ok.Goals as goal
 
 pub returns-then-not-named : goal.returns-then-not-named

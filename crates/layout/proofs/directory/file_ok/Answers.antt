@@ -2,7 +2,6 @@ use mathlib.Core.Bool.{true, false}
 use mathlib.Core.Path.{◌≡◌, sym, ◌∙◌}
 use borrow.Author.Tests.{not-true, not-false}
 use Rattle.layout.proofs.Walks.Entries.{file_ok-unnamed, file_ok-numbers}
-use borrow.Author.Rules.{rules}
 use Rattle.layout.proofs.directory.file_ok.Goals as goal
 
 pub returns-then-not-named : goal.returns-then-not-named

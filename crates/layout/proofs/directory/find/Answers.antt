@@ -1,9 +1,9 @@
-use mathlib.Core.Path.{◌≡◌, refl, sym, ◌∙◌}
-use Prim.Native.Nat.{◌+◌, ◌-◌, ◌*◌, ◌%◌, ◌≤◌}
+use mathlib.Core.Path.{refl, sym, ◌∙◌}
+use Prim.Native.Nat.{◌+◌, ◌%◌, ◌≤◌}
 use native.Mathlib.Omega.{arith}
 use Rattle.layout.specs.Lists.{within}
-use Rattle.layout.specs.Table.{next, chain}
-use Rattle.layout.specs.Walks.Slots.{Place, entry_named, slot_from}
+use Rattle.layout.specs.Table.{next}
+use Rattle.layout.specs.Walks.Slots.{entry_named}
 use Rattle.layout.proofs.Walks.Slots.{place-below, place-first, place-on, slot_from-end, slot_from-skip, slot_of-from, stands-in, stands-none}
 use Rattle.layout.proofs.directory.find.Goals as goal
 

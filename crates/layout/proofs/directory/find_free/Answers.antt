@@ -1,8 +1,7 @@
-use mathlib.Core.Path.{◌≡◌, refl, ◌∙◌}
-use Prim.Native.Nat.{◌-◌, ◌*◌, ◌≤◌}
+use mathlib.Core.Path.{refl, ◌∙◌}
 use native.Mathlib.Omega.{arith}
-use Rattle.layout.specs.Table.{next, chain}
-use Rattle.layout.specs.Walks.Slots.{Place, slot_free, slot_from, entry_at}
+use Rattle.layout.specs.Table.{next}
+use Rattle.layout.specs.Walks.Slots.{slot_free, entry_at}
 use Rattle.layout.proofs.Walks.Slots.{place-below, place-entry, place-then, place-first, slot_from-end, slot_from-here, slot_from-next, free_slot-from, type-free, type-used, stands_here, stands-none}
 use Rattle.layout.proofs.directory.find_free.Goals as goal
 

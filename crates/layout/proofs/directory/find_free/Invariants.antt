@@ -1,9 +1,7 @@
-use mathlib.Core.Path.{◌≡◌, refl, ◌∙◌}
+use mathlib.Core.Path.{◌≡◌}
 use Prim.Native.Nat.{◌-◌, ◌*◌, ◌≤◌}
-use native.Mathlib.Omega.{arith}
 use Rattle.layout.specs.Table.{next, chain}
-use Rattle.layout.specs.Walks.Slots.{Place, slot_free, slot_from, entry_at}
-use Rattle.layout.proofs.Walks.Slots.{place-below, place-entry, place-then, place-first, slot_from-end, slot_from-here, slot_from-next, free_slot-from, type-free, type-used, stands_here, stands-none}
+use Rattle.layout.specs.Walks.Slots.{Place, slot_free, slot_from}
 use Rattle.layout.proofs.directory.find_free.Given as goal
 
 abbrev pub invariant-loop-left : goal.invariant-loop-left

@@ -1,14 +1,7 @@
-use Prim.Native.Nat.{ℕ, ◌+◌, ◌≤◌}
-use mathlib.Core.Bool.{false}
-use mathlib.Core.List.{List}
-use mathlib.Core.Path.{◌≡◌, refl, sym, ap, ◌∙◌}
-use native.Mathlib.Omega.{arith}
-use borrow.Author.Tests.{not-true}
+use Prim.Native.Nat.{◌+◌, ◌≤◌}
+use mathlib.Core.Path.{◌≡◌}
 use Rattle.layout.specs.Lists.{within}
-use Rattle.layout.specs.Walks.Names.{may_hold}
-use Rattle.layout.specs.Walks.Slots.{entry_at, entry_named, slot_in}
-use Rattle.layout.proofs.Laws.Lists.{lowest-here, lowest-next, lowest-zero}
-use Rattle.layout.proofs.Walks.Slots.{none-in-block}
+use Rattle.layout.specs.Walks.Slots.{entry_named, slot_in}
 use Rattle.layout.proofs.directory.find_in.Given as goal
 
 abbrev pub invariant-loop-left : goal.invariant-loop-left

@@ -1,5 +1,4 @@
 use Prim.Native.Nat.{◌%◌}
-use borrow.Author.Rules.{rules}
 use borrow.Author.Tests.{eq-eqb, ne_eqb}
 use Rattle.layout.specs.Walks.Slots.{slot_block}
 use Rattle.layout.proofs.directory.following.Goals as goal

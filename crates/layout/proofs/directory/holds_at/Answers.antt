@@ -5,7 +5,6 @@ use mathlib.Core.Path.{ap, ◌∙◌}
 use native.Mathlib.Omega.{arith}
 use Rattle.layout.specs.Lists.{within, same}
 use Rattle.layout.proofs.Laws.Entries.{named-in-part}
-use borrow.Author.Rules.{rules}
 use Rattle.layout.specs.Directory.{type_of, name_of}
 use Rattle.layout.proofs.directory.holds_at.Goals as goal
 

@@ -5,7 +5,6 @@ use Rattle.layout.specs.Walks.Entries.{field_ok}
 use Rattle.layout.proofs.Laws.Bytes.{length_part}
 use Rattle.layout.proofs.Walks.Entries.{name_ok-field}
 use lib.ListN.{length}
-use borrow.Author.Rules.{rules}
 use Rattle.layout.proofs.directory.named.Goals as goal
 
 pub name_ok-requires : goal.name_ok-requires

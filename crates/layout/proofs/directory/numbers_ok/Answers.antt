@@ -2,7 +2,6 @@ use Rattle.layout.proofs.Walks.Entries.{numbers_ok-attributes, numbers_ok-blocks
 use mathlib.Core.Path.{◌≡◌, sym, ◌∙◌}
 use mathlib.Core.Bool.{true, false}
 use borrow.Author.Tests.{not-true, not-false}
-use borrow.Author.Rules.{rules}
 use Rattle.layout.proofs.directory.numbers_ok.Goals as goal
 
 pub returns-then-not-attributes_ok : goal.returns-then-not-attributes_ok

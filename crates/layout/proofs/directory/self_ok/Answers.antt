@@ -1,5 +1,4 @@
 use mathlib.Core.Path.{sym}
-use borrow.Author.Rules.{rules}
 use Rattle.layout.proofs.Walks.Entries.{self_ok-type, self_ok-block, self_ok-parent, self_ok-none, self_ok-size}
 use Rattle.layout.proofs.directory.self_ok.Goals as goal
 

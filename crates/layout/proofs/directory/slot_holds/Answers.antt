@@ -9,7 +9,6 @@ use Rattle.layout.specs.Lists.{within, same}
 use Rattle.layout.specs.Directory.{unpadded}
 use Rattle.layout.proofs.Laws.Bytes.{length_part}
 use Rattle.layout.proofs.Walks.Entries.{test-other, test-named}
-use borrow.Author.Rules.{rules}
 use Rattle.layout.proofs.directory.slot_holds.Goals as goal
 
 pub returns-then-not-is_within : goal.returns-then-not-is_within

@@ -1,6 +1,5 @@
 use mathlib.Core.Path.{sym, ◌∙◌}
 use Rattle.layout.proofs.Walks.Entries.{slot_ok-free, slot_ok-file, slot_ok-directory, slot_ok-other}
-use borrow.Author.Rules.{rules}
 use Rattle.layout.proofs.directory.slot_ok.Goals as goal
 
 pub returns-then-block-o-eq0 : goal.returns-then-block-o-eq0

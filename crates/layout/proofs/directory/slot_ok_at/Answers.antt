@@ -2,7 +2,6 @@ use Prim.Native.Nat.{ℕ, ◌*◌, ◌%◌}
 use mathlib.Core.List.{List}
 use mathlib.Core.Path.{ap, ◌∙◌}
 use native.Mathlib.Omega.{arith}
-use borrow.Author.Rules.{rules}
 use Rattle.layout.specs.Check.{slot_ok}
 use Rattle.layout.proofs.Laws.Entries.{slot_ok-in-part}
 use Rattle.layout.proofs.directory.slot_ok_at.Goals as goal

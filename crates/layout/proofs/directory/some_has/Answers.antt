@@ -1,4 +1,3 @@
-use borrow.Author.Rules.{rules}
 use Rattle.layout.specs.Walks.Names.{some_has}
 use Rattle.layout.proofs.directory.some_has.Goals as goal
 

@@ -2,7 +2,6 @@ use Prim.Native.Nat.{ℕ, ◌*◌, ◌%◌}
 use mathlib.Core.List.{List}
 use mathlib.Core.Path.{ap, ◌∙◌}
 use native.Mathlib.Omega.{arith}
-use borrow.Author.Rules.{rules}
 use Rattle.layout.specs.Directory.{type_of}
 use Rattle.layout.proofs.Laws.Entries.{type-in-part}
 use Rattle.layout.proofs.directory.type_at.Goals as goal

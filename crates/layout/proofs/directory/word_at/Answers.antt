@@ -2,7 +2,6 @@ use Prim.Native.Nat.{ℕ, ◌+◌, ◌*◌, ◌%◌}
 use mathlib.Core.List.{List}
 use mathlib.Core.Path.{ap, ◌∙◌}
 use native.Mathlib.Omega.{arith}
-use borrow.Author.Rules.{rules}
 use Rattle.layout.specs.Bytes.{be32}
 use Rattle.layout.proofs.Laws.Entries.{field-in-part}
 use Rattle.layout.proofs.directory.word_at.Goals as goal

@@ -1,7 +1,6 @@
 use mathlib.Core.Path.{sym, ◌∙◌}
 use Rattle.layout.specs.Directory.{is_directory}
 use Rattle.layout.proofs.Walks.Looks.{opens-refused, opens_as, whole-refused, whole-given, directory-found}
-use borrow.Author.Rules.{rules}
 use Rattle.layout.proofs.file.open_directory.Goals as goal
 
 pub returns-then-form-ne0 : goal.returns-then-form-ne0

@@ -3,7 +3,6 @@ use native.Mathlib.Omega.{arith}
 use Rattle.layout.specs.Lists.{within}
 use Rattle.layout.proofs.Walks.Looks.{opens-refused, opens-found, path-none}
 use Rattle.layout.proofs.Walks.Shapes.{sound-shape}
-use borrow.Author.Rules.{rules}
 use Rattle.layout.proofs.file.open_entry.Goals as goal
 
 pub returns-then-k-eq0 : goal.returns-then-k-eq0

@@ -1,7 +1,6 @@
 use mathlib.Core.Path.{sym, ◌∙◌}
 use Rattle.layout.specs.Directory.{is_file}
 use Rattle.layout.proofs.Walks.Looks.{opens-refused, opens_as, form-refused, form-given, file-found}
-use borrow.Author.Rules.{rules}
 use Rattle.layout.proofs.file.open_file.Goals as goal
 
 pub returns-then-form-ne0 : goal.returns-then-form-ne0

@@ -1,6 +1,5 @@
 use native.Mathlib.Omega.{arith}
 use Rattle.layout.proofs.Walks.Looks.{form-bad, form-deep, form-fine}
-use borrow.Author.Rules.{rules}
 use Rattle.layout.proofs.file.path_refusal.Goals as goal
 
 pub returns-then-parts-eq0 : goal.returns-then-parts-eq0

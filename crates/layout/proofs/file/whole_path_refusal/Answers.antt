@@ -1,6 +1,5 @@
 use native.Mathlib.Omega.{arith}
 use Rattle.layout.proofs.Walks.Looks.{whole-bad, whole-deep, whole-fine}
-use borrow.Author.Rules.{rules}
 use Rattle.layout.proofs.file.whole_path_refusal.Goals as goal
 
 pub returns-then-parts-eq0 : goal.returns-then-parts-eq0

@@ -1,13 +1,8 @@
 use Prim.Native.Nat.{◌-◌, ◌*◌, ◌≤◌}
-use mathlib.Core.Bool.{true, false}
-use mathlib.Core.Path.{◌≡◌, refl, sym, ◌∙◌}
-use native.Mathlib.Omega.{arith}
-use borrow.Author.Tests.{not-true, not-false}
+use mathlib.Core.Path.{◌≡◌}
 use Rattle.layout.specs.Table.{next, chain}
-use Rattle.layout.specs.Walks.Slots.{Place, entry_at}
+use Rattle.layout.specs.Walks.Slots.{Place}
 use Rattle.layout.specs.Walks.Names.{bad_from, Noted, Filtered}
-use Rattle.layout.proofs.Walks.Fingerprints.{slot-in, noted-none, filtered-none, bad_from-end, bad_from-wrong, bad_from-taken, bad_from-next}
-use Rattle.layout.proofs.Walks.Slots.{place-below, place-entry, place-then, place-first}
 use Rattle.layout.proofs.names.bad_slot.Given as goal
 
 abbrev pub invariant-loop-left : goal.invariant-loop-left

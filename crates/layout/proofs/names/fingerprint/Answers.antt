@@ -1,7 +1,5 @@
-use Prim.Native.Nat.{◌+◌, ◌*◌, ◌≤◌}
-use mathlib.Core.Path.{◌≡◌, sym, ◌∙◌}
+use mathlib.Core.Path.{sym, ◌∙◌}
 use native.Mathlib.Omega.{arith}
-use Rattle.layout.specs.Walks.Names.{sums, fingerprint}
 use Rattle.layout.proofs.Walks.Fingerprints.{fingerprint-start, sums-end, sums_next, weighed}
 use Rattle.layout.proofs.names.fingerprint.Goals as goal
 

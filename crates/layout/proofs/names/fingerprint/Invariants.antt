@@ -1,8 +1,6 @@
 use Prim.Native.Nat.{◌+◌, ◌*◌, ◌≤◌}
-use mathlib.Core.Path.{◌≡◌, sym, ◌∙◌}
-use native.Mathlib.Omega.{arith}
+use mathlib.Core.Path.{◌≡◌}
 use Rattle.layout.specs.Walks.Names.{sums, fingerprint}
-use Rattle.layout.proofs.Walks.Fingerprints.{fingerprint-start, sums-end, sums_next, weighed}
 use Rattle.layout.proofs.names.fingerprint.Given as goal
 
 abbrev pub invariant-loop-left : goal.invariant-loop-left

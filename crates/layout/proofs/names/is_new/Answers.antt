@@ -2,7 +2,6 @@ use mathlib.Core.Bool.{false, not}
 use mathlib.Core.Path.{sym, ap, ◌∙◌}
 use Rattle.layout.specs.Walks.Names.{fingerprint, Used}
 use Rattle.layout.proofs.Walks.Fingerprints.{field-long, others-unmarked, new_name-free, new_name-used, noted-free, noted-kept, noted-own, noted-used, filtered-free, filtered-marked, filtered-new}
-use borrow.Author.Rules.{rules}
 use Rattle.layout.proofs.names.is_new.Goals as goal
 
 pub returns-then-type_at-eq0 : goal.returns-then-type_at-eq0

@@ -1,12 +1,9 @@
-use Prim.Native.Nat.{◌-◌, ◌≤◌, ◌+◌}
-use mathlib.Core.Bool.{not}
-use mathlib.Core.Path.{◌≡◌, refl, sym, ap, ◌∙◌}
-use native.Mathlib.Omega.{arith}
+use Prim.Native.Nat.{◌-◌, ◌≤◌}
+use mathlib.Core.Path.{◌≡◌}
 use lib.ListN.{get_or}
 use Rattle.layout.specs.Table.{next, chain}
 use Rattle.layout.specs.Walks.Slots.{entry_at}
 use Rattle.layout.specs.Walks.Names.{other_names}
-use Rattle.layout.proofs.Walks.Fingerprints.{others-nearest, others-end, others-next, others-stop, said-no, said-yes}
 use Rattle.layout.proofs.names.name_in.Given as goal
 
 abbrev pub invariant-loop-i : goal.invariant-loop-i

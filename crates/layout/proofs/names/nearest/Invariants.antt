@@ -1,8 +1,6 @@
 use Prim.Native.Nat.{ℕ, ◌≤◌, ◌<◌, ◌-◌}
 use mathlib.Core.Path.{◌≡◌}
-use native.Mathlib.Omega.{arith}
 use lib.ListN.{get_or}
-use Rattle.layout.proofs.Laws.Tests.{below_more}
 use Rattle.layout.proofs.names.nearest.Given as goal
 
 abbrev pub invariant-loop-i : goal.invariant-loop-i

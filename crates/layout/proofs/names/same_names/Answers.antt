@@ -1,7 +1,6 @@
 use mathlib.Core.Path.{sym, ◌∙◌}
 use Rattle.layout.specs.Walks.Slots.{entry_at}
 use Rattle.layout.proofs.Walks.Fingerprints.{names-free, names-compared}
-use borrow.Author.Rules.{rules}
 use Rattle.layout.proofs.names.same_names.Goals as goal
 
 pub returns-then-type_at-eq0 : goal.returns-then-type_at-eq0

@@ -1,5 +1,4 @@
 use native.Mathlib.Omega.{arith}
-use borrow.Author.Rules.{rules}
 use Rattle.layout.specs.Bytes.{be32}
 use Rattle.layout.proofs.number.get32.Goals as goal
 

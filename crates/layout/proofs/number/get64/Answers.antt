@@ -1,5 +1,4 @@
 use Rattle.layout.specs.Bytes.{be64}
-use borrow.Author.Rules.{rules}
 use Rattle.layout.proofs.number.get64.Goals as goal
 
 pub returns : goal.returns

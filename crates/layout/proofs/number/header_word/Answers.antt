@@ -3,7 +3,6 @@ use mathlib.Core.List.{List}
 use mathlib.Core.Path.{ap, ◌∙◌}
 use native.Mathlib.Omega.{arith}
 use native.Mathlib.Nat.{zero-add}
-use borrow.Author.Rules.{rules}
 use Rattle.layout.specs.Bytes.{be32}
 use Rattle.layout.proofs.Laws.Bytes.{be32-part}
 use Rattle.layout.proofs.number.header_word.Goals as goal

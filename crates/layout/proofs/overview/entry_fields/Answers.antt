@@ -1,5 +1,4 @@
 use Rattle.layout.specs.Looks.{entry_fields}
-use borrow.Author.Rules.{rules}
 use Rattle.layout.proofs.overview.entry_fields.Goals as goal
 
 pub returns : goal.returns

@@ -1,10 +1,7 @@
-use mathlib.Core.Path.{◌≡◌, refl, sym, ◌∙◌}
+use mathlib.Core.Path.{◌≡◌}
 use Prim.Native.Nat.{◌-◌, ◌*◌, ◌≤◌}
-use native.Mathlib.Omega.{arith}
 use Rattle.layout.specs.Table.{next, chain}
-use Rattle.layout.specs.Walks.Slots.{Place, used_from, entry_at}
-use Rattle.layout.proofs.Walks.Slots.{place-below, place-entry, place-then, place-first, stands_here, stands-none}
-use Rattle.layout.proofs.Walks.Listed.{used_from-end, used_from-here, used_from-next, used_slot-from}
+use Rattle.layout.specs.Walks.Slots.{Place, used_from}
 use Rattle.layout.proofs.overview.find_used.Given as goal
 
 abbrev pub invariant-loop-left : goal.invariant-loop-left

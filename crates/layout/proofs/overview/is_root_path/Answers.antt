@@ -1,5 +1,4 @@
 use Rattle.layout.proofs.Walks.Listed.{root-path-long, root-path-one}
-use borrow.Author.Rules.{rules}
 use Rattle.layout.proofs.overview.is_root_path.Goals as goal
 
 pub returns-then-path-ne1 : goal.returns-then-path-ne1

@@ -1,5 +1,4 @@
 use Rattle.layout.proofs.Walks.Listed.{used_low, used-type}
-use borrow.Author.Rules.{rules}
 use Rattle.layout.proofs.overview.is_used_from.Goals as goal
 
 pub returns-then-k-start : goal.returns-then-k-start

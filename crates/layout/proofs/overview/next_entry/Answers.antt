@@ -1,6 +1,5 @@
 use native.Mathlib.Omega.{arith}
 use Rattle.layout.proofs.Walks.Listed.{entry-refused, entry-none, entry-given}
-use borrow.Author.Rules.{rules}
 use Rattle.layout.proofs.overview.next_entry.Goals as goal
 
 pub returns-then-number-ne0 : goal.returns-then-number-ne0

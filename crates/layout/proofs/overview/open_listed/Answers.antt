@@ -2,7 +2,6 @@ use mathlib.Core.Path.{sym, ◌∙◌}
 use native.Mathlib.Omega.{arith}
 use Rattle.layout.proofs.Walks.Listed.{lists-refused, lists-root, lists-path}
 use Rattle.layout.proofs.Walks.Shapes.{sound-shape}
-use borrow.Author.Rules.{rules}
 use Rattle.layout.proofs.overview.open_listed.Goals as goal
 
 pub returns-then-refusal-ne0 : goal.returns-then-refusal-ne0

@@ -1,17 +1,16 @@
-use Prim.Native.Nat.{ℕ, ◌+◌, ◌-◌, ◌<◌}
+use Prim.Native.Nat.{ℕ, ◌+◌, ◌-◌}
 use mathlib.Core.Bool.{true}
 use mathlib.Core.List.{List}
 use mathlib.Core.Path.{◌≡◌, sym, ap, ◌∙◌, subst}
 use native.Mathlib.Omega.{arith}
-use lib.ListN.{length, take, length-take, length-drop}
-use borrow.Author.Rules.{rules}
+use lib.ListN.{take, length-take, length-drop}
 use Rattle.layout.specs.Lists.{every}
 use Rattle.layout.specs.Directory.{good_name}
 use Rattle.layout.specs.Paths.{cut, leading, child_of, resolve}
 use Rattle.layout.specs.Walks.Paths.{Along}
 use Rattle.layout.proofs.Laws.Bytes.{part-rest}
 use Rattle.layout.proofs.Walks.Paths.{resolve-here, resolve-none, resolve-down, along-here, along-down, good-first, good-rest}
-use Prim.Native.Nat.{ℕ, ◌<◌}
+use Prim.Native.Nat.{ℕ}
 use Rattle.layout.proofs.path.+resolve.Goals as goal
 
 -- the child that the first part names

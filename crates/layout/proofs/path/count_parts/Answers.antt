@@ -1,11 +1,7 @@
-use Prim.Native.Nat.{◌+◌, ◌≤◌, ◌-◌}
 use mathlib.Core.Bool.{true, false}
 use mathlib.Core.Path.{◌≡◌, refl, sym, ◌∙◌}
 use native.Mathlib.Omega.{arith}
-use lib.ListN.{length, drop}
-use borrow.Author.Rules.{rules}
 use borrow.Author.Tests.{not-true, not-false}
-use Rattle.layout.specs.Walks.Paths.{first_length, good_from}
 use Rattle.layout.proofs.Walks.Paths.{good_from-bad, good_from-next, good_from-end}
 use Rattle.layout.proofs.path.count_parts.Goals as goal
 

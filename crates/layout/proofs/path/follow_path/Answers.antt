@@ -5,7 +5,6 @@ use Rattle.layout.specs.Directory.{good_name}
 use Rattle.layout.proofs.Walks.Homes.{given-home, path-last, spotted-none, spotted-there}
 use Rattle.layout.proofs.Walks.Paths.{directory-is}
 use Rattle.layout.proofs.Walks.Visits.{self-number, at-below}
-use borrow.Author.Rules.{rules}
 use Rattle.layout.proofs.path.follow_path.Goals as goal
 
 pub returns-then-h-eq0 : goal.returns-then-h-eq0

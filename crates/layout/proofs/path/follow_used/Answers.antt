@@ -1,6 +1,5 @@
 use native.Mathlib.Omega.{arith}
 use Rattle.layout.proofs.Walks.Homes.{spotted-used}
-use borrow.Author.Rules.{rules}
 use Rattle.layout.proofs.path.follow_used.Goals as goal
 
 pub returns : goal.returns

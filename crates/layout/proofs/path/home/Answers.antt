@@ -1,11 +1,9 @@
-use Prim.Native.Nat.{◌-◌}
 use mathlib.Core.Path.{◌≡◌, sym, ap, ◌∙◌}
 use native.Mathlib.Omega.{arith}
 use Rattle.layout.specs.Paths.{cut}
 use Rattle.layout.proofs.Laws.Bytes.{part-rest}
 use Rattle.layout.proofs.Walks.Shapes.{sound-shape}
 use Rattle.layout.proofs.Walks.Homes.{path-some, path-rest, path_names, given-along, home-is}
-use borrow.Author.Rules.{rules}
 use Rattle.layout.proofs.path.home.Goals as goal
 
 pub root_block-root-requires : goal.root_block-root-requires

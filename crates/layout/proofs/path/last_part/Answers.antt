@@ -1,4 +1,4 @@
-use Prim.Native.Nat.{ℕ, ◌+◌, ◌-◌}
+use Prim.Native.Nat.{ℕ, ◌+◌}
 use mathlib.Core.List.{List}
 use mathlib.Core.Path.{◌≡◌, sym, ap, ◌∙◌}
 use native.Mathlib.Omega.{arith}
@@ -7,7 +7,6 @@ use lib.Seq.{drop-drop}
 use Rattle.layout.specs.Paths.{cut, last_part}
 use Rattle.layout.proofs.Laws.Bytes.{part-rest}
 use Rattle.layout.proofs.Walks.Homes.{path-some, path-rest}
-use borrow.Author.Rules.{rules}
 use Rattle.layout.proofs.path.last_part.Goals as goal
 
 pub slice_bounds-last_start-count : goal.slice_bounds-last_start-count

@@ -1,9 +1,5 @@
-use Prim.Native.Nat.{◌+◌, ◌≤◌, ◌-◌}
-use mathlib.Core.Path.{◌≡◌, refl, sym, ◌∙◌}
+use mathlib.Core.Path.{refl, sym, ◌∙◌}
 use native.Mathlib.Omega.{arith}
-use lib.ListN.{length, drop}
-use Rattle.layout.specs.Paths.{cut, last_part}
-use Rattle.layout.specs.Walks.Paths.{first_length}
 use Rattle.layout.proofs.Walks.Paths.{last-next, last_end}
 use Rattle.layout.proofs.path.last_start.Goals as goal
 

@@ -1,10 +1,8 @@
 use Prim.Native.Nat.{◌+◌, ◌≤◌, ◌-◌}
-use mathlib.Core.Path.{◌≡◌, refl, sym, ◌∙◌}
-use native.Mathlib.Omega.{arith}
+use mathlib.Core.Path.{◌≡◌}
 use lib.ListN.{length, drop}
 use Rattle.layout.specs.Paths.{cut, last_part}
 use Rattle.layout.specs.Walks.Paths.{first_length}
-use Rattle.layout.proofs.Walks.Paths.{last-next, last_end}
 use Rattle.layout.proofs.path.last_start.Given as goal
 
 abbrev pub invariant-loop-end : goal.invariant-loop-end

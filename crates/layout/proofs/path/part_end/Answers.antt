@@ -1,11 +1,10 @@
-use Prim.Native.Nat.{ℕ, ◌+◌, ◌-◌}
+use Prim.Native.Nat.{ℕ, ◌+◌}
 use mathlib.Core.Path.{ap, ◌∙◌}
 use native.Mathlib.Omega.{arith}
 use lib.ListN.{drop, length-drop}
 use Rattle.layout.specs.Walks.Paths.{first_length}
 use Rattle.layout.proofs.Laws.Bytes.{part-rest}
 use Rattle.layout.proofs.Walks.Paths.{first_short}
-use borrow.Author.Rules.{rules}
 use Rattle.layout.proofs.path.part_end.Goals as goal
 
 pub slice_bounds-part_length-count : goal.slice_bounds-part_length-count

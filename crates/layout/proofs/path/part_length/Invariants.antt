@@ -1,10 +1,7 @@
 use Prim.Native.Nat.{◌≤◌, ◌-◌, ◌+◌}
-use mathlib.Core.Path.{◌≡◌, refl}
-use native.Mathlib.Omega.{arith}
+use mathlib.Core.Path.{◌≡◌}
 use lib.ListN.{length, drop}
-use lib.Seq.{drop-length}
 use Rattle.layout.specs.Walks.Paths.{first_length}
-use Rattle.layout.proofs.Walks.Paths.{first-here, first_next}
 use Rattle.layout.proofs.path.part_length.Given as goal
 
 abbrev pub invariant-loop-i : goal.invariant-loop-i

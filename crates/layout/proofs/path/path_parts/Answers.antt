@@ -3,7 +3,6 @@ use native.Mathlib.Omega.{arith}
 use Rattle.layout.specs.Walks.Paths.{good_from}
 use Rattle.layout.proofs.Laws.Bytes.{part-rest}
 use Rattle.layout.proofs.Walks.Paths.{good_parts-empty, good_parts-other, good_parts-rest}
-use borrow.Author.Rules.{rules}
 use Rattle.layout.proofs.path.path_parts.Goals as goal
 
 pub returns-then-path-eq0 : goal.returns-then-path-eq0

@@ -1,6 +1,5 @@
 use mathlib.Core.Path.{ap, sym}
 use native.Mathlib.Omega.{arith}
-use borrow.Author.Rules.{rules}
 use Rattle.layout.specs.Looks.{Extent}
 use Rattle.layout.proofs.Walks.Looks.{opened-blocks, opened-chain, opened-extent-refused, opened-extent-past, opened-extent}
 use Rattle.layout.proofs.reading.extent_in_place.Goals as goal

@@ -1,5 +1,4 @@
 use native.Mathlib.Omega.{arith}
-use borrow.Author.Rules.{rules}
 use Rattle.layout.proofs.Walks.Looks.{lookup-refused, lookup-opened, opened-small}
 use Rattle.layout.proofs.reading.lookup.Goals as goal
 

@@ -1,5 +1,4 @@
 use mathlib.Core.Path.{sym, ◌∙◌}
-use borrow.Author.Rules.{rules}
 use Rattle.layout.proofs.Walks.Looks.{opens-refused, lookup_refusal-check, opens-checked}
 use Rattle.layout.proofs.reading.open_file.Goals as goal
 

@@ -1,7 +1,6 @@
 use Prim.Native.Nat.{◌-◌}
 use mathlib.Core.Path.{sym}
 use native.Mathlib.Omega.{arith}
-use borrow.Author.Rules.{rules}
 use Rattle.layout.proofs.Walks.Looks.{read-fills, read-room, opened-chain, read-refused, read_past}
 use Rattle.layout.proofs.reading.read.Goals as goal
 

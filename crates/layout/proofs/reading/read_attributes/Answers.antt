@@ -2,7 +2,6 @@ use Prim.Native.Nat.{ℕ, ◌-◌, ◌*◌}
 use mathlib.Core.Path.{sym, ap}
 use native.Mathlib.Omega.{arith}
 use Rattle.layout.proofs.Walks.Looks.{attributes-refused, opened-attributes, attributes-room, attributes-fill}
-use borrow.Author.Rules.{rules}
 use Rattle.layout.proofs.reading.read_attributes.Goals as goal
 
 pub returns-then-number-ne0 : goal.returns-then-number-ne0

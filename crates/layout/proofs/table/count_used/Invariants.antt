@@ -1,9 +1,7 @@
 use Prim.Native.Nat.{◌≤◌, ◌+◌}
-use mathlib.Core.Path.{◌≡◌, ◌∙◌}
-use native.Mathlib.Omega.{arith}
+use mathlib.Core.Path.{◌≡◌}
 use Rattle.layout.specs.Table.{next}
 use Rattle.layout.specs.Walks.Chains.{count_used}
-use Rattle.layout.proofs.Walks.Chains.{count_used-end, count_used-split, used-in-block}
 use Rattle.layout.proofs.table.count_used.Given as goal
 
 abbrev pub invariant-loop-left : goal.invariant-loop-left

@@ -1,7 +1,6 @@
 use Prim.Native.Nat.{ℕ, ◌*◌, ◌%◌}
 use mathlib.Core.List.{List}
 use mathlib.Core.Path.{ap, ◌∙◌}
-use borrow.Author.Rules.{rules}
 use Rattle.layout.specs.Bytes.{be32}
 use Rattle.layout.proofs.Walks.Chains.{entry-in-block}
 use Rattle.layout.proofs.table.entry.Goals as goal

@@ -1,8 +1,6 @@
-use mathlib.Core.Path.{◌≡◌, sym, ◌∙◌}
+use mathlib.Core.Path.{sym, ◌∙◌}
 use native.Mathlib.Omega.{arith}
-use lib.ListN.{length, length-set}
-use Rattle.layout.specs.Table.{next}
-use Rattle.layout.specs.Walks.Chains.{walk, follow}
+use lib.ListN.{length-set}
 use Rattle.layout.proofs.Walks.Chains.{walk_end, walk-next, walk-low, walk-high, walk-marked, follow-none, follow-walk}
 use Rattle.layout.proofs.table.follow.Goals as goal
 

@@ -1,9 +1,7 @@
-use mathlib.Core.Path.{◌≡◌, sym, ◌∙◌}
-use native.Mathlib.Omega.{arith}
-use lib.ListN.{length, length-set}
+use mathlib.Core.Path.{◌≡◌}
+use lib.ListN.{length}
 use Rattle.layout.specs.Table.{next}
 use Rattle.layout.specs.Walks.Chains.{walk, follow}
-use Rattle.layout.proofs.Walks.Chains.{walk_end, walk-next, walk-low, walk-high, walk-marked, follow-none, follow-walk}
 use Rattle.layout.proofs.table.follow.Given as goal
 
 abbrev pub invariant-loop-rest : goal.invariant-loop-rest

@@ -1,10 +1,7 @@
-use Prim.Native.Nat.{ℕ, ◌≤◌, ◌-◌}
-use mathlib.Core.Path.{◌≡◌, ap, sym, ◌∙◌}
-use native.Mathlib.Numerals.{add-one}
-use native.Mathlib.Omega.{arith}
+use Prim.Native.Nat.{◌≤◌, ◌-◌}
+use mathlib.Core.Path.{◌≡◌}
 use lib.ListN.{get_or}
 use Rattle.layout.specs.Table.{next, chain}
-use Rattle.layout.proofs.Laws.Chains.{chain_next, chain_first}
 use Rattle.layout.proofs.table.nth.Given as goal
 
 abbrev pub invariant-loop-j : goal.invariant-loop-j

@@ -1,7 +1,5 @@
-use Prim.Native.Nat.{◌+◌}
-use mathlib.Core.Path.{◌≡◌, refl, sym, ◌∙◌}
+use mathlib.Core.Path.{refl, sym, ◌∙◌}
 use native.Mathlib.Omega.{arith}
-use Rattle.layout.specs.Table.{next, all_ones}
 use Rattle.layout.proofs.Walks.Chains.{all_ones-end, all_ones-next, all_ones-stop}
 use Rattle.layout.proofs.table.ones.Goals as goal
 

@@ -1,8 +1,6 @@
 use Prim.Native.Nat.{◌+◌}
-use mathlib.Core.Path.{◌≡◌, refl, sym, ◌∙◌}
-use native.Mathlib.Omega.{arith}
+use mathlib.Core.Path.{◌≡◌}
 use Rattle.layout.specs.Table.{next, all_ones}
-use Rattle.layout.proofs.Walks.Chains.{all_ones-end, all_ones-next, all_ones-stop}
 use Rattle.layout.proofs.table.ones.Given as goal
 
 abbrev pub invariant-loop-left : goal.invariant-loop-left

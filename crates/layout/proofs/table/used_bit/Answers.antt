@@ -1,6 +1,5 @@
 use mathlib.Core.Path.{sym, ◌∙◌}
 use native.Mathlib.Omega.{arith}
-use borrow.Author.Rules.{rules}
 use Rattle.layout.proofs.Walks.Chains.{used-not, used-is}
 use Rattle.layout.proofs.table.used_bit.Goals as goal
 

@@ -1,7 +1,5 @@
-use Prim.Native.Nat.{◌≤◌, ◌+◌}
-use mathlib.Core.Path.{◌≡◌}
 use native.Mathlib.Omega.{arith}
-use Rattle.layout.specs.Walks.Chains.{count_used, entry_in}
+use Rattle.layout.specs.Walks.Chains.{entry_in}
 use Rattle.layout.proofs.Walks.Chains.{count_used-end, count_used-next}
 use Rattle.layout.proofs.table.used_in.Goals as goal
 

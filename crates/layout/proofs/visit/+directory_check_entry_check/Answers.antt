@@ -1,17 +1,12 @@
-use Prim.Native.Nat.{ℕ, ◌+◌, ◌-◌, ◌*◌, ◌<◌}
 use mathlib.Core.Bool.{true, false}
 use mathlib.Core.Path.{◌≡◌, refl, sym, ◌∙◌}
 use native.Mathlib.Omega.{arith}
-use lib.ListN.{length}
-use borrow.Author.Rules.{rules}
 use borrow.Author.Tests.{not-true, not-false}
-use Rattle.layout.specs.Table.{next, chain}
-use Rattle.layout.specs.Walks.Names.{bad_from, NoteRoom}
-use Rattle.layout.specs.Walks.Slots.{Place, entry_at}
-use Rattle.layout.specs.Walks.Stages.{walk_slots, walk_child}
+use Rattle.layout.specs.Table.{next}
+use Rattle.layout.specs.Walks.Slots.{entry_at}
+use Rattle.layout.specs.Walks.Stages.{walk_child}
 use Rattle.layout.proofs.Walks.Slots.{place-below, place-entry, place-then, place-first}
 use Rattle.layout.proofs.Walks.Visits.{walk_entry-other, walk_entry-child, walk_slots-end, walk_slots-bad, bad-next, walk_slots-next, walk_slots-stop, walk_entries-end, walk_entries-slots, walk_child-none, walk_child-refused, walk_child-down, follow_child-right, directory-at}
-use Prim.Native.Nat.{ℕ, ◌<◌}
 use Rattle.layout.proofs.visit.+directory_check_entry_check.Goals as goal
 
 pub directory_check-end_type-requires : goal.directory_check-end_type-requires

@@ -1,7 +1,6 @@
 use mathlib.Core.Path.{◌∙◌}
 use native.Mathlib.Omega.{arith}
 use Rattle.layout.proofs.Walks.Visits.{self-number, self-field, child_entry-beyond, child_entry-size, child_entry-name}
-use borrow.Author.Rules.{rules}
 use Rattle.layout.proofs.visit.child_matches.Goals as goal
 
 pub number_at-b-requires : goal.number_at-b-requires

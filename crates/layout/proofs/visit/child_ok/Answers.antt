@@ -2,7 +2,6 @@ use mathlib.Core.Bool.{true, false}
 use mathlib.Core.Path.{◌≡◌, sym, ◌∙◌}
 use borrow.Author.Tests.{not-true, not-false}
 use Rattle.layout.proofs.Walks.Visits.{follow_child-other, follow_child-same, child_entry-below}
-use borrow.Author.Rules.{rules}
 use Rattle.layout.proofs.visit.child_ok.Goals as goal
 
 pub returns-then-not-child_matches : goal.returns-then-not-child_matches

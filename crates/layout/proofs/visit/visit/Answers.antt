@@ -1,4 +1,3 @@
-use borrow.Author.Rules.{rules}
 use Rattle.layout.proofs.Laws.Bytes.{zeros-own}
 use Rattle.layout.proofs.visit.visit.Goals as goal
 

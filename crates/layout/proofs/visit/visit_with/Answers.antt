@@ -4,7 +4,6 @@ use mathlib.Core.Path.{◌≡◌, sym, ◌∙◌}
 use native.Mathlib.Omega.{arith}
 use borrow.Author.Tests.{not-true, not-false}
 use Rattle.layout.proofs.Walks.Visits.{walk_root-refused, walk_root-down, directory-at}
-use borrow.Author.Rules.{rules}
 use Rattle.layout.proofs.visit.visit_with.Goals as goal
 
 pub overflow_add-root : goal.overflow_add-root

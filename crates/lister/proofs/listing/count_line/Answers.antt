@@ -10,7 +10,6 @@ use Rattle.layout.specs.Geometry.{block_count}
 use Rattle.layout.specs.Listing.{decimal, count_line}
 use Rattle.lister.proofs.Pieces.{Pending, begin, room, more, last}
 use Rattle.lister.proofs.Lines.{after_total, after_used, count-pieces}
-use borrow.Author.Rules.{rules}
 use Rattle.lister.proofs.listing.count_line.Goals as goal
 
 module _ (s : List ℕ) {o : List ℕ} {u f : ℕ} (h : length (count_line s) ≤ length o) (eu : u ≡ be32 s 20) (ef : f ≡ be32 s 24) where

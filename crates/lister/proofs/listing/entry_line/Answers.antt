@@ -10,7 +10,6 @@ use Rattle.layout.specs.Walks.Slots.{entry_at}
 use Rattle.layout.specs.Listing.{entry_line, decimal, printed}
 use Rattle.lister.proofs.Pieces.{Pending, begin, room, more, last}
 use Rattle.lister.proofs.Lines.{after_slot, after_size, entry-pieces}
-use borrow.Author.Rules.{rules}
 use Rattle.lister.proofs.listing.entry_line.Goals as goal
 
 module _ (s : List ℕ) (e k : ℕ) {o : List ℕ} {at size blocks : ℕ} {field : List ℕ} (h : at + length (entry_line s e k) ≤ length o)

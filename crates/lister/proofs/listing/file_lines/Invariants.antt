@@ -1,12 +1,8 @@
-use mathlib.Core.Path.{refl}
-use Prim.Native.Nat.{◌+◌, ◌-◌, ◌*◌}
-use native.Mathlib.Omega.{arith}
+use Prim.Native.Nat.{◌-◌, ◌*◌}
 use Rattle.layout.specs.Table.{next, chain}
-use Rattle.lister.specs.Text.{slot_line, slot_lines}
-use Rattle.lister.proofs.Pieces.{Pending, begin, room, more, finish}
-use Rattle.lister.proofs.Lines.{lines_end, lines-turn}
-use Rattle.layout.specs.Walks.Slots.{Place, entry_at}
-use Rattle.layout.proofs.Walks.Slots.{place-below, place-then, place-first}
+use Rattle.lister.specs.Text.{slot_lines}
+use Rattle.lister.proofs.Pieces.{Pending}
+use Rattle.layout.specs.Walks.Slots.{Place}
 use Rattle.lister.proofs.listing.file_lines.Given as goal
 
 abbrev pub invariant-loop-left : goal.invariant-loop-left

@@ -1,6 +1,5 @@
 use lib.ListN.{length}
 use borrow.Author.Tests.{lt-leb, le-leb}
-use borrow.Author.Rules.{rules}
 use Rattle.lister.proofs.listing.refusal.Goals as goal
 
 pub returns-then-image-gt-MAX_LISTED : goal.returns-then-image-gt-MAX_LISTED

@@ -4,7 +4,6 @@ use native.Mathlib.Omega.{arith}
 use Rattle.layout.specs.Listing.{decimal, refused_line}
 use Rattle.lister.proofs.Pieces.{begin, room, more, last}
 use Rattle.lister.proofs.Lines.{refused-pieces}
-use borrow.Author.Rules.{rules}
 use Rattle.lister.proofs.listing.refused_line.Goals as goal
 
 pub put_labelled-p-requires : goal.put_labelled-p-requires

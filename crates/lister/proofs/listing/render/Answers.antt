@@ -2,7 +2,6 @@ use native.Mathlib.Omega.{arith}
 use Rattle.lister.proofs.Pieces.{at-start}
 use Rattle.lister.proofs.Lines.{refused-listing, listed-sound, accepted-listing}
 use Rattle.lister.proofs.Bounds.{refused-short, list-short}
-use borrow.Author.Rules.{rules}
 use Rattle.lister.proofs.listing.render.Goals as goal
 
 pub refused_line-requires : goal.refused_line-requires

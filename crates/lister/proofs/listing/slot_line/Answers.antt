@@ -2,7 +2,6 @@ use mathlib.Core.Path.{◌≡◌, refl, sym, ◌∙◌}
 use mathlib.Core.Bool.{true, false}
 use Rattle.lister.proofs.Pieces.{begin, last, finish}
 use Rattle.lister.proofs.Lines.{slot-none, slot-file}
-use borrow.Author.Rules.{rules}
 use Rattle.layout.specs.Walks.Slots.{entry_at}
 use Rattle.lister.proofs.listing.slot_line.Goals as goal
 

@@ -3,7 +3,6 @@ use mathlib.Core.List.{[]}
 use Prim.Native.Nat.{◌+◌}
 use lib.ListN.{set}
 use native.Mathlib.Omega.{arith}
-use borrow.Author.Rules.{rules}
 use Rattle.layout.proofs.Laws.Bytes.{splice-cons, splice-nil}
 use Rattle.lister.proofs.text.put_byte.Goals as goal
 

@@ -3,7 +3,6 @@ use lib.ListN.{length}
 use lib.Seq.{take_all}
 use native.Mathlib.Omega.{arith}
 use Rattle.layout.specs.Bytes.{splice}
-use borrow.Author.Rules.{rules}
 use Rattle.lister.proofs.text.put_bytes.Goals as goal
 
 pub returns : goal.returns

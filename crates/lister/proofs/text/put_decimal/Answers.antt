@@ -1,5 +1,4 @@
 use Rattle.layout.specs.Listing.{decimal}
-use borrow.Author.Rules.{rules}
 use Rattle.lister.proofs.text.put_decimal.Goals as goal
 
 pub put_digits-requires : goal.put_digits-requires

@@ -1,7 +1,6 @@
 use mathlib.Core.Path.{refl}
 use Rattle.layout.specs.Listing.{decimal}
 use Rattle.lister.proofs.Pieces.{begin, room, more, last}
-use borrow.Author.Rules.{rules}
 use Rattle.lister.proofs.text.put_labelled.Goals as goal
 
 pub put_bytes-p-requires : goal.put_bytes-p-requires

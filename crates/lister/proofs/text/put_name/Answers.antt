@@ -1,13 +1,8 @@
-use mathlib.Core.Path.{◌≡◌, refl}
+use mathlib.Core.Path.{refl}
 use mathlib.Core.List.{[], ◌∷◌}
-use Prim.Native.Nat.{◌≤◌, ◌-◌}
 use native.Mathlib.Omega.{arith}
-use lib.ListN.{length, drop}
-use Rattle.layout.specs.Directory.{unpadded}
-use Rattle.layout.specs.Listing.{printed}
-use Rattle.lister.proofs.Pieces.{Pending, begin, room, more, finish}
+use Rattle.lister.proofs.Pieces.{begin, room, more, finish}
 use Rattle.lister.proofs.Lines.{name-end, name-stop, name-more}
-use borrow.Author.Rules.{rules}
 use Rattle.lister.proofs.text.put_name.Goals as goal
 
 pub loop-i-init : goal.loop-i-init

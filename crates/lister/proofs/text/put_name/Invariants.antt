@@ -1,13 +1,9 @@
-use mathlib.Core.Path.{◌≡◌, refl}
-use mathlib.Core.List.{[], ◌∷◌}
+use mathlib.Core.Path.{◌≡◌}
 use Prim.Native.Nat.{◌≤◌, ◌-◌}
-use native.Mathlib.Omega.{arith}
 use lib.ListN.{length, drop}
 use Rattle.layout.specs.Directory.{unpadded}
 use Rattle.layout.specs.Listing.{printed}
-use Rattle.lister.proofs.Pieces.{Pending, begin, room, more, finish}
-use Rattle.lister.proofs.Lines.{name-end, name-stop, name-more}
-use borrow.Author.Rules.{rules}
+use Rattle.lister.proofs.Pieces.{Pending}
 use Rattle.lister.proofs.text.put_name.Given as goal
 
 abbrev pub invariant-loop-i : goal.invariant-loop-i

@@ -1,15 +1,9 @@
-use Prim.Native.Nat.{◌+◌, ◌-◌, ◌*◌, ◌≤◌}
-use mathlib.Core.List.{List}
-use mathlib.Core.Path.{◌≡◌, refl, sym, ap, ◌∙◌}
+use Prim.Native.Nat.{◌+◌, ◌-◌, ◌*◌}
+use mathlib.Core.Path.{refl, sym, ap, ◌∙◌}
 use native.Mathlib.Omega.{arith}
-use borrow.Author.Rules.{rules}
-use Rattle.layout.specs.Lists.{interval}
-use Rattle.layout.specs.Directory.{blocks_of, directory}
-use Rattle.plain_check.specs.Plain.{count, meet, meet_slots}
-use Rattle.plain_check.specs.Walks.{word}
-use Rattle.plain_check.proofs.Walks.Slots.{Place, place-first, place-next}
-use Rattle.plain_check.proofs.Walks.Meets.{down, meet-start, meet-end, meet-skip, meet-child, goes_down}
-use Prim.Native.Nat.{ℕ, ◌<◌}
+use Rattle.plain_check.proofs.Walks.Slots.{place-first, place-next}
+use Rattle.plain_check.proofs.Walks.Meets.{meet-start, meet-end, meet-skip, meet-child, goes_down}
+use Prim.Native.Nat.{ℕ}
 use Rattle.plain_check.proofs.check.+meet.Goals as goal
 
 pub overflow_mul-d : goal.overflow_mul-d

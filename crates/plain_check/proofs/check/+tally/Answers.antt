@@ -1,16 +1,10 @@
-use Prim.Native.Nat.{◌+◌, ◌-◌, ◌*◌, ◌≤◌}
-use mathlib.Core.List.{List}
+use Prim.Native.Nat.{◌+◌, ◌-◌, ◌*◌}
 use mathlib.Core.Logic.{inl}
-use mathlib.Core.Path.{◌≡◌, refl, ap}
+use mathlib.Core.Path.{refl, ap}
 use native.Mathlib.Omega.{arith}
-use borrow.Author.Rules.{rules}
-use Rattle.layout.specs.Directory.{blocks_of}
-use Rattle.plain_check.specs.declared.check.Question.{Question}
-use Rattle.plain_check.specs.Plain.{ask_tree, answer}
-use Rattle.plain_check.specs.Walks.{word}
-use Rattle.plain_check.proofs.Walks.Slots.{Place, place-first, place-next}
-use Rattle.plain_check.proofs.Walks.Tallies.{Sofar, sofar-over, sofar-end, sofar-more, sofar-down, rest, tally-start, rest_end, rest-skip, rest-child, goes_down}
-use Prim.Native.Nat.{ℕ, ◌<◌}
+use Rattle.plain_check.proofs.Walks.Slots.{place-first, place-next}
+use Rattle.plain_check.proofs.Walks.Tallies.{sofar-over, sofar-end, sofar-more, sofar-down, tally-start, rest_end, rest-skip, rest-child, goes_down}
+use Prim.Native.Nat.{ℕ}
 use Rattle.plain_check.proofs.check.+tally.Goals as goal
 
 pub overflow_mul-d : goal.overflow_mul-d

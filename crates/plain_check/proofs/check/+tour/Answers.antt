@@ -1,18 +1,11 @@
-use Prim.Native.Nat.{◌+◌, ◌-◌, ◌*◌, ◌≤◌}
+use Prim.Native.Nat.{◌+◌, ◌-◌, ◌*◌}
 use mathlib.Core.Bool.{true, false, ◌&&◌}
-use mathlib.Core.List.{List}
 use mathlib.Core.Path.{◌≡◌, refl, sym, ap, ◌∙◌}
 use native.Mathlib.Omega.{arith}
-use borrow.Author.Rules.{rules}
-use borrow.Author.Tests.{not-true, not-false}
-use Rattle.layout.specs.Lists.{interval}
-use Rattle.layout.specs.Directory.{slot_at, blocks_of, directory}
-use Rattle.layout.specs.Check.{slot_ok}
+use Rattle.layout.specs.Directory.{blocks_of}
 use Rattle.layout.proofs.Laws.Tests.{and_split}
 use Rattle.layout.proofs.Laws.Trees.{length-directory}
-use Rattle.plain_check.specs.Plain.{tour_slots, tour_entries, tour_child}
-use Rattle.plain_check.specs.Walks.{word}
-use Rattle.plain_check.proofs.Walks.Slots.{Place, place-first, place-next}
+use Rattle.plain_check.proofs.Walks.Slots.{place-first, place-next}
 use Rattle.plain_check.proofs.Walks.Tallies.{goes_down}
 use Rattle.plain_check.proofs.Walks.Tours.{stands-first, end-slot, slot-inside, slot-tests, right-more, tour-unended, tour-slots, slots_end, slots-bad, slots-other, slots-stop, slots-down, child-bad, child-down, child-stands, child-fewer}
 use Prim.Native.Nat.{ℕ, ◌<◌}

@@ -2,7 +2,6 @@ use Prim.Native.Nat.{◌%◌}
 use native.Mathlib.Omega.{arith}
 use borrow.Author.Tests.{eq-eqb, ne_eqb}
 use Rattle.plain_check.specs.Walks.{after}
-use borrow.Author.Rules.{rules}
 use Rattle.plain_check.proofs.check.after.Goals as goal
 
 -- src/check.rt:53:9

@@ -1,8 +1,7 @@
-use Prim.Native.Nat.{ℕ, ◌-◌, ◌≤◌}
-use mathlib.Core.Path.{◌≡◌, sym, ap, ◌∙◌}
+use Prim.Native.Nat.{ℕ, ◌-◌}
+use mathlib.Core.Path.{sym, ap, ◌∙◌}
 use native.Mathlib.Omega.{arith}
 use Rattle.layout.specs.Lists.{interval, every}
-use Rattle.layout.specs.Geometry.{root_block}
 use Rattle.plain_check.specs.Plain.{counted}
 use Rattle.plain_check.proofs.Walks.Tests.{each-end, each-stop, each_next}
 use Rattle.plain_check.proofs.Walks.Stages.{counted-not, counted-so}

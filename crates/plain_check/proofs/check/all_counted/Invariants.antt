@@ -1,11 +1,8 @@
-use Prim.Native.Nat.{ℕ, ◌-◌, ◌≤◌}
-use mathlib.Core.Path.{◌≡◌, sym, ap, ◌∙◌}
-use native.Mathlib.Omega.{arith}
+use Prim.Native.Nat.{◌-◌, ◌≤◌}
+use mathlib.Core.Path.{◌≡◌}
 use Rattle.layout.specs.Lists.{interval, every}
 use Rattle.layout.specs.Geometry.{root_block}
 use Rattle.plain_check.specs.Plain.{counted}
-use Rattle.plain_check.proofs.Walks.Tests.{each-end, each-stop, each_next}
-use Rattle.plain_check.proofs.Walks.Stages.{counted-not, counted-so}
 use Rattle.plain_check.proofs.check.all_counted.Given as goal
 
 abbrev pub invariant-loop-b : goal.invariant-loop-b

@@ -4,7 +4,6 @@ use mathlib.Core.Path.{ap}
 use native.Mathlib.Omega.{arith}
 use Rattle.plain_check.specs.Plain.{one, answer}
 use Rattle.plain_check.proofs.Walks.Tests.{times-one}
-use borrow.Author.Rules.{rules}
 use Rattle.plain_check.proofs.check.ask.Goals as goal
 
 -- src/check.rt:317:33

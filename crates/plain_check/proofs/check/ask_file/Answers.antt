@@ -1,9 +1,7 @@
 use mathlib.Core.Bool.{true, false}
 use mathlib.Core.Path.{◌≡◌}
 use native.Mathlib.Omega.{arith}
-use borrow.Author.Tests.{not-true, not-false}
 use Rattle.plain_check.specs.Walks.{file_answer}
-use borrow.Author.Rules.{rules}
 use Rattle.plain_check.proofs.check.ask_file.Goals as goal
 
 -- src/check.rt:328:9

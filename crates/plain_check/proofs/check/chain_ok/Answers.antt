@@ -1,9 +1,6 @@
-use Prim.Native.Nat.{ℕ, ◌-◌, ◌≤◌, ◌<◌}
-use mathlib.Core.Bool.{◌&&◌}
-use mathlib.Core.Path.{◌≡◌}
+use Prim.Native.Nat.{ℕ}
 use native.Mathlib.Omega.{arith}
 use Rattle.layout.specs.Table.{next, ends_after}
-use Rattle.plain_check.specs.Walks.{word}
 use Rattle.plain_check.proofs.Walks.Tests.{from_first}
 use Rattle.plain_check.proofs.Walks.Chains.{ends_next, ends-all}
 use Rattle.plain_check.proofs.check.chain_ok.Goals as goal

@@ -1,11 +1,8 @@
-use Prim.Native.Nat.{ℕ, ◌-◌, ◌≤◌, ◌<◌}
+use Prim.Native.Nat.{◌-◌, ◌≤◌, ◌<◌}
 use mathlib.Core.Bool.{◌&&◌}
 use mathlib.Core.Path.{◌≡◌}
-use native.Mathlib.Omega.{arith}
 use Rattle.layout.specs.Table.{next, ends_after}
 use Rattle.plain_check.specs.Walks.{word}
-use Rattle.plain_check.proofs.Walks.Tests.{from_first}
-use Rattle.plain_check.proofs.Walks.Chains.{ends_next, ends-all}
 use Rattle.plain_check.proofs.check.chain_ok.Given as goal
 
 abbrev pub invariant-loop-i : goal.invariant-loop-i

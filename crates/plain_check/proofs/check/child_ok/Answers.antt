@@ -2,7 +2,6 @@ use mathlib.Core.Path.{◌∙◌}
 use native.Mathlib.Omega.{arith}
 use Rattle.plain_check.proofs.Walks.Tests.{taken, left}
 use Rattle.plain_check.proofs.Walks.Stage4.{child-all}
-use borrow.Author.Rules.{rules}
 use Rattle.plain_check.proofs.check.child_ok.Goals as goal
 
 pub same_name-requires : goal.same_name-requires

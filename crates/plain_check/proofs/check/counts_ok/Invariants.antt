@@ -1,11 +1,7 @@
-use mathlib.Core.Bool.{not}
-use lib.Dec.{eqb}
-use Rattle.plain_check.proofs.Walks.Tests.{one-few}
 use Prim.Native.Nat.{◌+◌, ◌-◌, ◌≤◌}
 use mathlib.Core.Path.{◌≡◌}
-use native.Mathlib.Omega.{arith}
 use Rattle.layout.specs.Table.{next, occupied}
-use Rattle.plain_check.proofs.Walks.Stages.{used_from, used_start, used-end, used-next, seven-all}
+use Rattle.plain_check.proofs.Walks.Stages.{used_from}
 use Rattle.plain_check.proofs.check.counts_ok.Given as goal
 
 abbrev pub invariant-loop-b : goal.invariant-loop-b

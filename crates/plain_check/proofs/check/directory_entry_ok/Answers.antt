@@ -1,5 +1,4 @@
 use Rattle.plain_check.proofs.Walks.Stage5.{entry-all}
-use borrow.Author.Rules.{rules}
 use Rattle.plain_check.proofs.check.directory_entry_ok.Goals as goal
 
 -- src/check.rt:233:1

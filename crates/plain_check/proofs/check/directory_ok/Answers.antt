@@ -1,7 +1,6 @@
 use mathlib.Core.Path.{◌∙◌}
 use Rattle.plain_check.proofs.Walks.Tests.{taken, left}
 use Rattle.plain_check.proofs.Walks.Stage4.{four-all}
-use borrow.Author.Rules.{rules}
 use Rattle.plain_check.proofs.check.directory_ok.Goals as goal
 
 -- src/check.rt:125:1

@@ -1,11 +1,8 @@
 use Prim.Native.Nat.{◌-◌, ◌≤◌}
-use mathlib.Core.Path.{◌≡◌, refl, sym, ◌∙◌}
-use native.Mathlib.Omega.{arith}
+use mathlib.Core.Path.{◌≡◌}
 use lib.Dec.{eqb}
 use Rattle.layout.specs.Lists.{interval, every}
 use Rattle.layout.specs.Table.{next}
-use Rattle.plain_check.proofs.Walks.Tests.{each-end, each-stop, each_next}
-use Rattle.plain_check.proofs.Walks.Stages.{value-is, value_not}
 use Rattle.plain_check.proofs.check.entries_are.Given as goal
 
 abbrev pub invariant-loop-x : goal.invariant-loop-x

@@ -1,5 +1,4 @@
 use Rattle.plain_check.proofs.Walks.Stage5.{file-all}
-use borrow.Author.Rules.{rules}
 use Rattle.plain_check.proofs.check.file_ok.Goals as goal
 
 -- src/check.rt:219:1

@@ -1,9 +1,8 @@
-use Prim.Native.Nat.{ℕ, ◌-◌, ◌≤◌, ◌<◌}
-use mathlib.Core.Path.{◌≡◌, sym, ap, ◌∙◌}
+use Prim.Native.Nat.{ℕ}
+use mathlib.Core.Path.{sym, ap, ◌∙◌}
 use native.Mathlib.Omega.{arith}
 use Rattle.layout.specs.Table.{next}
 use Rattle.plain_check.specs.Plain.{one, holds}
-use Rattle.plain_check.specs.Walks.{word}
 use Rattle.plain_check.proofs.Walks.Tests.{from_first}
 use Rattle.plain_check.proofs.Walks.Chains.{holds-end, holds-stop, holds-next}
 use Rattle.plain_check.proofs.check.holds.Goals as goal

@@ -1,11 +1,8 @@
-use Prim.Native.Nat.{ℕ, ◌-◌, ◌≤◌, ◌<◌}
-use mathlib.Core.Path.{◌≡◌, sym, ap, ◌∙◌}
-use native.Mathlib.Omega.{arith}
+use Prim.Native.Nat.{◌-◌, ◌≤◌, ◌<◌}
+use mathlib.Core.Path.{◌≡◌}
 use Rattle.layout.specs.Table.{next}
-use Rattle.plain_check.specs.Plain.{one, holds}
+use Rattle.plain_check.specs.Plain.{holds}
 use Rattle.plain_check.specs.Walks.{word}
-use Rattle.plain_check.proofs.Walks.Tests.{from_first}
-use Rattle.plain_check.proofs.Walks.Chains.{holds-end, holds-stop, holds-next}
 use Rattle.plain_check.proofs.check.holds.Given as goal
 
 abbrev pub invariant-loop-i : goal.invariant-loop-i

@@ -1,10 +1,8 @@
 use Prim.Native.Nat.{◌-◌, ◌≤◌, ◌<◌}
-use mathlib.Core.Path.{◌≡◌, refl}
-use native.Mathlib.Omega.{arith}
+use mathlib.Core.Path.{◌≡◌}
 use Rattle.layout.specs.Table.{next}
 use Rattle.layout.proofs.Laws.Chains.{nth}
 use Rattle.plain_check.specs.Walks.{word}
-use Rattle.plain_check.proofs.Walks.Chains.{last_end, last-next}
 use Rattle.plain_check.proofs.check.last_block.Given as goal
 
 abbrev pub invariant-loop-i : goal.invariant-loop-i

@@ -1,11 +1,7 @@
-use Prim.Native.Nat.{◌+◌, ◌-◌, ◌≤◌}
-use mathlib.Core.Bool.{◌&&◌}
-use mathlib.Core.Path.{◌≡◌, refl, sym, ◌∙◌}
+use mathlib.Core.Path.{refl, sym, ◌∙◌}
 use native.Mathlib.Omega.{arith}
-use Rattle.layout.specs.Lists.{interval, every}
-use Rattle.layout.specs.Directory.{name_ok}
 use Rattle.plain_check.proofs.Walks.Tests.{each_more, each_none}
-use Rattle.plain_check.proofs.Walks.Names.{follows, follows_is, name-all}
+use Rattle.plain_check.proofs.Walks.Names.{follows_is, name-all}
 use Rattle.plain_check.proofs.check.name_ok.Goals as goal
 
 -- src/check.rt:210:33

@@ -1,7 +1,7 @@
-use Prim.Native.Nat.{ℕ, ◌-◌, ◌≤◌, ◌<◌}
-use mathlib.Core.Path.{◌≡◌, sym, ◌∙◌}
+use Prim.Native.Nat.{ℕ}
+use mathlib.Core.Path.{sym, ◌∙◌}
 use native.Mathlib.Omega.{arith}
-use Rattle.plain_check.specs.Walks.{word, new_from}
+use Rattle.plain_check.specs.Walks.{new_from}
 use Rattle.plain_check.proofs.Walks.Tests.{from_first}
 use Rattle.plain_check.proofs.Walks.Meets.{held-before, new-end, new-stop, new-next}
 use Rattle.plain_check.proofs.check.new_blocks.Goals as goal

@@ -1,11 +1,8 @@
-use borrow.Author.Rules.{rules}
-use Prim.Native.Nat.{◌+◌, ◌-◌, ◌≤◌}
-use mathlib.Core.Path.{◌≡◌, sym, ◌∙◌}
+use Prim.Native.Nat.{◌+◌, ◌-◌}
+use mathlib.Core.Path.{sym, ◌∙◌}
 use native.Mathlib.Omega.{arith}
-use Rattle.layout.specs.Directory.{directory}
-use Rattle.plain_check.specs.Walks.{new_field}
-use Rattle.plain_check.proofs.Walks.Slots.{Place, place-first, place-next}
-use Rattle.plain_check.proofs.Walks.Stage5.{others, other-start, other-end, other-clash, other-next}
+use Rattle.plain_check.proofs.Walks.Slots.{place-first, place-next}
+use Rattle.plain_check.proofs.Walks.Stage5.{other-start, other-end, other-clash, other-next}
 use Rattle.plain_check.proofs.check.new_name.Goals as goal
 
 -- src/check.rt:257:17

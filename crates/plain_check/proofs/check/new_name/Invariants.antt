@@ -1,11 +1,9 @@
-use borrow.Author.Rules.{rules}
-use Prim.Native.Nat.{◌+◌, ◌-◌, ◌≤◌}
-use mathlib.Core.Path.{◌≡◌, sym, ◌∙◌}
-use native.Mathlib.Omega.{arith}
+use Prim.Native.Nat.{◌-◌, ◌≤◌}
+use mathlib.Core.Path.{◌≡◌}
 use Rattle.layout.specs.Directory.{directory}
 use Rattle.plain_check.specs.Walks.{new_field}
-use Rattle.plain_check.proofs.Walks.Slots.{Place, place-first, place-next}
-use Rattle.plain_check.proofs.Walks.Stage5.{others, other-start, other-end, other-clash, other-next}
+use Rattle.plain_check.proofs.Walks.Slots.{Place}
+use Rattle.plain_check.proofs.Walks.Stage5.{others}
 use Rattle.plain_check.proofs.check.new_name.Given as goal
 
 abbrev pub invariant-loop-j : goal.invariant-loop-j

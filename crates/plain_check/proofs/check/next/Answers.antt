@@ -1,5 +1,4 @@
 use Rattle.layout.specs.Table.{next}
-use borrow.Author.Rules.{rules}
 use Rattle.plain_check.proofs.check.next.Goals as goal
 
 -- src/check.rt:53:1

@@ -1,6 +1,5 @@
 use native.Mathlib.Omega.{arith}
 use Rattle.layout.specs.Bytes.{be32}
-use borrow.Author.Rules.{rules}
 use Rattle.plain_check.proofs.check.number.Goals as goal
 
 -- src/check.rt:30:1

@@ -1,5 +1,4 @@
 use Rattle.plain_check.proofs.Walks.Stages.{numbered-all}
-use borrow.Author.Rules.{rules}
 use Rattle.plain_check.proofs.check.numbered.Goals as goal
 
 -- src/check.rt:116:1

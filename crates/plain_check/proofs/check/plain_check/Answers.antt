@@ -1,10 +1,8 @@
 use mathlib.Core.Path.{sym, ◌∙◌}
 use native.Mathlib.Omega.{arith}
-use borrow.Author.Tests.{not-true, not-false}
 use Rattle.plain_check.proofs.Theorems.{plain-is-check}
 use Rattle.plain_check.proofs.Walks.Stage4.{four-stands}
 use Rattle.plain_check.proofs.Walks.Stages.{sized-volume, root-refused, root-toured, plain-1, plain-2, plain-3, plain-tree, plain-6, plain-7, plain-0}
-use borrow.Author.Rules.{rules}
 use Rattle.plain_check.proofs.check.plain_check.Goals as goal
 
 pub returns-then-not-sized : goal.returns-then-not-sized

@@ -1,9 +1,6 @@
-use Prim.Native.Nat.{◌+◌, ◌-◌, ◌≤◌}
-use mathlib.Core.Path.{◌≡◌, refl, sym, ◌∙◌}
+use Prim.Native.Nat.{◌+◌}
+use mathlib.Core.Path.{refl, sym, ◌∙◌}
 use native.Mathlib.Omega.{arith}
-use lib.Dec.{eqb}
-use lib.ListN.{get_or}
-use Rattle.layout.specs.Lists.{interval, every}
 use Rattle.plain_check.specs.Walks.{same_field}
 use Rattle.plain_check.proofs.Walks.Tests.{each-end, each-stop, each_next}
 use Rattle.plain_check.proofs.Walks.Names.{byte-same, byte-other}

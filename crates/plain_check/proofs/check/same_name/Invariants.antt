@@ -1,12 +1,9 @@
 use Prim.Native.Nat.{◌+◌, ◌-◌, ◌≤◌}
-use mathlib.Core.Path.{◌≡◌, refl, sym, ◌∙◌}
-use native.Mathlib.Omega.{arith}
+use mathlib.Core.Path.{◌≡◌}
 use lib.Dec.{eqb}
 use lib.ListN.{get_or}
 use Rattle.layout.specs.Lists.{interval, every}
 use Rattle.plain_check.specs.Walks.{same_field}
-use Rattle.plain_check.proofs.Walks.Tests.{each-end, each-stop, each_next}
-use Rattle.plain_check.proofs.Walks.Names.{byte-same, byte-other}
 use Rattle.plain_check.proofs.check.same_name.Given as goal
 
 abbrev pub invariant-loop-i : goal.invariant-loop-i

@@ -1,7 +1,6 @@
 use native.Mathlib.Omega.{arith}
 use lib.ListN.{length-take}
 use Rattle.layout.specs.Check.{stage2}
-use borrow.Author.Rules.{rules}
 use Rattle.plain_check.proofs.check.signed.Goals as goal
 
 -- src/check.rt:112:26

@@ -1,5 +1,4 @@
 use Rattle.layout.specs.Check.{stage1}
-use borrow.Author.Rules.{rules}
 use Rattle.plain_check.proofs.check.sized.Goals as goal
 
 -- src/check.rt:100:1

@@ -1,5 +1,4 @@
 use Rattle.plain_check.proofs.Walks.Stage5.{slot-all}
-use borrow.Author.Rules.{rules}
 use Rattle.plain_check.proofs.check.slot_ok.Goals as goal
 
 -- src/check.rt:242:1

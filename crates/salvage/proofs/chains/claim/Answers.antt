@@ -1,5 +1,4 @@
 use native.Mathlib.Omega.{arith}
-use borrow.Author.Rules.{rules}
 use Rattle.salvage.proofs.Walks.Claims.{claimed-all, claimed-none}
 use Rattle.salvage.proofs.chains.claim.Goals as goal
 

@@ -3,7 +3,6 @@ use mathlib.Core.Path.{sym, ap, ◌∙◌}
 use Rattle.salvage.proofs.Walks.Turns.{ended-left, ended-set}
 use Prim.Native.Nat.{ℕ, ◌-◌}
 use Rattle.layout.specs.Table.{set_next}
-use borrow.Author.Rules.{rules}
 use Rattle.salvage.proofs.Walks.Claims.{ends-none, ends-right, ends-wrong, last-is}
 use Rattle.salvage.proofs.chains.end_chain.Goals as goal
 

@@ -1,8 +1,6 @@
 use native.Mathlib.Omega.{arith}
 use mathlib.Core.Path.{refl, ◌∙◌}
-use Rattle.layout.specs.Table.{next, chain}
 use Rattle.layout.proofs.Walks.Shapes.{run-first}
-use Rattle.salvage.specs.Walks.{unmarked}
 use Rattle.salvage.proofs.Walks.Claims.{unmarking-end, unmarking-size, unmarking-turn, length-unmarked}
 use Rattle.salvage.proofs.chains.unmark.Goals as goal
 

@@ -1,7 +1,4 @@
-use native.Mathlib.Omega.{arith}
-use mathlib.Core.Path.{refl, ◌∙◌}
 use Rattle.layout.specs.Table.{next, chain}
-use Rattle.layout.proofs.Walks.Shapes.{run-first}
 use Rattle.salvage.specs.Walks.{unmarked}
 use Rattle.salvage.proofs.Walks.Claims.{Unmarking}
 use Rattle.salvage.proofs.chains.unmark.Given as goal

@@ -1,7 +1,5 @@
 use native.Mathlib.Omega.{arith}
-use Prim.Native.Nat.{◌-◌, ◌≤◌}
 use mathlib.Core.Logic.{inl, inr}
-use Rattle.layout.specs.Table.{next}
 use Rattle.salvage.proofs.Walks.Claims.{walking_start, walking-more, walked-outside, walked-marked, walked_all}
 use Rattle.salvage.proofs.chains.walk.Goals as goal
 

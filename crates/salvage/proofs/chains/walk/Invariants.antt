@@ -1,6 +1,4 @@
-use native.Mathlib.Omega.{arith}
 use Prim.Native.Nat.{◌-◌, ◌≤◌}
-use mathlib.Core.Logic.{inl, inr}
 use Rattle.layout.specs.Table.{next}
 use Rattle.salvage.proofs.Walks.Claims.{Walking}
 use Rattle.salvage.proofs.chains.walk.Given as goal

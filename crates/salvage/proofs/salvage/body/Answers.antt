@@ -1,6 +1,5 @@
 use mathlib.Core.Path.{sym, ◌∙◌}
 use Rattle.salvage.proofs.Walks.Refusals.{weighed-zero, refused, accepted}
-use borrow.Author.Rules.{rules}
 use native.Mathlib.Omega.{arith}
 use Rattle.salvage.proofs.salvage.body.Goals as goal
 

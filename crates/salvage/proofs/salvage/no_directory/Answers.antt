@@ -1,11 +1,8 @@
-use Prim.Native.Nat.{◌-◌, ◌*◌}
-use mathlib.Core.Path.{◌≡◌, refl, sym, ◌∙◌}
+use mathlib.Core.Path.{refl, sym, ◌∙◌}
 use native.Mathlib.Omega.{arith}
-use borrow.Author.Rules.{rules}
-use Rattle.layout.specs.Table.{next, chain}
-use Rattle.layout.specs.Walks.Slots.{Place, entry_at}
+use Rattle.layout.specs.Table.{next}
+use Rattle.layout.specs.Walks.Slots.{entry_at}
 use Rattle.layout.proofs.Walks.Slots.{place-below, place-entry, place-then, place-first}
-use Rattle.salvage.specs.Walks.{no_directory}
 use Rattle.salvage.proofs.Walks.Refusals.{plain_end, plain-next, plain-stop}
 use Rattle.salvage.proofs.salvage.no_directory.Goals as goal
 

@@ -5,7 +5,6 @@ use native.Mathlib.Omega.{arith}
 use borrow.Author.Tests.{not-true, not-false}
 use Rattle.layout.proofs.Walks.Visits.{directory-at}
 use Rattle.salvage.proofs.Walks.Refusals.{weighed-root, weighed-directory, weighed-short, weighed-none}
-use borrow.Author.Rules.{rules}
 use Rattle.salvage.proofs.salvage.refusal.Goals as goal
 
 pub returns-then-not-directory_ok : goal.returns-then-not-directory_ok

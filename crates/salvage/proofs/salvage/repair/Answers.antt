@@ -1,6 +1,5 @@
 use mathlib.Core.Path.{refl}
 use Rattle.salvage.proofs.Walks.Refusals.{steps-room, steps-given, steps-length, steps-stored, steps-root, steps-image, steps-report}
-use borrow.Author.Rules.{rules}
 use native.Mathlib.Omega.{arith}
 use Rattle.salvage.proofs.salvage.repair.Goals as goal
 

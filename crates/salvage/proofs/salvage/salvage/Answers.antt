@@ -1,4 +1,3 @@
-use borrow.Author.Rules.{rules}
 use mathlib.Core.Path.{◌≡◌, sym, ◌∙◌}
 use Rattle.layout.specs.Walks.Stages.{head_stage}
 use Rattle.layout.proofs.Walks.Stages.{stage1-shape}

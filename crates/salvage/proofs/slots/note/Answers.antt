@@ -3,7 +3,6 @@ use Prim.Native.Nat.{ℕ}
 use lib.ListN.{set}
 use Rattle.layout.specs.Walks.Names.{fingerprint}
 use Rattle.layout.proofs.Walks.Fingerprints.{field-long}
-use borrow.Author.Rules.{rules}
 use Rattle.salvage.proofs.slots.note.Goals as goal
 
 pub fingerprint-requires : goal.fingerprint-requires

@@ -3,7 +3,6 @@ use mathlib.Core.Bool.{true, false}
 use borrow.Author.Tests.{not-true, not-false}
 use Rattle.layout.proofs.Walks.Fingerprints.{new_name-used}
 use Rattle.salvage.proofs.Walks.Slots.{right-first, right-both}
-use borrow.Author.Rules.{rules}
 use Rattle.salvage.proofs.slots.slot_right.Goals as goal
 
 pub returns-then-not-slot_ok_at : goal.returns-then-not-slot_ok_at

@@ -1,7 +1,7 @@
 use native.Mathlib.Omega.{arith}
-use lib.ListN.{length, length-set}
-use mathlib.Core.Path.{◌≡◌, refl, ◌∙◌}
-use Rattle.salvage.proofs.Walks.Root.{Taking, taking-start, taking-shape, taking-below, taking-slot, taking-given, taking-turn, taking-end, root-size, root-room}
+use lib.ListN.{length-set}
+use mathlib.Core.Path.{refl, ◌∙◌}
+use Rattle.salvage.proofs.Walks.Root.{taking-start, taking-shape, taking-below, taking-slot, taking-given, taking-turn, taking-end, root-size, root-room}
 use Rattle.salvage.proofs.slots.take_each.Goals as goal
 
 pub overflow_mul-left : goal.overflow_mul-left

@@ -1,7 +1,6 @@
-use native.Mathlib.Omega.{arith}
-use lib.ListN.{length, length-set}
-use mathlib.Core.Path.{◌≡◌, refl, ◌∙◌}
-use Rattle.salvage.proofs.Walks.Root.{Taking, taking-start, taking-shape, taking-below, taking-slot, taking-given, taking-turn, taking-end, root-size, root-room}
+use lib.ListN.{length}
+use mathlib.Core.Path.{◌≡◌}
+use Rattle.salvage.proofs.Walks.Root.{Taking}
 use Rattle.salvage.proofs.slots.take_each.Given as goal
 
 abbrev pub invariant-loop-left : goal.invariant-loop-left

@@ -4,7 +4,6 @@ use borrow.Author.Tests.{not-true, not-false}
 use Rattle.layout.specs.Walks.Slots.{entry_at}
 use Rattle.layout.proofs.Walks.Shapes.{shape-block_count}
 use Rattle.salvage.proofs.Walks.Slots.{claimed-as, file-cleared, file-kept}
-use borrow.Author.Rules.{rules}
 use Rattle.salvage.proofs.slots.take_file.Goals as goal
 
 pub end_chain-own-requires : goal.end_chain-own-requires

@@ -6,7 +6,6 @@ use Rattle.layout.specs.Table.{next, chain}
 use Rattle.layout.specs.Walks.Slots.{entry_at}
 use Rattle.layout.proofs.Walks.Shapes.{shape-block_count}
 use Rattle.salvage.proofs.Walks.Slots.{claimed-as, taken_free, taken-broken, taken-lost, taken-file}
-use borrow.Author.Rules.{rules}
 use Rattle.salvage.proofs.slots.take_slot.Goals as goal
 
 pub returns-then-type_at-eq0 : goal.returns-then-type_at-eq0

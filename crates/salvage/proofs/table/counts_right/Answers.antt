@@ -1,6 +1,5 @@
 use native.Mathlib.Omega.{arith}
 use Rattle.salvage.proofs.Walks.Table.{counts-wrong, counts-are}
-use borrow.Author.Rules.{rules}
 use Rattle.salvage.proofs.table.counts_right.Goals as goal
 
 pub returns-then-header_number-used : goal.returns-then-header_number-used

@@ -1,7 +1,6 @@
 use native.Mathlib.Omega.{arith}
-use mathlib.Core.Path.{◌≡◌, refl, ◌∙◌}
-use Prim.Native.Nat.{◌+◌}
-use Rattle.salvage.proofs.Walks.Table.{Freeing, freeing-end, freeing-turn}
+use mathlib.Core.Path.{refl, ◌∙◌}
+use Rattle.salvage.proofs.Walks.Table.{freeing-end, freeing-turn}
 use Rattle.salvage.proofs.table.free_entries.Goals as goal
 
 pub loop-left-init : goal.loop-left-init

@@ -1,7 +1,6 @@
-use native.Mathlib.Omega.{arith}
-use mathlib.Core.Path.{◌≡◌, refl, ◌∙◌}
+use mathlib.Core.Path.{◌≡◌}
 use Prim.Native.Nat.{◌+◌}
-use Rattle.salvage.proofs.Walks.Table.{Freeing, freeing-end, freeing-turn}
+use Rattle.salvage.proofs.Walks.Table.{Freeing}
 use Rattle.salvage.proofs.table.free_entries.Given as goal
 
 abbrev pub invariant-loop-left : goal.invariant-loop-left

@@ -4,7 +4,6 @@ use Prim.Native.Nat.{ℕ}
 use mathlib.Core.List.{List}
 use Rattle.layout.specs.Table.{set_next}
 use Rattle.salvage.proofs.Walks.Table.{freed-marked, freed-free, freed-padding, freed-block}
-use borrow.Author.Rules.{rules}
 use Rattle.salvage.proofs.table.free_entry.Goals as goal
 
 pub returns-then-marks-b-ne0 : goal.returns-then-marks-b-ne0

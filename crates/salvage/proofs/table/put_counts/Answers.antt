@@ -1,7 +1,6 @@
 use mathlib.Core.Path.{◌≡◌, sym, ◌∙◌}
 use mathlib.Core.Bool.{false}
 use Rattle.salvage.proofs.Walks.Table.{counts-stay, counts-set}
-use borrow.Author.Rules.{rules}
 use Rattle.salvage.proofs.table.put_counts.Goals as goal
 
 pub returns-then-counts_right : goal.returns-then-counts_right

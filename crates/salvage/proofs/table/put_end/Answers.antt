@@ -4,7 +4,6 @@ use mathlib.Core.Path.{sym, ap, ◌∙◌}
 use mathlib.Core.Bool.{Bool, cond}
 use Rattle.layout.specs.Table.{next, chain}
 use Rattle.salvage.proofs.Walks.Table.{end-right, end-wrong, end-stored, end_kept}
-use borrow.Author.Rules.{rules}
 use Rattle.salvage.proofs.table.put_end.Goals as goal
 
 pub type_at-requires : goal.type_at-requires

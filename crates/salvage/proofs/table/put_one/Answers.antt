@@ -1,7 +1,6 @@
 use mathlib.Core.Path.{sym, ◌∙◌}
 use borrow.Author.Tests.{eq-eqb, ne_eqb}
 use Rattle.salvage.proofs.Walks.Turns.{one_left, one_set}
-use borrow.Author.Rules.{rules}
 use Rattle.salvage.proofs.table.put_one.Goals as goal
 
 pub returns-then-entry-eq1 : goal.returns-then-entry-eq1

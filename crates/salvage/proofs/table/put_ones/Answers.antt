@@ -1,10 +1,7 @@
 use native.Mathlib.Omega.{arith}
-use lib.ListN.{length}
-use mathlib.Core.Path.{◌≡◌, refl, sym, ◌∙◌}
-use Rattle.layout.specs.Lists.{interval}
-use Rattle.salvage.specs.Salvage.{one_at, in_turn}
+use mathlib.Core.Path.{refl, sym, ◌∙◌}
+use Rattle.salvage.specs.Salvage.{one_at}
 use Rattle.salvage.proofs.Walks.Table.{turn_last, turn_more}
-use Prim.Native.Nat.{◌+◌}
 use Rattle.salvage.proofs.table.put_ones.Goals as goal
 
 pub loop-left-init : goal.loop-left-init

@@ -1,9 +1,7 @@
-use native.Mathlib.Omega.{arith}
 use lib.ListN.{length}
-use mathlib.Core.Path.{◌≡◌, refl, sym, ◌∙◌}
+use mathlib.Core.Path.{◌≡◌}
 use Rattle.layout.specs.Lists.{interval}
 use Rattle.salvage.specs.Salvage.{one_at, in_turn}
-use Rattle.salvage.proofs.Walks.Table.{turn_last, turn_more}
 use Prim.Native.Nat.{◌+◌}
 use Rattle.salvage.proofs.table.put_ones.Given as goal
 

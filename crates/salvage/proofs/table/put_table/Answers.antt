@@ -1,5 +1,4 @@
 use Rattle.salvage.proofs.Walks.Table.{table-put}
-use borrow.Author.Rules.{rules}
 use Rattle.salvage.proofs.table.put_table.Goals as goal
 
 pub returns : goal.returns

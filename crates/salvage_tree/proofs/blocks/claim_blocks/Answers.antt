@@ -1,7 +1,5 @@
 use native.Mathlib.Omega.{arith}
-use Prim.Native.Nat.{◌-◌, ◌≤◌}
-use lib.ListN.{length}
-use Rattle.salvage_tree.proofs.Walks.Blocks.{Claiming, claiming-start, claiming-more, claiming-end}
+use Rattle.salvage_tree.proofs.Walks.Blocks.{claiming-start, claiming-more, claiming-end}
 use Rattle.salvage_tree.proofs.blocks.claim_blocks.Goals as goal
 
 pub loop-i-init : goal.loop-i-init

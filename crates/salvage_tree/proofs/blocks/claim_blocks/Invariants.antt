@@ -1,7 +1,6 @@
-use native.Mathlib.Omega.{arith}
 use Prim.Native.Nat.{◌-◌, ◌≤◌}
 use lib.ListN.{length}
-use Rattle.salvage_tree.proofs.Walks.Blocks.{Claiming, claiming-start, claiming-more, claiming-end}
+use Rattle.salvage_tree.proofs.Walks.Blocks.{Claiming}
 use Rattle.salvage_tree.proofs.blocks.claim_blocks.Given as goal
 
 abbrev pub invariant-loop-i : goal.invariant-loop-i

@@ -1,4 +1,3 @@
-use borrow.Author.Rules.{rules}
 use Rattle.salvage_tree.proofs.Walks.Blocks.{ends-typed, ends-valued}
 use Rattle.salvage_tree.proofs.blocks.ends_in.Goals as goal
 

@@ -1,10 +1,5 @@
 use native.Mathlib.Omega.{arith}
-use Prim.Native.Nat.{◌-◌, ◌≤◌}
-use mathlib.Core.Bool.{false}
-use mathlib.Core.Path.{◌≡◌, refl}
-use lib.Dec.{eqb}
-use lib.ListN.{take}
-use Rattle.layout.specs.Lists.{has}
+use mathlib.Core.Path.{refl}
 use Rattle.salvage_tree.proofs.Walks.Blocks.{met-more, met-found, met-none}
 use Rattle.salvage_tree.proofs.blocks.is_met.Goals as goal
 

@@ -1,11 +1,9 @@
-use native.Mathlib.Omega.{arith}
 use Prim.Native.Nat.{◌-◌, ◌≤◌}
 use mathlib.Core.Bool.{false}
-use mathlib.Core.Path.{◌≡◌, refl}
+use mathlib.Core.Path.{◌≡◌}
 use lib.Dec.{eqb}
 use lib.ListN.{take}
 use Rattle.layout.specs.Lists.{has}
-use Rattle.salvage_tree.proofs.Walks.Blocks.{met-more, met-found, met-none}
 use Rattle.salvage_tree.proofs.blocks.is_met.Given as goal
 
 abbrev pub invariant-loop-i : goal.invariant-loop-i

@@ -1,9 +1,7 @@
 use native.Mathlib.Omega.{arith}
-use Prim.Native.Nat.{◌+◌, ◌-◌, ◌≤◌}
-use mathlib.Core.Path.{◌≡◌, refl, sym, ◌∙◌}
-use lib.ListN.{length, take, length-set}
-use Rattle.layout.specs.Limits.{max_directory}
-use Rattle.layout.specs.Lists.{interval}
+use Prim.Native.Nat.{◌+◌}
+use mathlib.Core.Path.{refl, sym, ◌∙◌}
+use lib.ListN.{length-set}
 use Rattle.salvage_tree.proofs.Walks.Blocks.{row_written, row-whole}
 use Rattle.salvage_tree.proofs.blocks.put_row.Goals as goal
 

@@ -1,10 +1,8 @@
-use native.Mathlib.Omega.{arith}
-use Prim.Native.Nat.{◌+◌, ◌-◌, ◌≤◌}
-use mathlib.Core.Path.{◌≡◌, refl, sym, ◌∙◌}
-use lib.ListN.{length, take, length-set}
+use Prim.Native.Nat.{◌-◌, ◌≤◌}
+use mathlib.Core.Path.{◌≡◌}
+use lib.ListN.{length, take}
 use Rattle.layout.specs.Limits.{max_directory}
 use Rattle.layout.specs.Lists.{interval}
-use Rattle.salvage_tree.proofs.Walks.Blocks.{row_written, row-whole}
 use Rattle.salvage_tree.proofs.blocks.put_row.Given as goal
 
 abbrev pub invariant-loop-k : goal.invariant-loop-k

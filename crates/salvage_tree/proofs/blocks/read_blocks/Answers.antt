@@ -1,7 +1,6 @@
 use native.Mathlib.Omega.{arith}
-use Prim.Native.Nat.{◌-◌, ◌≤◌}
 use mathlib.Core.Path.{◌∙◌, sym}
-use Rattle.salvage_tree.proofs.Walks.Blocks.{Reading, reading-start, reading-more, reading-end, reading-below}
+use Rattle.salvage_tree.proofs.Walks.Blocks.{reading-start, reading-more, reading-end, reading-below}
 use Rattle.salvage_tree.proofs.blocks.read_blocks.Goals as goal
 
 pub loop-k-init : goal.loop-k-init

@@ -1,7 +1,5 @@
-use native.Mathlib.Omega.{arith}
 use Prim.Native.Nat.{◌-◌, ◌≤◌}
-use mathlib.Core.Path.{◌∙◌, sym}
-use Rattle.salvage_tree.proofs.Walks.Blocks.{Reading, reading-start, reading-more, reading-end, reading-below}
+use Rattle.salvage_tree.proofs.Walks.Blocks.{Reading}
 use Rattle.salvage_tree.proofs.blocks.read_blocks.Given as goal
 
 abbrev pub invariant-loop-k : goal.invariant-loop-k

@@ -1,6 +1,6 @@
 use native.Mathlib.Omega.{arith}
 use borrow.Author.Tests.{not-true, not-false}
-use Rattle.salvage_tree.proofs.Walks.Blocks.{Rowing, rowing_start, row-bad, row_more, row-all}
+use Rattle.salvage_tree.proofs.Walks.Blocks.{rowing_start, row-bad, row_more, row-all}
 use Rattle.salvage_tree.proofs.blocks.row_good.Goals as goal
 
 pub loop-left-init : goal.loop-left-init

@@ -1,6 +1,4 @@
-use native.Mathlib.Omega.{arith}
-use borrow.Author.Tests.{not-true, not-false}
-use Rattle.salvage_tree.proofs.Walks.Blocks.{Rowing, rowing_start, row-bad, row_more, row-all}
+use Rattle.salvage_tree.proofs.Walks.Blocks.{Rowing}
 use Rattle.salvage_tree.proofs.blocks.row_good.Given as goal
 
 abbrev pub invariant-loop-left : goal.invariant-loop-left

@@ -1,9 +1,7 @@
 use native.Mathlib.Omega.{arith}
-use Prim.Native.Nat.{◌-◌}
 use mathlib.Core.Path.{sym, ◌∙◌}
 use borrow.Author.Tests.{not-true, not-false}
-use Rattle.layout.specs.Limits.{max_directory}
-use Rattle.salvage_tree.proofs.Walks.Blocks.{Running, running-start, running_more, ran-bad, ran-met, ran-all}
+use Rattle.salvage_tree.proofs.Walks.Blocks.{running-start, running_more, ran-bad, ran-met, ran-all}
 use Rattle.salvage_tree.proofs.blocks.run.Goals as goal
 
 pub loop-k-init : goal.loop-k-init

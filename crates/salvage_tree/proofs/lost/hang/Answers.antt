@@ -1,4 +1,3 @@
-use borrow.Author.Rules.{rules}
 use native.Mathlib.Omega.{arith}
 use borrow.Author.Tests.{not-true, not-false}
 use Rattle.salvage_tree.proofs.Walks.Lost.{hang-not, hang-named, hang-full, hang-done, lost-clear, lost-good}

@@ -1,5 +1,5 @@
 use native.Mathlib.Omega.{arith}
-use Rattle.salvage_tree.proofs.Walks.Lost.{Hanging, hanging-start, hanging-more, hanging-end, hanging-root}
+use Rattle.salvage_tree.proofs.Walks.Lost.{hanging-start, hanging-more, hanging-end, hanging-root}
 use Rattle.salvage_tree.proofs.Walks.Levels.{ready-again}
 use Rattle.salvage_tree.proofs.lost.hang_each.Goals as goal
 

@@ -1,6 +1,4 @@
-use native.Mathlib.Omega.{arith}
-use Rattle.salvage_tree.proofs.Walks.Lost.{Hanging, hanging-start, hanging-more, hanging-end, hanging-root}
-use Rattle.salvage_tree.proofs.Walks.Levels.{ready-again}
+use Rattle.salvage_tree.proofs.Walks.Lost.{Hanging}
 use Rattle.salvage_tree.proofs.lost.hang_each.Given as goal
 
 abbrev pub invariant-loop-left : goal.invariant-loop-left

@@ -1,4 +1,3 @@
-use borrow.Author.Rules.{rules}
 use native.Mathlib.Omega.{arith}
 use Rattle.layout.proofs.Walks.Fingerprints.{field-long}
 use Rattle.salvage_tree.proofs.Walks.Lost.{lost-marked, lost-free, lost-type, lost-self, lost-parent, lost-named}

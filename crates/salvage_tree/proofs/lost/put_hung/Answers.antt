@@ -1,4 +1,3 @@
-use borrow.Author.Rules.{rules}
 use native.Mathlib.Omega.{arith}
 use Rattle.salvage_tree.proofs.Walks.Lost.{hung-steps}
 use Rattle.salvage_tree.proofs.lost.put_hung.Goals as goal

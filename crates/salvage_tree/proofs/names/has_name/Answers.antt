@@ -1,4 +1,3 @@
-use borrow.Author.Rules.{rules}
 use Rattle.layout.specs.Walks.Slots.{entry_at}
 use Rattle.layout.proofs.Walks.Fingerprints.{field-long}
 use mathlib.Core.Path.{sym, ◌∙◌}

@@ -1,7 +1,7 @@
 use native.Mathlib.Omega.{arith}
 use Prim.Native.Nat.{◌/◌}
 use mathlib.Core.Path.{refl}
-use Rattle.salvage_tree.proofs.Walks.Names.{Seeking, seeking-start, seeking-more, sought-here, sought-none}
+use Rattle.salvage_tree.proofs.Walks.Names.{seeking-start, seeking-more, sought-here, sought-none}
 use Rattle.salvage_tree.proofs.names.is_new.Goals as goal
 
 pub loop-left-init : goal.loop-left-init

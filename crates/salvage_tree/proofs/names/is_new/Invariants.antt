@@ -1,7 +1,4 @@
-use native.Mathlib.Omega.{arith}
-use Prim.Native.Nat.{◌/◌}
-use mathlib.Core.Path.{refl}
-use Rattle.salvage_tree.proofs.Walks.Names.{Seeking, seeking-start, seeking-more, sought-here, sought-none}
+use Rattle.salvage_tree.proofs.Walks.Names.{Seeking}
 use Rattle.salvage_tree.proofs.names.is_new.Given as goal
 
 abbrev pub invariant-loop-left : goal.invariant-loop-left

@@ -1,4 +1,3 @@
-use borrow.Author.Rules.{rules}
 use Rattle.salvage_tree.proofs.Walks.Names.{named-part}
 use Rattle.layout.specs.Walks.Slots.{entry_at}
 use Rattle.salvage_tree.proofs.names.name_at.Goals as goal

@@ -1,7 +1,5 @@
 use native.Mathlib.Omega.{arith}
-use Prim.Native.Nat.{◌-◌}
-use lib.ListN.{length}
-use Rattle.salvage_tree.proofs.Walks.Names.{Measuring, measuring-start, measuring-more, measured-stop, measured-end}
+use Rattle.salvage_tree.proofs.Walks.Names.{measuring-start, measuring-more, measured-stop, measured-end}
 use Rattle.salvage_tree.proofs.names.name_length.Goals as goal
 
 pub loop-i-init : goal.loop-i-init

@@ -1,7 +1,6 @@
-use native.Mathlib.Omega.{arith}
 use Prim.Native.Nat.{◌-◌}
 use lib.ListN.{length}
-use Rattle.salvage_tree.proofs.Walks.Names.{Measuring, measuring-start, measuring-more, measured-stop, measured-end}
+use Rattle.salvage_tree.proofs.Walks.Names.{Measuring}
 use Rattle.salvage_tree.proofs.names.name_length.Given as goal
 
 abbrev pub invariant-loop-i : goal.invariant-loop-i

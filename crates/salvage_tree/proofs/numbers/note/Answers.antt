@@ -1,4 +1,3 @@
-use borrow.Author.Rules.{rules}
 use native.Mathlib.Omega.{arith}
 use Rattle.salvage_tree.proofs.Walks.Numbers.{code-right, code-wrong}
 use Rattle.salvage_tree.proofs.numbers.note.Goals as goal

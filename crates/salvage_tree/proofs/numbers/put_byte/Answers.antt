@@ -1,4 +1,3 @@
-use borrow.Author.Rules.{rules}
 use native.Mathlib.Omega.{arith}
 use mathlib.Core.Path.{◌∙◌}
 use Rattle.salvage_tree.proofs.Walks.Numbers.{byte_left, byte-set, one_set}

@@ -1,4 +1,3 @@
-use borrow.Author.Rules.{rules}
 use native.Mathlib.Omega.{arith}
 use Rattle.salvage_tree.proofs.Walks.Numbers.{code-none, code_put, slot-index}
 use Rattle.salvage_tree.proofs.numbers.put_code.Goals as goal

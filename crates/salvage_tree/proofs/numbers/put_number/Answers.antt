@@ -1,4 +1,3 @@
-use borrow.Author.Rules.{rules}
 use mathlib.Core.Path.{sym, ◌∙◌}
 use Rattle.salvage_tree.proofs.Walks.Numbers.{number-left, number-set}
 use Rattle.salvage_tree.proofs.numbers.put_number.Goals as goal

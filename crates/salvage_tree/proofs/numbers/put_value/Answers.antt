@@ -1,4 +1,3 @@
-use borrow.Author.Rules.{rules}
 use mathlib.Core.Path.{sym, ◌∙◌}
 use Rattle.salvage_tree.proofs.Walks.Numbers.{value-left, value_set}
 use Rattle.salvage_tree.proofs.numbers.put_value.Goals as goal

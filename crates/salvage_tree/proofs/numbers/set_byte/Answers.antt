@@ -1,4 +1,3 @@
-use borrow.Author.Rules.{rules}
 use native.Mathlib.Omega.{arith}
 use Rattle.salvage_tree.proofs.Walks.Numbers.{one_set}
 use Rattle.salvage_tree.proofs.numbers.set_byte.Goals as goal

@@ -1,9 +1,7 @@
 use native.Mathlib.Omega.{arith}
 use Prim.Native.Nat.{◌-◌}
 use mathlib.Core.Path.{refl}
-use lib.ListN.{length}
-use Rattle.salvage_tree.specs.SalvageTree.{linked}
-use Rattle.salvage_tree.proofs.Walks.Puts.{Writing, writing_start, writing-on, writing-end, linked_long}
+use Rattle.salvage_tree.proofs.Walks.Puts.{writing_start, writing-on, writing-end, linked_long}
 use Rattle.salvage_tree.proofs.put.link.Goals as goal
 
 pub bounds-blocks-0 : goal.bounds-blocks-0

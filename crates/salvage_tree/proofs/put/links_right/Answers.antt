@@ -1,7 +1,6 @@
 use native.Mathlib.Omega.{arith}
 use Prim.Native.Nat.{◌-◌}
-use lib.ListN.{length}
-use Rattle.salvage_tree.proofs.Walks.Puts.{LinksOn, links-start, links-wrong, links-on, links_end}
+use Rattle.salvage_tree.proofs.Walks.Puts.{links-start, links-wrong, links-on, links_end}
 use Rattle.salvage_tree.proofs.put.links_right.Goals as goal
 
 pub bounds-blocks-0 : goal.bounds-blocks-0

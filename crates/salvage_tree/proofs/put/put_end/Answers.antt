@@ -1,4 +1,3 @@
-use borrow.Author.Rules.{rules}
 use native.Mathlib.Omega.{arith}
 use Rattle.salvage_tree.proofs.Walks.Puts.{end-right, end-wrong, end_kept, end-stored}
 use Rattle.salvage_tree.proofs.put.put_end.Goals as goal

@@ -1,4 +1,3 @@
-use borrow.Author.Rules.{rules}
 use Rattle.salvage_tree.proofs.Walks.Puts.{self-steps}
 use Rattle.salvage_tree.proofs.put.put_self.Goals as goal
 

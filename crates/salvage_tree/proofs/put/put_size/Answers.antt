@@ -1,4 +1,3 @@
-use borrow.Author.Rules.{rules}
 use native.Mathlib.Omega.{arith}
 use Rattle.salvage_tree.proofs.Walks.Puts.{sized-is}
 use Rattle.salvage_tree.proofs.put.put_size.Goals as goal

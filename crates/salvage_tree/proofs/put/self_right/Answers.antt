@@ -1,4 +1,3 @@
-use borrow.Author.Rules.{rules}
 use Rattle.salvage_tree.proofs.Walks.Puts.{self_type, self-self, self-parent, self-size, self-field}
 use Rattle.salvage_tree.proofs.put.self_right.Goals as goal
 

@@ -1,6 +1,6 @@
 use native.Mathlib.Omega.{arith}
 use borrow.Author.Tests.{not-true, not-false}
-use Rattle.salvage_tree.proofs.Walks.Rest.{Freed, freed-start, freed-not, freed-more, freed-all}
+use Rattle.salvage_tree.proofs.Walks.Rest.{freed-start, freed-not, freed-more, freed-all}
 use Rattle.salvage_tree.proofs.rest.all_free.Goals as goal
 
 pub loop-left-init : goal.loop-left-init

@@ -1,6 +1,4 @@
-use native.Mathlib.Omega.{arith}
-use borrow.Author.Tests.{not-true, not-false}
-use Rattle.salvage_tree.proofs.Walks.Rest.{Freed, freed-start, freed-not, freed-more, freed-all}
+use Rattle.salvage_tree.proofs.Walks.Rest.{Freed}
 use Rattle.salvage_tree.proofs.rest.all_free.Given as goal
 
 abbrev pub invariant-loop-left : goal.invariant-loop-left

@@ -1,4 +1,3 @@
-use borrow.Author.Rules.{rules}
 use mathlib.Core.Path.{sym, ◌∙◌}
 use Rattle.salvage_tree.proofs.Walks.Rest.{head-bad, head-counted}
 use Rattle.salvage_tree.proofs.rest.head_right.Goals as goal

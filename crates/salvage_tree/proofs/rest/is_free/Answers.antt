@@ -1,4 +1,3 @@
-use borrow.Author.Rules.{rules}
 use Rattle.salvage_tree.proofs.Walks.Rest.{free-marked, free-valued}
 use Rattle.salvage_tree.proofs.rest.is_free.Goals as goal
 

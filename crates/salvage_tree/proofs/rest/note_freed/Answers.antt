@@ -1,5 +1,5 @@
 use native.Mathlib.Omega.{arith}
-use Rattle.salvage_tree.proofs.Walks.Rest.{Noting, noting-start, noting-more, noting-end}
+use Rattle.salvage_tree.proofs.Walks.Rest.{noting-start, noting-more, noting-end}
 use Rattle.salvage_tree.proofs.rest.note_freed.Goals as goal
 
 pub loop-left-init : goal.loop-left-init

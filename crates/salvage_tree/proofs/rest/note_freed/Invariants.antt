@@ -1,5 +1,4 @@
-use native.Mathlib.Omega.{arith}
-use Rattle.salvage_tree.proofs.Walks.Rest.{Noting, noting-start, noting-more, noting-end}
+use Rattle.salvage_tree.proofs.Walks.Rest.{Noting}
 use Rattle.salvage_tree.proofs.rest.note_freed.Given as goal
 
 abbrev pub invariant-loop-left : goal.invariant-loop-left

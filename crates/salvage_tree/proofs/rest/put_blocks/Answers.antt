@@ -1,4 +1,3 @@
-use borrow.Author.Rules.{rules}
 use native.Mathlib.Omega.{arith}
 use Rattle.salvage_tree.proofs.Walks.Rest.{blocks-put}
 use Rattle.salvage_tree.proofs.rest.put_blocks.Goals as goal

@@ -1,4 +1,3 @@
-use borrow.Author.Rules.{rules}
 use native.Mathlib.Omega.{arith}
 use Rattle.layout.proofs.Walks.Shapes.{shape-block_count}
 use Rattle.salvage_tree.proofs.Walks.Rest.{header-steps}

@@ -1,4 +1,3 @@
-use borrow.Author.Rules.{rules}
 use native.Mathlib.Omega.{arith}
 use Rattle.salvage_tree.proofs.Walks.Rest.{rest_put}
 use Rattle.salvage_tree.proofs.rest.put_rest.Goals as goal

@@ -1,4 +1,3 @@
-use borrow.Author.Rules.{rules}
 use mathlib.Core.Path.{◌∙◌}
 use Rattle.salvage_tree.proofs.Walks.Rest.{signed-left, signed-set}
 use Rattle.salvage_tree.proofs.rest.sign.Goals as goal

@@ -1,4 +1,3 @@
-use borrow.Author.Rules.{rules}
 use Rattle.salvage_tree.proofs.salvage_tree.accepted.Goals as goal
 
 pub small_answer-requires : goal.small_answer-requires

@@ -1,4 +1,3 @@
-use borrow.Author.Rules.{rules}
 use native.Mathlib.Omega.{arith}
 use Rattle.salvage_tree.proofs.Walks.Counts.{cleared, answered}
 use Rattle.salvage_tree.proofs.salvage_tree.answer.Goals as goal

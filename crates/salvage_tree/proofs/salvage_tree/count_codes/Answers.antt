@@ -1,8 +1,5 @@
 use native.Mathlib.Omega.{arith}
-use Prim.Native.Nat.{◌-◌}
-use lib.ListN.{length}
-use Rattle.layout.specs.Lists.{within}
-use Rattle.salvage_tree.proofs.Walks.Counts.{Tally, tally-start, tally-more, tally-end}
+use Rattle.salvage_tree.proofs.Walks.Counts.{tally-start, tally-more, tally-end}
 use Rattle.salvage_tree.proofs.salvage_tree.count_codes.Goals as goal
 
 pub loop-i-init : goal.loop-i-init

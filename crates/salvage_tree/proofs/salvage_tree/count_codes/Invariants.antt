@@ -1,8 +1,7 @@
-use native.Mathlib.Omega.{arith}
 use Prim.Native.Nat.{◌-◌}
 use lib.ListN.{length}
 use Rattle.layout.specs.Lists.{within}
-use Rattle.salvage_tree.proofs.Walks.Counts.{Tally, tally-start, tally-more, tally-end}
+use Rattle.salvage_tree.proofs.Walks.Counts.{Tally}
 use Rattle.salvage_tree.proofs.salvage_tree.count_codes.Given as goal
 
 abbrev pub invariant-loop-i : goal.invariant-loop-i

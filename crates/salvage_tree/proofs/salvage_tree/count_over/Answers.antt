@@ -1,8 +1,5 @@
 use native.Mathlib.Omega.{arith}
-use Prim.Native.Nat.{◌-◌}
-use lib.ListN.{length}
-use Rattle.salvage_tree.specs.Walks.{hung_here}
-use Rattle.salvage_tree.proofs.Walks.Counts.{Over, over-start, over-more, over-end}
+use Rattle.salvage_tree.proofs.Walks.Counts.{over-start, over-more, over-end}
 use Rattle.salvage_tree.proofs.salvage_tree.count_over.Goals as goal
 
 pub loop-i-init : goal.loop-i-init

@@ -1,8 +1,7 @@
-use native.Mathlib.Omega.{arith}
 use Prim.Native.Nat.{◌-◌}
 use lib.ListN.{length}
 use Rattle.salvage_tree.specs.Walks.{hung_here}
-use Rattle.salvage_tree.proofs.Walks.Counts.{Over, over-start, over-more, over-end}
+use Rattle.salvage_tree.proofs.Walks.Counts.{Over}
 use Rattle.salvage_tree.proofs.salvage_tree.count_over.Given as goal
 
 abbrev pub invariant-loop-i : goal.invariant-loop-i

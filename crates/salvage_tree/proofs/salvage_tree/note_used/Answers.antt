@@ -1,5 +1,5 @@
 use native.Mathlib.Omega.{arith}
-use Rattle.salvage_tree.proofs.Walks.Counts.{UsedUp, used_start, used-more, used-end}
+use Rattle.salvage_tree.proofs.Walks.Counts.{used_start, used-more, used-end}
 use Rattle.salvage_tree.proofs.salvage_tree.note_used.Goals as goal
 
 pub loop-left-init : goal.loop-left-init

@@ -1,5 +1,4 @@
-use native.Mathlib.Omega.{arith}
-use Rattle.salvage_tree.proofs.Walks.Counts.{UsedUp, used_start, used-more, used-end}
+use Rattle.salvage_tree.proofs.Walks.Counts.{UsedUp}
 use Rattle.salvage_tree.proofs.salvage_tree.note_used.Given as goal
 
 abbrev pub invariant-loop-left : goal.invariant-loop-left

@@ -1,4 +1,3 @@
-use borrow.Author.Rules.{rules}
 use mathlib.Core.Path.{ap, sym}
 use Rattle.salvage_tree.specs.Walks.{one}
 use Rattle.salvage_tree.proofs.Walks.Counts.{over-code, over-was}

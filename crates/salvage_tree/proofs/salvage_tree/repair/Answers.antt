@@ -1,4 +1,3 @@
-use borrow.Author.Rules.{rules}
 use native.Mathlib.Omega.{arith}
 use Rattle.salvage_tree.proofs.Walks.Lost.{tree-taken, all-repaired}
 use Rattle.salvage_tree.proofs.Walks.Levels.{ready-again}

@@ -1,4 +1,3 @@
-use borrow.Author.Rules.{rules}
 use native.Mathlib.Omega.{arith}
 use Rattle.layout.proofs.Laws.Bytes.{zeros-own}
 use Rattle.salvage_tree.proofs.salvage_tree.small_answer.Goals as goal

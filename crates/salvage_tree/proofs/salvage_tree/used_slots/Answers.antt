@@ -1,4 +1,3 @@
-use borrow.Author.Rules.{rules}
 use Rattle.salvage_tree.proofs.Walks.Counts.{used-is}
 use Rattle.salvage_tree.proofs.salvage_tree.used_slots.Goals as goal
 

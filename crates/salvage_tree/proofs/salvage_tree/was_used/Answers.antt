@@ -1,4 +1,3 @@
-use borrow.Author.Rules.{rules}
 use Rattle.salvage_tree.proofs.Walks.Counts.{was-0, was-1, was-2, was-3}
 use Rattle.salvage_tree.proofs.salvage_tree.was_used.Goals as goal
 

@@ -1,4 +1,3 @@
-use borrow.Author.Rules.{rules}
 use Rattle.salvage_tree.proofs.slots.drop_slot.Goals as goal
 
 pub returns : goal.returns

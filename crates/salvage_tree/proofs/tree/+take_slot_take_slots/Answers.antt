@@ -1,12 +1,11 @@
-use Prim.Native.Nat.{ℕ, ◌+◌, ◌-◌, ◌*◌, ◌/◌, ◌<◌}
+use Prim.Native.Nat.{◌/◌}
 use mathlib.Core.Path.{refl, ap, ◌∙◌}
 use native.Mathlib.Omega.{arith}
 use lib.ListN.{length}
-use borrow.Author.Rules.{rules}
 use borrow.Author.Tests.{not-true, not-false}
 use Rattle.layout.proofs.Laws.Bytes.{length-zeros}
 use Rattle.salvage_tree.proofs.Walks.Names.{slot_is}
-use Rattle.salvage_tree.proofs.Walks.Levels.{slot-done, slot-deep, slot-dropped, slot_lent, entered-lent, Slotting, slotting-start, slotting-more, slotting-end, ready-again}
+use Rattle.salvage_tree.proofs.Walks.Levels.{slot-done, slot-deep, slot-dropped, slot_lent, entered-lent, slotting-start, slotting-more, slotting-end, ready-again}
 use Rattle.salvage_tree.proofs.tree.+take_slot_take_slots.Goals as goal
 
 pub take_slot-offset_bounds-blocks-k : goal.take_slot-offset_bounds-blocks-k

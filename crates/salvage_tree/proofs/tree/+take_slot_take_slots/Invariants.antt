@@ -1,14 +1,7 @@
 -- The one proof of the cycle {take_slots, take_slot}. A directory calls its slots with the levels that are left, a slot its child with one less: the falling number is
 -- 2·left + 1 for a directory and 2·left for a slot. The loop over the slots falls by the slots that are left.
-use Prim.Native.Nat.{ℕ, ◌+◌, ◌-◌, ◌*◌, ◌/◌, ◌<◌}
-use mathlib.Core.Path.{refl, ap, ◌∙◌}
-use native.Mathlib.Omega.{arith}
-use lib.ListN.{length}
-use borrow.Author.Rules.{rules}
-use borrow.Author.Tests.{not-true, not-false}
-use Rattle.layout.proofs.Laws.Bytes.{length-zeros}
-use Rattle.salvage_tree.proofs.Walks.Names.{slot_is}
-use Rattle.salvage_tree.proofs.Walks.Levels.{slot-done, slot-deep, slot-dropped, slot_lent, entered-lent, Slotting, slotting-start, slotting-more, slotting-end, ready-again}
+use Prim.Native.Nat.{◌+◌, ◌*◌}
+use Rattle.salvage_tree.proofs.Walks.Levels.{Slotting}
 use Rattle.salvage_tree.proofs.tree.+take_slot_take_slots.Given as goal
 
 abbrev pub invariant-take_slots-loop-slots : goal.invariant-take_slots-loop-slots

@@ -1,7 +1,6 @@
 use mathlib.Core.Path.{◌∙◌}
 use Rattle.script.specs.Script.{encoded}
 use Rattle.journal.specs.Run.{look_answer}
-use borrow.Author.Rules.{rules}
 use Rattle.script.proofs.Walks.Encoding.{numbers-alone}
 use Rattle.script.proofs.answers.check.Goals as goal
 

@@ -1,7 +1,6 @@
 use mathlib.Core.Path.{ap, ◌∙◌}
 use native.Mathlib.Omega.{arith}
 use Rattle.script.specs.Script.{encoded}
-use borrow.Author.Rules.{rules}
 use Rattle.script.proofs.Walks.Encoding.{shown-small, shown-short, shown-answer}
 use Rattle.script.proofs.answers.look_in_place.Goals as goal
 

@@ -1,6 +1,5 @@
 use mathlib.Core.Path.{◌∙◌}
 use Rattle.journal.specs.Run.{look_answer}
-use borrow.Author.Rules.{rules}
 use Rattle.script.proofs.Walks.Encoding.{numbers-alone}
 use Rattle.script.proofs.answers.lookup.Goals as goal
 

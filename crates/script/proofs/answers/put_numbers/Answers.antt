@@ -1,4 +1,3 @@
-use borrow.Author.Rules.{rules}
 use Rattle.script.proofs.Walks.Encoding.{numbers-put}
 use Rattle.script.proofs.answers.put_numbers.Goals as goal
 

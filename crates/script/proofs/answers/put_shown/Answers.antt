@@ -1,5 +1,4 @@
 use native.Mathlib.Omega.{arith}
-use borrow.Author.Rules.{rules}
 use Rattle.script.proofs.Walks.Encoding.{shown-written}
 use Rattle.script.proofs.answers.put_shown.Goals as goal
 

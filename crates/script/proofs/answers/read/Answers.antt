@@ -1,6 +1,5 @@
 use mathlib.Core.Path.{◌∙◌, sym}
 use native.Mathlib.Omega.{arith}
-use borrow.Author.Rules.{rules}
 use Rattle.script.proofs.Walks.Scripts.{length-data}
 use Rattle.script.proofs.Walks.Encoding.{filled-length, read_small, read-written}
 use Rattle.script.proofs.answers.read.Goals as goal

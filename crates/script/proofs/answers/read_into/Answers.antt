@@ -3,7 +3,6 @@ use lib.ListN.{length}
 use borrow.Author.Tests.{eq-eqb, ne_eqb}
 use Rattle.script.specs.Walks.Scripts.{filled_at}
 use Rattle.script.proofs.Walks.Scripts.{length-data}
-use borrow.Author.Rules.{rules}
 use Rattle.script.proofs.answers.read_into.Goals as goal
 
 pub copy-requires : goal.copy-requires

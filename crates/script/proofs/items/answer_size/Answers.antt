@@ -2,7 +2,6 @@ use mathlib.Core.Path.{sym, ◌∙◌}
 use native.Mathlib.Omega.{arith}
 use Rattle.script.specs.Script.{op_at}
 use Rattle.script.proofs.Walks.Scripts.{room-show, head_small}
-use borrow.Author.Rules.{rules}
 use Rattle.script.proofs.items.answer_size.Goals as goal
 
 pub overflow_add-result : goal.overflow_add-result

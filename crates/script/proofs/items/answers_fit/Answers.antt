@@ -1,11 +1,5 @@
-use Prim.Native.Nat.{◌-◌}
-use mathlib.Core.Path.{◌≡◌, refl, sym, ◌∙◌}
-use mathlib.Core.Bool.{true}
+use mathlib.Core.Path.{refl, sym, ◌∙◌}
 use native.Mathlib.Omega.{arith}
-use lib.Dec.{leb}
-use lib.ListN.{length}
-use Rattle.layout.specs.Lists.{every}
-use Rattle.script.specs.Script.{item_ok, items_from, calls_of, calls_from, answers_size}
 use Rattle.script.proofs.Walks.Scripts.{next, room-short, room-step, room-none}
 use Rattle.script.proofs.items.answers_fit.Goals as goal
 

@@ -1,12 +1,10 @@
 use Prim.Native.Nat.{◌-◌}
-use mathlib.Core.Path.{◌≡◌, refl, sym, ◌∙◌}
+use mathlib.Core.Path.{◌≡◌}
 use mathlib.Core.Bool.{true}
-use native.Mathlib.Omega.{arith}
 use lib.Dec.{leb}
 use lib.ListN.{length}
 use Rattle.layout.specs.Lists.{every}
 use Rattle.script.specs.Script.{item_ok, items_from, calls_of, calls_from, answers_size}
-use Rattle.script.proofs.Walks.Scripts.{next, room-short, room-step, room-none}
 use Rattle.script.proofs.items.answers_fit.Given as goal
 
 abbrev pub invariant-loop-at : goal.invariant-loop-at

@@ -1,6 +1,5 @@
 use mathlib.Core.Path.{sym}
 use native.Mathlib.Omega.{arith}
-use borrow.Author.Rules.{rules}
 use Rattle.script.proofs.Walks.Scripts.{item-cut, item-low, item-last}
 use Rattle.script.proofs.items.item_ok.Goals as goal
 

@@ -2,7 +2,6 @@ use Prim.Native.Nat.{◌+◌, ◌-◌}
 use mathlib.Core.Path.{◌≡◌}
 use native.Mathlib.Omega.{arith}
 use Rattle.script.specs.Script.{name_at, name_length}
-use borrow.Author.Rules.{rules}
 use Rattle.script.proofs.items.name_of.Goals as goal
 
 pub returns : goal.returns

@@ -2,7 +2,6 @@ use mathlib.Core.Path.{sym, ◌∙◌, ap}
 use Prim.Native.Nat.{ℕ, ◌+◌}
 use borrow.Author.Tests.{ne_eqb}
 use Rattle.script.proofs.Walks.Scripts.{room-read, room-look-in-place, room-plain}
-use borrow.Author.Rules.{rules}
 use Rattle.script.proofs.items.plain_size.Goals as goal
 
 pub returns-then-fills : goal.returns-then-fills

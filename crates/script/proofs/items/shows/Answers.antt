@@ -1,6 +1,5 @@
 use mathlib.Core.Path.{◌∙◌}
 use borrow.Author.Tests.{eq-eqb, ne_eqb}
-use borrow.Author.Rules.{rules}
 use Rattle.script.proofs.items.shows.Goals as goal
 
 pub returns-then-op-eq18 : goal.returns-then-op-eq18

@@ -1,12 +1,8 @@
 use Prim.Native.Nat.{◌-◌, ◌≤◌}
-use mathlib.Core.Path.{◌≡◌, refl, sym, ◌∙◌}
-use mathlib.Core.Bool.{true, false}
-use native.Mathlib.Omega.{arith}
-use borrow.Author.Tests.{not-true, not-false}
+use mathlib.Core.Path.{◌≡◌}
 use lib.ListN.{length}
 use Rattle.layout.specs.Lists.{every}
 use Rattle.script.specs.Script.{item_ok, items_from}
-use Rattle.script.proofs.Walks.Scripts.{item-fits, every-step, every-bad, every-end}
 use Rattle.script.proofs.items.well_formed.Given as goal
 
 abbrev pub invariant-loop-at : goal.invariant-loop-at

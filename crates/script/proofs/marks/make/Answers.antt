@@ -1,5 +1,4 @@
 use Rattle.script.proofs.Walks.Making.{info-item, undo-to-item}
-use borrow.Author.Rules.{rules}
 use Rattle.script.proofs.marks.make.Goals as goal
 
 pub returns-then-script-at-eq27 : goal.returns-then-script-at-eq27

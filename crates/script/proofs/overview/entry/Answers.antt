@@ -3,7 +3,6 @@ use native.Mathlib.Omega.{arith}
 use Prim.Native.Nat.{◌-◌}
 use lib.ListN.{length}
 use Rattle.script.proofs.Walks.Encoding.{entered-written}
-use borrow.Author.Rules.{rules}
 use Rattle.script.proofs.overview.entry.Goals as goal
 
 pub returns : goal.returns

@@ -1,7 +1,6 @@
 use mathlib.Core.Path.{sym, ap, ◌∙◌}
 use lib.ListN.{length}
 use Rattle.script.proofs.Walks.Scripts.{length-data}
-use borrow.Author.Rules.{rules}
 use Rattle.script.proofs.overview.entry_into.Goals as goal
 
 pub copy-requires : goal.copy-requires

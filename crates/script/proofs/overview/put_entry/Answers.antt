@@ -1,6 +1,5 @@
 use Rattle.script.specs.Script.{entry_head}
 use Rattle.script.proofs.Walks.Encoding.{length-numbers, four-groups}
-use borrow.Author.Rules.{rules}
 use Rattle.script.proofs.overview.put_entry.Goals as goal
 
 pub returns : goal.returns

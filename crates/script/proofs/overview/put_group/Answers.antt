@@ -5,7 +5,6 @@ use native.Mathlib.Nat.{add-zero}
 use Rattle.layout.proofs.Laws.Bytes.{lent-part}
 use Rattle.script.proofs.Walks.Encoding.{length-numbers}
 use Rattle.script.specs.Script.{numbers}
-use borrow.Author.Rules.{rules}
 use Rattle.script.proofs.overview.put_group.Goals as goal
 
 pub returns : goal.returns

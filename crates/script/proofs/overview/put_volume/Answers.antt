@@ -1,6 +1,5 @@
 use Rattle.script.specs.Script.{volume_head}
 use Rattle.script.proofs.Walks.Encoding.{length-numbers, two-groups}
-use borrow.Author.Rules.{rules}
 use Rattle.script.proofs.overview.put_volume.Goals as goal
 
 pub returns : goal.returns

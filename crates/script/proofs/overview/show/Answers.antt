@@ -2,7 +2,6 @@ use mathlib.Core.Path.{◌∙◌}
 use borrow.Author.Tests.{eq-eqb, ne_eqb}
 use Rattle.journal.specs.Run.{look_answer}
 use Rattle.script.proofs.Walks.Scripts.{size-show, shows-volume, shows-entry, shows-settings}
-use borrow.Author.Rules.{rules}
 use Rattle.script.proofs.overview.show.Goals as goal
 
 pub info-requires : goal.info-requires

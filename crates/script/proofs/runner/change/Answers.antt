@@ -2,7 +2,6 @@ use mathlib.Core.Path.{◌∙◌}
 use native.Mathlib.Omega.{arith}
 use Rattle.script.proofs.Walks.Scripts.{size-high, is-put-in, is-undo}
 use Rattle.script.proofs.Walks.Making.{item-change, change-made}
-use borrow.Author.Rules.{rules}
 use Rattle.script.proofs.runner.change.Goals as goal
 
 pub undo-requires : goal.undo-requires

@@ -1,7 +1,6 @@
 use mathlib.Core.Path.{◌∙◌}
 use borrow.Author.Tests.{ne_eqb}
 use Rattle.script.specs.Script.{change_at}
-use borrow.Author.Rules.{rules}
 use Rattle.script.proofs.runner.change_of.Goals as goal
 
 pub returns-then-op-eq5 : goal.returns-then-op-eq5

@@ -1,10 +1,8 @@
 use Prim.Native.Nat.{◌+◌, ◌-◌}
 use mathlib.Core.Path.{◌≡◌, refl, ◌∙◌}
 use native.Mathlib.Omega.{arith}
-use lib.ListN.{length}
 use Rattle.layout.proofs.Laws.Bytes.{length_part}
-use Rattle.script.proofs.Walks.Running.{Midway, run-start, run-next, run-turn, run_end}
-use Rattle.journal.specs.Run.{state}
+use Rattle.script.proofs.Walks.Running.{run-start, run-next, run-turn, run_end}
 use Rattle.script.proofs.runner.execute.Goals as goal
 
 pub loop-at-init : goal.loop-at-init

@@ -1,9 +1,7 @@
-use Prim.Native.Nat.{◌+◌, ◌-◌}
-use mathlib.Core.Path.{◌≡◌, refl, ◌∙◌}
-use native.Mathlib.Omega.{arith}
+use Prim.Native.Nat.{◌-◌}
+use mathlib.Core.Path.{◌≡◌}
 use lib.ListN.{length}
-use Rattle.layout.proofs.Laws.Bytes.{length_part}
-use Rattle.script.proofs.Walks.Running.{Midway, run-start, run-next, run-turn, run_end}
+use Rattle.script.proofs.Walks.Running.{Midway}
 use Rattle.journal.specs.Run.{state}
 use Rattle.script.proofs.runner.execute.Given as goal
 

@@ -4,7 +4,6 @@ use Rattle.journal.specs.Run.{state}
 use Rattle.script.specs.Script.{op_at, encoded}
 use Rattle.script.proofs.Walks.Scripts.{size-read, size_low, size-look-in-place, is-check, is-lookup, is-look-in-place, read-answer, last-look}
 use Rattle.script.proofs.Walks.Making.{look-answered}
-use borrow.Author.Rules.{rules}
 use Rattle.script.proofs.runner.look.Goals as goal
 
 pub read-requires : goal.read-requires

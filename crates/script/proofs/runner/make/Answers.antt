@@ -1,7 +1,6 @@
 use mathlib.Core.Path.{sym, ◌∙◌}
 use Rattle.script.proofs.Walks.Scripts.{room-is-show}
 use Rattle.script.proofs.Walks.Making.{show-item}
-use borrow.Author.Rules.{rules}
 use Rattle.script.proofs.runner.make.Goals as goal
 
 pub show-requires : goal.show-requires

@@ -1,6 +1,5 @@
 use mathlib.Core.Path.{sym, ◌∙◌}
 use Rattle.script.proofs.Walks.Making.{look-made}
-use borrow.Author.Rules.{rules}
 use Rattle.script.proofs.runner.make_call.Goals as goal
 
 pub look-requires : goal.look-requires

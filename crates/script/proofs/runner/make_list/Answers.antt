@@ -1,5 +1,4 @@
 use Rattle.script.proofs.Walks.Making.{list-item}
-use borrow.Author.Rules.{rules}
 use Rattle.script.proofs.runner.make_list.Goals as goal
 
 pub returns : goal.returns

@@ -1,7 +1,6 @@
 use mathlib.Core.Path.{◌∙◌}
 use Rattle.script.proofs.Walks.Scripts.{room-list, room-mark, room-call}
 use Rattle.script.proofs.Walks.Making.{call-item}
-use borrow.Author.Rules.{rules}
 use Rattle.script.proofs.runner.make_plain.Goals as goal
 
 pub make_list-requires : goal.make_list-requires

@@ -1,6 +1,5 @@
 use Rattle.script.specs.Script.{answer_size}
 use Rattle.script.proofs.Walks.Making.{item-put, change-made}
-use borrow.Author.Rules.{rules}
 use Rattle.script.proofs.runner.put_in.Goals as goal
 
 pub returns : goal.returns

@@ -1,6 +1,5 @@
 use borrow.Author.Tests.{ne_eqb}
 use Rattle.script.specs.Script.{renew_at}
-use borrow.Author.Rules.{rules}
 use Rattle.script.proofs.runner.renew_of.Goals as goal
 
 pub returns-then-op-eq24 : goal.returns-then-op-eq24

@@ -1,7 +1,6 @@
 use mathlib.Core.Path.{◌≡◌, sym, ◌∙◌}
 use mathlib.Core.Bool.{true, false}
 use borrow.Author.Tests.{not-true, not-false, leb-true}
-use borrow.Author.Rules.{rules}
 use Rattle.script.proofs.Walks.Running.{bad-script, no-room, all-run}
 use Rattle.script.proofs.Walks.Replaying.{replays}
 use Rattle.script.proofs.runner.run.Goals as goal

@@ -1,4 +1,3 @@
-use borrow.Author.Rules.{rules}
 use Rattle.script.proofs.Walks.Making.{undo-made}
 use Rattle.script.proofs.runner.undo.Goals as goal
 

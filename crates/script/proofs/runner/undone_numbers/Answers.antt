@@ -1,5 +1,4 @@
 use Rattle.script.specs.Script.{encoded}
-use borrow.Author.Rules.{rules}
 use Rattle.script.proofs.runner.undone_numbers.Goals as goal
 
 pub returns-in-Done : goal.returns-in-Done

@@ -3,7 +3,6 @@ use mathlib.Core.Path.{◌≡◌, ◌∙◌}
 use native.Mathlib.Omega.{arith}
 use lib.ListN.{length}
 use Rattle.script.proofs.Walks.Encoding.{got-written}
-use borrow.Author.Rules.{rules}
 use Rattle.script.proofs.settings.get.Goals as goal
 
 pub returns : goal.returns

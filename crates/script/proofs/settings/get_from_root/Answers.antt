@@ -1,7 +1,6 @@
 use mathlib.Core.Path.{◌∙◌}
 use native.Mathlib.Omega.{arith}
 use Rattle.script.proofs.Walks.Scripts.{which-19, which-latest}
-use borrow.Author.Rules.{rules}
 use Rattle.script.proofs.settings.get_from_root.Goals as goal
 
 pub returns-then-script-at-eq19 : goal.returns-then-script-at-eq19

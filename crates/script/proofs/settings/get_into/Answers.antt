@@ -3,7 +3,6 @@ use lib.ListN.{length}
 use Rattle.store.specs.Get.{GetAnswer}
 use Rattle.journal.specs.Run.{got}
 use Rattle.script.proofs.Walks.Scripts.{length-data, get-placed, get-rooted}
-use borrow.Author.Rules.{rules}
 use Rattle.script.proofs.settings.get_into.Goals as goal
 
 pub copy-requires : goal.copy-requires

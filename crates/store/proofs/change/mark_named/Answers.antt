@@ -1,4 +1,3 @@
-use borrow.Author.Rules.{rules}
 use Rattle.store.specs.Change.{refusal, named}
 use Rattle.store.specs.Walks.Targets.{Target}
 use Rattle.store.proofs.change.mark_named.Goals as goal

@@ -1,4 +1,3 @@
-use borrow.Author.Rules.{rules}
 use Rattle.store.specs.Change.{refusal}
 use Rattle.store.specs.Walks.Targets.{Target}
 use Rattle.store.proofs.change.refusal.Goals as goal

@@ -1,5 +1,4 @@
 use Rattle.store.proofs.Walks.Rooms.{find-placed}
-use borrow.Author.Rules.{rules}
 use Rattle.store.proofs.form.find.Goals as goal
 
 pub returns : goal.returns

@@ -1,7 +1,5 @@
-use lib.ListN.{length}
-use Prim.Native.Nat.{◌-◌}
 use native.Mathlib.Omega.{arith}
-use Rattle.store.proofs.Walks.Records.{Finding, find-start, find-fits, find-found, find-step, find-end}
+use Rattle.store.proofs.Walks.Records.{find-start, find-fits, find-found, find-step, find-end}
 use Rattle.store.proofs.form.find_record.Goals as goal
 
 pub loop-at-init : goal.loop-at-init

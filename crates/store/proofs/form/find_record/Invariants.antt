@@ -1,7 +1,6 @@
 use lib.ListN.{length}
 use Prim.Native.Nat.{◌-◌}
-use native.Mathlib.Omega.{arith}
-use Rattle.store.proofs.Walks.Records.{Finding, find-start, find-fits, find-found, find-step, find-end}
+use Rattle.store.proofs.Walks.Records.{Finding}
 use Rattle.store.proofs.form.find_record.Given as goal
 
 abbrev pub invariant-loop-at : goal.invariant-loop-at

@@ -1,5 +1,4 @@
 use Rattle.store.proofs.Walks.Records.{follows-none, follows-zero, follows-less}
-use borrow.Author.Rules.{rules}
 use Rattle.store.proofs.form.follows.Goals as goal
 
 pub returns-then-last-eq0 : goal.returns-then-last-eq0

@@ -3,7 +3,6 @@ use Rattle.store.specs.Walks.Forms.{length_after}
 use native.Mathlib.Omega.{arith}
 use Prim.Native.Nat.{ℕ, ◌+◌, ◌-◌}
 use mathlib.Core.Path.{ap}
-use borrow.Author.Rules.{rules}
 use Rattle.store.proofs.form.length_after.Goals as goal
 
 pub overflow_sub-result : goal.overflow_sub-result

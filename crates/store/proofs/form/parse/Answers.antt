@@ -2,7 +2,6 @@ use mathlib.Core.Path.{refl}
 use native.Mathlib.Omega.{arith}
 use Rattle.layout.proofs.Laws.Tests.{true-not-false}
 use Rattle.store.proofs.Walks.Rooms.{parsed-wrong, form-bad, parse-right}
-use borrow.Author.Rules.{rules}
 use Rattle.store.proofs.form.parse.Goals as goal
 
 pub returns-then-room-ne1 : goal.returns-then-room-ne1

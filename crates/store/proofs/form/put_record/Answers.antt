@@ -1,5 +1,4 @@
 use Rattle.store.proofs.Walks.Rewriting.{record-put}
-use borrow.Author.Rules.{rules}
 use Rattle.store.proofs.form.put_record.Goals as goal
 
 pub returns : goal.returns

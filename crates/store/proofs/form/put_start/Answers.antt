@@ -5,7 +5,6 @@ use mathlib.Core.List.{◌∷◌}
 use lib.ListN.{length, length-set}
 use Rattle.layout.specs.Bytes.{bytes4}
 use Rattle.layout.proofs.Laws.Bytes.{splice-cons, length-splice, length-bytes4}
-use borrow.Author.Rules.{rules}
 use Rattle.store.proofs.form.put_start.Goals as goal
 
 pub put32-requires : goal.put32-requires

@@ -2,7 +2,6 @@ use mathlib.Core.Path.{sym, ap, ◌∙◌}
 use Prim.Native.Nat.{ℕ, ◌+◌}
 use native.Mathlib.Omega.{arith}
 use Rattle.store.proofs.Walks.Records.{length-long, length_cut, length-right}
-use borrow.Author.Rules.{rules}
 use Rattle.store.proofs.form.record_length.Goals as goal
 
 pub returns-then-size-gt-MAX_SETTING : goal.returns-then-size-gt-MAX_SETTING

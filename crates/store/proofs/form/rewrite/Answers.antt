@@ -1,7 +1,6 @@
 use mathlib.Core.Path.{refl}
 use native.Mathlib.Omega.{arith}
 use Rattle.store.proofs.Walks.Rewriting.{keeps, rewritten-bytes, rewritten-length}
-use borrow.Author.Rules.{rules}
 use Rattle.store.proofs.form.rewrite.Goals as goal
 
 pub overflow_add-from : goal.overflow_add-from

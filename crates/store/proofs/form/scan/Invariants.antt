@@ -1,9 +1,6 @@
-use mathlib.Core.Path.{refl, ap}
 use lib.ListN.{length}
-use Prim.Native.Nat.{ℕ, ◌+◌, ◌-◌}
-use native.Mathlib.Omega.{arith}
-use borrow.Author.Tests.{not-true, not-false}
-use Rattle.store.proofs.Walks.Records.{Scanning, at_some, counted-wrong, scan-start, scan-none, scan-wrong, scan-full, scan_step, scan-empty, scan-nonempty, scan-right}
+use Prim.Native.Nat.{◌-◌}
+use Rattle.store.proofs.Walks.Records.{Scanning}
 use Rattle.store.proofs.form.scan.Given as goal
 
 abbrev pub invariant-loop-at : goal.invariant-loop-at

@@ -6,7 +6,6 @@ use Rattle.layout.proofs.Laws.Bytes.{length-zeros}
 use Rattle.layout.proofs.Walks.Looks.{located-below}
 use Rattle.store.proofs.Laws.Serials.{addressed}
 use Rattle.store.proofs.Walks.Gets.{answer-refused, got-check, got-address, got-none, got-file, located-bytes, located_fits}
-use borrow.Author.Rules.{rules}
 use Rattle.store.proofs.get.get_either.Goals as goal
 
 pub returns-then-refusal-ne0 : goal.returns-then-refusal-ne0

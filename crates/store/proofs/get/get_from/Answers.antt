@@ -3,7 +3,6 @@ use mathlib.Core.Path.{sym, ap, ◌∙◌}
 use native.Mathlib.Omega.{arith}
 use borrow.Author.Tests.{not-true, not-false}
 use Rattle.store.proofs.Walks.Gets.{answer-refused, wanted-is, sought-broken, sought-missing, sought-found}
-use borrow.Author.Rules.{rules}
 use Rattle.store.proofs.get.get_from.Goals as goal
 
 pub returns-then-not-form : goal.returns-then-not-form

@@ -3,7 +3,6 @@ use Prim.Native.Nat.{◌-◌}
 use native.Mathlib.Omega.{arith}
 use borrow.Author.Tests.{not-true, not-false}
 use Rattle.store.proofs.Walks.Rooms.{parsed-wrong, file-front, zeros-behind, load-wrong, load_inside, load_cut, load-right}
-use borrow.Author.Rules.{rules}
 use Rattle.store.proofs.load.load.Goals as goal
 
 pub returns-then-not-form : goal.returns-then-not-form

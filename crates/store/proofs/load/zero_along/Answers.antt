@@ -2,7 +2,7 @@ use mathlib.Core.Path.{refl, sym, ◌∙◌}
 use native.Mathlib.Omega.{arith}
 use borrow.Author.Tests.{not-true, not-false}
 use Rattle.layout.proofs.Walks.Content.{below-nth, least-cases}
-use Rattle.store.proofs.Walks.Zeros.{Zeroing, zeroing-here, zeroing-pass, zeroing-step, zeroing-stop, zeroing-end}
+use Rattle.store.proofs.Walks.Zeros.{zeroing-here, zeroing-pass, zeroing-step, zeroing-stop, zeroing-end}
 use Rattle.store.proofs.load.zero_along.Goals as goal
 
 pub loop-rest-init : goal.loop-rest-init

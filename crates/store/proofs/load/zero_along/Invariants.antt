@@ -1,8 +1,4 @@
-use mathlib.Core.Path.{refl, sym, ◌∙◌}
-use native.Mathlib.Omega.{arith}
-use borrow.Author.Tests.{not-true, not-false}
-use Rattle.layout.proofs.Walks.Content.{below-nth, least-cases}
-use Rattle.store.proofs.Walks.Zeros.{Zeroing, zeroing-here, zeroing-pass, zeroing-step, zeroing-stop, zeroing-end}
+use Rattle.store.proofs.Walks.Zeros.{Zeroing}
 use Rattle.store.proofs.load.zero_along.Given as goal
 
 abbrev pub invariant-loop-rest : goal.invariant-loop-rest

@@ -3,7 +3,6 @@ use Rattle.layout.specs.Walks.Entries.{all_zero}
 use native.Mathlib.Omega.{arith}
 use Prim.Native.Nat.{◌+◌, ◌-◌, ◌*◌}
 use mathlib.Core.Path.{◌≡◌, ap, ◌∙◌}
-use borrow.Author.Rules.{rules}
 use Rattle.store.proofs.load.zero_in_block.Goals as goal
 
 pub returns : goal.returns

@@ -2,7 +2,6 @@ use mathlib.Core.Path.{refl}
 use native.Mathlib.Omega.{arith}
 use Rattle.layout.proofs.Walks.Shapes.{sound-shape}
 use Rattle.store.proofs.Walks.Prepares.{first-refused, first-none, first-place}
-use borrow.Author.Rules.{rules}
 use Rattle.store.proofs.put.first_refusal.Goals as goal
 
 pub returns-then-number-ne0 : goal.returns-then-number-ne0

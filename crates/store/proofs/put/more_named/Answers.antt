@@ -6,7 +6,6 @@ use Rattle.volume.specs.Write.{write_named}
 use Rattle.volume.specs.Walks.Marks.{marked}
 use Rattle.store.proofs.Walks.Puts.{file-small, file-blocks, spare-accepted, spare-named}
 use Rattle.store.proofs.Walks.Prepares.{more-weighed}
-use borrow.Author.Rules.{rules}
 use Rattle.store.proofs.put.more_named.Goals as goal
 
 -- src/put.rt:138:8

@@ -1,5 +1,4 @@
 use Rattle.store.proofs.Walks.Prepares.{more-refused, more-written}
-use borrow.Author.Rules.{rules}
 use Rattle.store.proofs.put.more_refusal.Goals as goal
 
 pub returns-then-number-ne0 : goal.returns-then-number-ne0

@@ -7,7 +7,6 @@ use Rattle.store.specs.Settings.{encoded, added}
 use Rattle.store.proofs.Laws.Put.{put-serial, put-short}
 use Rattle.store.proofs.Walks.Firsts.{first-sound, first-standing, first-accepted, first-image, first-revision}
 use Rattle.store.proofs.Walks.Prepares.{target-absent, target-standing, target-short, target-given, target-image, target-revision}
-use borrow.Author.Rules.{rules}
 use Rattle.store.proofs.put.put.Goals as goal
 
 pub create_file-requires : goal.create_file-requires

@@ -10,7 +10,6 @@ use Rattle.store.proofs.Walks.Rooms.{summary-none}
 use Rattle.store.proofs.Walks.Refusals.{first-length}
 use Rattle.store.proofs.Walks.Firsts.{first-used, first-front}
 use Rattle.store.specs.Walks.Forms.{max_form}
-use borrow.Author.Rules.{rules}
 use Rattle.store.proofs.put.put_first.Goals as goal
 
 pub rewrite-used-requires : goal.rewrite-used-requires

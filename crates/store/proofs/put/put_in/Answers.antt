@@ -2,7 +2,6 @@ use Prim.Native.Nat.{◌-◌, max}
 use mathlib.Core.Path.{◌≡◌, ◌∙◌}
 use native.Mathlib.Omega.{arith}
 use Rattle.store.proofs.Walks.Puts.{file-below, file-inside, more-right, more-summary, more-low, more-fits, more-accepted, more-image, more-number}
-use borrow.Author.Rules.{rules}
 use Rattle.store.proofs.put.put_in.Goals as goal
 
 pub load-form-requires : goal.load-form-requires

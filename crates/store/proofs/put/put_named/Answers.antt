@@ -11,7 +11,6 @@ use Rattle.volume.specs.Walks.Marks.{marked}
 use Rattle.layout.proofs.Walks.Shapes.{sound-shape}
 use Rattle.store.proofs.Walks.Firsts.{first-room, first-named}
 use Rattle.store.proofs.Walks.Prepares.{target-absent, target-standing, target-short, target-given, target-named}
-use borrow.Author.Rules.{rules}
 use Rattle.store.proofs.put.put_named.Goals as goal
 
 pub mark-requires : goal.mark-requires

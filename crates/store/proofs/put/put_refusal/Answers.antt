@@ -4,7 +4,6 @@ use Rattle.store.specs.Put.{path_of}
 use Rattle.store.proofs.Laws.Serials.{addressed}
 use Rattle.store.proofs.Walks.Refusals.{address-refused, there-if, absent-if}
 use Rattle.store.proofs.Walks.Prepares.{prepared-refused, prepared-first, prepared-more, there-more}
-use borrow.Author.Rules.{rules}
 use Rattle.store.proofs.put.put_refusal.Goals as goal
 
 pub returns-then-form-ne0 : goal.returns-then-form-ne0

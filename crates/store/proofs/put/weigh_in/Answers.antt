@@ -5,7 +5,6 @@ use borrow.Author.Tests.{not-true, not-false}
 use Rattle.store.specs.Settings.{max_number}
 use Rattle.store.proofs.Walks.Rewriting.{oldest-most}
 use Rattle.store.proofs.Walks.Puts.{file-below, file-inside, weighed-form, weighed-last, weighed-size}
-use borrow.Author.Rules.{rules}
 use Rattle.store.proofs.put.weigh_in.Goals as goal
 
 pub load-form-requires : goal.load-form-requires

@@ -1,7 +1,6 @@
 use mathlib.Core.Path.{sym, ◌∙◌}
 use borrow.Author.Tests.{not-true, not-false}
 use Rattle.store.proofs.Walks.Serials.{address-unfit, address_unnamed, address-root, address-form, address-levels}
-use borrow.Author.Rules.{rules}
 use Rattle.store.proofs.serial.address_refusal.Goals as goal
 
 pub returns-then-not-fits : goal.returns-then-not-fits

@@ -1,7 +1,6 @@
 use mathlib.Core.Path.{sym, ◌∙◌}
 use native.Mathlib.Omega.{arith}
 use Rattle.store.proofs.Walks.Serials.{front-root, front_below}
-use borrow.Author.Rules.{rules}
 use Rattle.store.proofs.serial.front_length.Goals as goal
 
 pub returns-then-is_root : goal.returns-then-is_root

@@ -1,5 +1,4 @@
 use Rattle.layout.proofs.Walks.Listed.{root-path-long, root-path-one}
-use borrow.Author.Rules.{rules}
 use Rattle.store.proofs.serial.is_root.Goals as goal
 
 pub returns-then-directory-ne1 : goal.returns-then-directory-ne1

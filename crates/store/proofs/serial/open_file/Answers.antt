@@ -2,7 +2,6 @@ use Prim.Native.Nat.{◌+◌, ◌-◌}
 use lib.ListN.{length}
 use native.Mathlib.Omega.{arith}
 use Rattle.store.proofs.Walks.Serials.{path-long, path-front, path-short}
-use borrow.Author.Rules.{rules}
 use Rattle.store.proofs.serial.open_file.Goals as goal
 
 pub path_of-path-requires : goal.path_of-path-requires

@@ -3,7 +3,6 @@ use mathlib.Core.Path.{ap, ◌∙◌}
 use native.Mathlib.Omega.{arith}
 use lib.ListN.{length, length-set}
 use Rattle.layout.proofs.Laws.Bytes.{length-zeros}
-use borrow.Author.Rules.{rules}
 use Rattle.store.proofs.serial.path_of.Goals as goal
 
 pub copy_part-requires : goal.copy_part-requires

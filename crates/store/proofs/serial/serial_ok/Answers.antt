@@ -1,10 +1,6 @@
-use Prim.Native.Nat.{◌≤◌, ◌-◌}
-use mathlib.Core.Path.{◌≡◌, refl, sym, ◌∙◌}
+use mathlib.Core.Path.{refl, sym, ◌∙◌}
 use native.Mathlib.Omega.{arith}
 use borrow.Author.Tests.{not-true, not-false}
-use lib.ListN.{length, drop}
-use Rattle.layout.specs.Lists.{every}
-use Rattle.store.specs.Put.{serial_byte, serial_ok}
 use Rattle.store.proofs.Walks.Serials.{serial_ok-empty, serial_ok-long, serial_ok-bytes, serial_bytes-stop, serial_bytes-next, serial_bytes-end}
 use Rattle.store.proofs.serial.serial_ok.Goals as goal
 

@@ -1,6 +1,5 @@
 use mathlib.Core.Path.{◌∙◌}
 use Rattle.volume.proofs.Walks.Attributes.{fill-placed, fill-put}
-use borrow.Author.Rules.{rules}
 use Rattle.volume.proofs.attributes.fill_blocks.Goals as goal
 
 pub put_data-requires : goal.put_data-requires

@@ -3,7 +3,6 @@ use mathlib.Core.Bool.{true, false}
 use native.Mathlib.Omega.{arith}
 use borrow.Author.Tests.{not-true, not-false}
 use Rattle.volume.proofs.Walks.Attributes.{form-nine, form-other, set-bad-path, set-bad-count, set_long, set-short}
-use borrow.Author.Rules.{rules}
 use Rattle.volume.proofs.attributes.form_refusal.Goals as goal
 
 pub returns-then-path_refusal-eq9 : goal.returns-then-path_refusal-eq9

@@ -1,4 +1,3 @@
-use borrow.Author.Rules.{rules}
 use mathlib.Core.Path.{◌∙◌}
 use Rattle.volume.proofs.Walks.Targets.{target-low, target-slot}
 use Rattle.volume.proofs.change.make.Goals as goal

@@ -1,4 +1,3 @@
-use borrow.Author.Rules.{rules}
 use Rattle.volume.specs.Change.{refusal}
 use Rattle.volume.specs.Replace.{replace_refusal}
 use Rattle.volume.specs.Walks.Targets.{Target}

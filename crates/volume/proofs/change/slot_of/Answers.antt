@@ -1,4 +1,3 @@
-use borrow.Author.Rules.{rules}
 use Rattle.volume.specs.Walks.Targets.{answered}
 use Rattle.volume.proofs.change.slot_of.Goals as goal
 

@@ -2,7 +2,6 @@ use mathlib.Core.Path.{◌≡◌, sym, ◌∙◌}
 use mathlib.Core.Bool.{true, false}
 use borrow.Author.Tests.{not-true, not-false, lt-leb, le-leb}
 use Rattle.layout.specs.Directory.{is_directory}
-use borrow.Author.Rules.{rules}
 use Rattle.volume.proofs.create_directory.shaped.Goals as goal
 
 pub returns-then-not-is_directory : goal.returns-then-not-is_directory

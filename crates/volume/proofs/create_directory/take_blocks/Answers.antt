@@ -1,6 +1,5 @@
 use native.Mathlib.Omega.{arith}
 use Rattle.volume.proofs.Walks.Taken.{taken-growable, taken-below, taken-last}
-use borrow.Author.Rules.{rules}
 use Rattle.volume.proofs.create_directory.take_blocks.Goals as goal
 
 pub grow-first-requires : goal.grow-first-requires

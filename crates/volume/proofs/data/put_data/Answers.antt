@@ -1,6 +1,5 @@
 use native.Mathlib.Omega.{arith}
-use borrow.Author.Rules.{rules}
-use Rattle.volume.proofs.Walks.Put.{Putting, put-start, put-end, block-below, put-pass, put_step}
+use Rattle.volume.proofs.Walks.Put.{put-start, put-end, block-below, put-pass, put_step}
 use Rattle.layout.proofs.Walks.Content.{least-cases}
 use Rattle.volume.proofs.data.put_data.Goals as goal
 

@@ -4,7 +4,6 @@ use mathlib.Core.List.{List}
 use native.Mathlib.Omega.{arith}
 use lib.ListN.{length}
 use Rattle.layout.specs.Bytes.{part, splice}
-use borrow.Author.Rules.{rules}
 use Rattle.layout.proofs.Laws.Bytes.{lent, length_part, length-splice, splice-part}
 use Rattle.volume.proofs.data.put_part.Goals as goal
 

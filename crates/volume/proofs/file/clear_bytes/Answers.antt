@@ -2,7 +2,6 @@ use Prim.Native.Nat.{ℕ, ◌*◌, ◌+◌, ◌-◌, ◌%◌}
 use mathlib.Core.Path.{◌≡◌, ap, ◌∙◌}
 use native.Mathlib.Omega.{arith}
 use Rattle.layout.specs.Bytes.{zeros, splice}
-use borrow.Author.Rules.{rules}
 use Rattle.layout.proofs.Laws.Bytes.{length-zeros, lent-part}
 use Rattle.volume.proofs.file.clear_bytes.Goals as goal
 

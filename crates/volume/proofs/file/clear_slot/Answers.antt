@@ -3,7 +3,6 @@ use mathlib.Core.Path.{◌≡◌, ap, ◌∙◌}
 use native.Mathlib.Omega.{arith}
 use Rattle.layout.specs.Bytes.{zeros, splice}
 use Rattle.layout.specs.Walks.Slots.{entry_at}
-use borrow.Author.Rules.{rules}
 use Rattle.volume.proofs.file.clear_slot.Goals as goal
 
 pub returns : goal.returns

@@ -1,7 +1,6 @@
 use Prim.Native.Nat.{◌*◌, ◌+◌, ◌-◌}
 use mathlib.Core.List.{[], ◌∷◌}
 use native.Mathlib.Omega.{arith}
-use borrow.Author.Rules.{rules}
 use Rattle.layout.proofs.Laws.Bytes.{lent-part}
 use Rattle.volume.proofs.file.end_block.Goals as goal
 

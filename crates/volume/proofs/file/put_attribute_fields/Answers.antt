@@ -1,7 +1,6 @@
 use mathlib.Core.Path.{◌∙◌}
 use native.Mathlib.Omega.{arith}
 use Rattle.volume.proofs.Walks.Lent.{field-words}
-use borrow.Author.Rules.{rules}
 use Rattle.volume.proofs.file.put_attribute_fields.Goals as goal
 
 pub returns : goal.returns

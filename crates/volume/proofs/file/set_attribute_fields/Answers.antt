@@ -1,7 +1,6 @@
 use Prim.Native.Nat.{◌*◌, ◌+◌, ◌-◌, ◌%◌}
 use native.Mathlib.Omega.{arith}
 use Rattle.volume.proofs.Walks.Lent.{lent-fields}
-use borrow.Author.Rules.{rules}
 use Rattle.volume.proofs.file.set_attribute_fields.Goals as goal
 
 pub returns : goal.returns

@@ -1,6 +1,5 @@
 use Prim.Native.Nat.{◌*◌, ◌+◌, ◌-◌, ◌%◌}
 use native.Mathlib.Omega.{arith}
-use borrow.Author.Rules.{rules}
 use Rattle.volume.proofs.Walks.Lent.{lent-file}
 use Rattle.volume.proofs.file.set_file.Goals as goal
 

@@ -1,6 +1,5 @@
 use mathlib.Core.Path.{sym}
 use native.Mathlib.Omega.{arith}
-use borrow.Author.Rules.{rules}
 use Rattle.volume.proofs.Walks.Format.{entry-chain, entry-last}
 use Rattle.volume.proofs.Laws.Format.{entry-low}
 use Rattle.volume.proofs.format.first_entry.Goals as goal

@@ -2,7 +2,6 @@
 use mathlib.Core.Path.{sym, ◌∙◌}
 use native.Mathlib.Omega.{arith}
 use Rattle.layout.specs.Geometry.{block_count}
-use borrow.Author.Rules.{rules}
 use Rattle.volume.proofs.Walks.Format.{formatted-not, formatted-done, image-written}
 use Rattle.volume.proofs.Laws.Format.{format-given}
 use Rattle.volume.proofs.format.format.Goals as goal

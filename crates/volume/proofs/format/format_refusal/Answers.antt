@@ -2,7 +2,6 @@ use mathlib.Core.Path.{◌≡◌, sym, ◌∙◌}
 use mathlib.Core.Bool.{true, false}
 use native.Mathlib.Omega.{arith}
 use borrow.Author.Tests.{not-true, not-false}
-use borrow.Author.Rules.{rules}
 use Rattle.layout.proofs.Walks.Stages.{stage1-shape}
 use Rattle.volume.proofs.Walks.Format.{refused-length, refused_none, refused-many, refused-label, refused-room, not-refused}
 use Rattle.volume.proofs.format.format_refusal.Goals as goal

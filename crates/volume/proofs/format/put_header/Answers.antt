@@ -6,7 +6,6 @@ use native.Mathlib.Omega.{arith}
 use lib.ListN.{length, length-append}
 use Rattle.layout.specs.Bytes.{splice}
 use Rattle.volume.specs.Format.{header_bytes}
-use borrow.Author.Rules.{rules}
 use Rattle.volume.proofs.Walks.Format.{length-header}
 use Rattle.layout.proofs.Laws.Bytes.{length-splice, lent-part}
 use Rattle.volume.proofs.format.put_header.Goals as goal

@@ -1,6 +1,5 @@
 use mathlib.Core.Path.{◌∙◌}
 use native.Mathlib.Omega.{arith}
-use borrow.Author.Rules.{rules}
 use Rattle.volume.proofs.Walks.Format.{labels-written}
 use Rattle.volume.proofs.format.put_labels.Goals as goal
 

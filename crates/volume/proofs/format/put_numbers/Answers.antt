@@ -1,5 +1,4 @@
 use mathlib.Core.Path.{◌∙◌}
-use borrow.Author.Rules.{rules}
 use Rattle.volume.proofs.Walks.Format.{header-written}
 use Rattle.volume.proofs.format.put_numbers.Goals as goal
 

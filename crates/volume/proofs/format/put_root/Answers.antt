@@ -7,7 +7,6 @@ use native.Mathlib.Omega.{arith}
 use lib.ListN.{length}
 use Rattle.layout.specs.Bytes.{splice}
 use Rattle.volume.specs.Entries.{entry_bytes}
-use borrow.Author.Rules.{rules}
 use Rattle.volume.proofs.Walks.Slots.{length-entry}
 use Rattle.volume.proofs.Walks.Format.{directory-written}
 use Rattle.layout.proofs.Laws.Bytes.{length-splice, lent-part}

@@ -1,9 +1,8 @@
 use mathlib.Core.Path.{◌≡◌, refl, sym, ap, ◌∙◌}
 use mathlib.Core.List.{List}
-use Prim.Native.Nat.{ℕ, ◌+◌, ◌-◌, ◌*◌, ◌≤◌}
+use Prim.Native.Nat.{ℕ, ◌+◌, ◌*◌}
 use native.Mathlib.Omega.{arith}
-use lib.ListN.{length, take}
-use Rattle.layout.specs.Lists.{joined}
+use lib.ListN.{length}
 use Rattle.layout.specs.Bytes.{bytes4, splice}
 use Rattle.layout.specs.Geometry.{root_block}
 use Rattle.layout.specs.Table.{set_next}

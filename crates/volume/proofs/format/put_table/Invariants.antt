@@ -1,17 +1,11 @@
 -- The invariant: the first b words stand at 512. One more word extends the splice (words_more).
-use mathlib.Core.Path.{◌≡◌, refl, sym, ap, ◌∙◌}
-use mathlib.Core.List.{List}
-use Prim.Native.Nat.{ℕ, ◌+◌, ◌-◌, ◌*◌, ◌≤◌}
-use native.Mathlib.Omega.{arith}
+use mathlib.Core.Path.{◌≡◌}
+use Prim.Native.Nat.{◌+◌, ◌-◌, ◌≤◌}
 use lib.ListN.{length, take}
 use Rattle.layout.specs.Lists.{joined}
 use Rattle.layout.specs.Bytes.{bytes4, splice}
 use Rattle.layout.specs.Geometry.{root_block}
-use Rattle.layout.specs.Table.{set_next}
 use Rattle.volume.specs.Format.{first_entries}
-use Rattle.volume.proofs.Walks.Format.{words_more, words-all}
-use Rattle.layout.proofs.Laws.Bytes.{splice-nil}
-use Rattle.volume.proofs.Laws.Format.{entries-length}
 use Rattle.volume.proofs.format.put_table.Given as goal
 
 abbrev pub invariant-loop-b : goal.invariant-loop-b

@@ -1,5 +1,4 @@
 use mathlib.Core.Path.{refl}
-use borrow.Author.Rules.{rules}
 use Rattle.volume.specs.Walks.Marks.{marked}
 use Rattle.volume.proofs.marks.mark.Goals as goal
 

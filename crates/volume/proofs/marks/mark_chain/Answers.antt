@@ -3,7 +3,7 @@ use mathlib.Core.List.{map-id}
 use native.Mathlib.Omega.{arith}
 use Rattle.layout.specs.Table.{next, chain}
 use Rattle.volume.specs.Walks.Marks.{marked}
-use Rattle.volume.proofs.Walks.Marks.{Marking, marking-end, marking-turn, length_marked, marking-size}
+use Rattle.volume.proofs.Walks.Marks.{marking-end, marking-turn, length_marked, marking-size}
 use Rattle.layout.proofs.Walks.Shapes.{run-first}
 use Rattle.volume.proofs.marks.mark_chain.Goals as goal
 

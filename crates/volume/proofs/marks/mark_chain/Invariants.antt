@@ -1,10 +1,6 @@
-use mathlib.Core.Path.{sym, ap, ◌∙◌}
-use mathlib.Core.List.{map-id}
-use native.Mathlib.Omega.{arith}
 use Rattle.layout.specs.Table.{next, chain}
 use Rattle.volume.specs.Walks.Marks.{marked}
-use Rattle.volume.proofs.Walks.Marks.{Marking, marking-end, marking-turn, length_marked, marking-size}
-use Rattle.layout.proofs.Walks.Shapes.{run-first}
+use Rattle.volume.proofs.Walks.Marks.{Marking}
 use Rattle.volume.proofs.marks.mark_chain.Given as goal
 
 abbrev pub invariant-loop-left : goal.invariant-loop-left

@@ -1,6 +1,5 @@
 use mathlib.Core.Path.{◌∙◌}
 use Rattle.volume.proofs.Walks.Shorten.{cut-unmarked, cut-first, cut-behind}
-use borrow.Author.Rules.{rules}
 use Rattle.volume.proofs.marks.mark_cut.Goals as goal
 
 pub returns-then-k-eq0 : goal.returns-then-k-eq0

@@ -1,5 +1,4 @@
 use mathlib.Core.Path.{sym, ◌∙◌}
-use borrow.Author.Rules.{rules}
 use Rattle.volume.proofs.Walks.Marks.{entries_none, entries-start}
 use Rattle.volume.proofs.marks.mark_entries.Goals as goal
 

@@ -1,13 +1,10 @@
-use mathlib.Core.Path.{◌∙◌}
 use mathlib.Core.List.{[], ◌∷◌}
-use native.Mathlib.Omega.{arith}
 use lib.ListN.{take}
 use Rattle.layout.specs.Lists.{joined}
 use Rattle.layout.specs.Table.{next, chain, free_blocks, table_block_of}
 use Rattle.volume.specs.Walks.Marks.{marked}
 use Rattle.volume.specs.Walks.Searches.{without}
-use Rattle.volume.proofs.Walks.Marks.{length_marked}
-use Rattle.volume.proofs.Walks.Grow.{MarkingFree, marking-free, free-marked, mark-below, mark-turn, free-size}
+use Rattle.volume.proofs.Walks.Grow.{MarkingFree}
 use Rattle.volume.proofs.marks.mark_free.Given as goal
 
 abbrev pub invariant-loop-left : goal.invariant-loop-left

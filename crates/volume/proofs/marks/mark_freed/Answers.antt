@@ -1,5 +1,4 @@
 use mathlib.Core.Path.{sym, ◌∙◌}
-use borrow.Author.Rules.{rules}
 use Rattle.volume.specs.Entries.{blocks_named}
 use Rattle.volume.proofs.Walks.Marks.{marked_append}
 use Rattle.volume.proofs.marks.mark_freed.Goals as goal

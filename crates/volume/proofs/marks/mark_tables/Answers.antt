@@ -1,9 +1,6 @@
 use mathlib.Core.Path.{refl, ◌∙◌}
-use mathlib.Core.List.{map}
 use native.Mathlib.Omega.{arith}
-use Rattle.layout.specs.Table.{next, chain, table_block_of}
-use Rattle.volume.specs.Walks.Marks.{marked}
-use Rattle.volume.proofs.Walks.Marks.{Marking, marking-end, marking-turn, length_marked, marking-size}
+use Rattle.volume.proofs.Walks.Marks.{marking-end, marking-turn, length_marked, marking-size}
 use Rattle.layout.proofs.Walks.Shapes.{run-first}
 use Rattle.volume.proofs.marks.mark_tables.Goals as goal
 

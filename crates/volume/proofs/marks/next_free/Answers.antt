@@ -1,9 +1,7 @@
-use Prim.Native.Nat.{◌-◌}
 use mathlib.Core.Path.{◌∙◌}
 use native.Mathlib.Omega.{arith}
-use Rattle.layout.specs.Table.{next}
 use Rattle.layout.proofs.Walks.Chains.{used-in-block}
-use Rattle.volume.proofs.Walks.Vacant.{InUse, in-use-none, in-use-run, free-behind, free-nowhere, free-lowest}
+use Rattle.volume.proofs.Walks.Vacant.{in-use-none, in-use-run, free-behind, free-nowhere, free-lowest}
 use Rattle.volume.proofs.marks.next_free.Goals as goal
 
 pub loop-b-init : goal.loop-b-init

@@ -1,9 +1,6 @@
 use Prim.Native.Nat.{◌-◌}
-use mathlib.Core.Path.{◌∙◌}
-use native.Mathlib.Omega.{arith}
 use Rattle.layout.specs.Table.{next}
-use Rattle.layout.proofs.Walks.Chains.{used-in-block}
-use Rattle.volume.proofs.Walks.Vacant.{InUse, in-use-none, in-use-run, free-behind, free-nowhere, free-lowest}
+use Rattle.volume.proofs.Walks.Vacant.{InUse}
 use Rattle.volume.proofs.marks.next_free.Given as goal
 
 abbrev pub invariant-loop-b : goal.invariant-loop-b

@@ -1,8 +1,5 @@
-use native.Mathlib.Omega.{arith}
 use Rattle.layout.specs.Table.{next, chain}
-use Rattle.layout.proofs.Walks.Shapes.{run-first}
-use Rattle.volume.proofs.Walks.Vacant.{Nearing, nearing, nearest, near-turn}
-use borrow.Author.Rules.{rules}
+use Rattle.volume.proofs.Walks.Vacant.{Nearing}
 use Rattle.volume.proofs.marks.next_on_chain.Given as goal
 
 abbrev pub invariant-loop-left : goal.invariant-loop-left

@@ -1,5 +1,3 @@
-use Prim.Native.Nat.{◌-◌}
-use borrow.Author.Rules.{rules}
 use Rattle.volume.proofs.Walks.Vacant.{vacant-first}
 use Rattle.volume.proofs.marks.next_vacant.Goals as goal
 

@@ -1,8 +1,7 @@
-use Prim.Native.Nat.{◌-◌}
 use mathlib.Core.Path.{sym, ◌∙◌}
 use native.Mathlib.Omega.{arith}
 use Rattle.layout.specs.Table.{next}
-use Rattle.volume.proofs.Walks.Vacant.{InUse, in-use-none, in-use-entry, free-here, free-behind, free-nowhere}
+use Rattle.volume.proofs.Walks.Vacant.{in-use-none, in-use-entry, free-here, free-behind, free-nowhere}
 use Rattle.volume.proofs.marks.scan_free.Goals as goal
 
 pub loop-b-init : goal.loop-b-init

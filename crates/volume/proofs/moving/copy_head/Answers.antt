@@ -5,7 +5,6 @@ use native.Mathlib.Omega.{arith}
 use Rattle.layout.specs.Bytes.{part, splice}
 use Rattle.layout.specs.Walks.Slots.{entry_at}
 use Rattle.layout.proofs.Laws.Bytes.{part-part, splice-whole, length_part}
-use borrow.Author.Rules.{rules}
 use Rattle.volume.proofs.moving.copy_head.Goals as goal
 
 -- src/moving.rt:156:1

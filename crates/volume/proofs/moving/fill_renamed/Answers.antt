@@ -4,7 +4,6 @@ use lib.ListN.{take}
 use lib.Seq.{take-length}
 use Rattle.layout.specs.Bytes.{zeros}
 use Rattle.volume.proofs.Walks.Move.{renamed-written}
-use borrow.Author.Rules.{rules}
 use Rattle.volume.proofs.moving.fill_renamed.Goals as goal
 
 -- src/moving.rt:126:1

@@ -1,8 +1,7 @@
-use mathlib.Core.Path.{◌≡◌, refl, ◌∙◌}
-use Prim.Native.Nat.{◌-◌, ◌*◌, ◌≤◌}
+use mathlib.Core.Path.{refl, ◌∙◌}
 use native.Mathlib.Omega.{arith}
-use Rattle.layout.specs.Table.{next, chain}
-use Rattle.layout.specs.Walks.Slots.{Place, slot_from, entry_at}
+use Rattle.layout.specs.Table.{next}
+use Rattle.layout.specs.Walks.Slots.{entry_at}
 use Rattle.layout.proofs.Walks.Slots.{place-below, place-entry, place-then, place-first, slot_from-end, slot_from-here, slot_from-next, stands_here, stands-none}
 use Rattle.volume.specs.Walks.Moves.{slot_open}
 use Rattle.volume.proofs.Walks.Move.{open-from, slot-open}

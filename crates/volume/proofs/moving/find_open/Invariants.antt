@@ -1,11 +1,8 @@
-use mathlib.Core.Path.{◌≡◌, refl, ◌∙◌}
+use mathlib.Core.Path.{◌≡◌}
 use Prim.Native.Nat.{◌-◌, ◌*◌, ◌≤◌}
-use native.Mathlib.Omega.{arith}
 use Rattle.layout.specs.Table.{next, chain}
-use Rattle.layout.specs.Walks.Slots.{Place, slot_from, entry_at}
-use Rattle.layout.proofs.Walks.Slots.{place-below, place-entry, place-then, place-first, slot_from-end, slot_from-here, slot_from-next, stands_here, stands-none}
+use Rattle.layout.specs.Walks.Slots.{Place, slot_from}
 use Rattle.volume.specs.Walks.Moves.{slot_open}
-use Rattle.volume.proofs.Walks.Move.{open-from, slot-open}
 use Rattle.volume.proofs.moving.find_open.Given as goal
 
 abbrev pub invariant-loop-left : goal.invariant-loop-left

@@ -3,7 +3,6 @@ use native.Mathlib.Omega.{arith}
 use Rattle.layout.specs.Walks.Slots.{entry_at}
 use Rattle.layout.proofs.Laws.Bytes.{length_part}
 use Rattle.volume.proofs.Walks.Create.{name-short}
-use borrow.Author.Rules.{rules}
 use Rattle.volume.proofs.moving.move_entry.Goals as goal
 
 -- src/moving.rt:172:5

@@ -2,7 +2,6 @@ use mathlib.Core.Path.{ap, ◌∙◌}
 use mathlib.Core.List.{List, [], ◌∷◌}
 use Prim.Native.Nat.{ℕ}
 use Rattle.volume.specs.Walks.Marks.{marked}
-use borrow.Author.Rules.{rules}
 use Rattle.volume.proofs.moving.move_named.Goals as goal
 
 -- src/moving.rt:110:1

@@ -2,7 +2,6 @@ use mathlib.Core.Path.{◌∙◌, sym}
 use native.Mathlib.Omega.{arith}
 use Rattle.volume.proofs.Walks.Places.{home_at}
 use Rattle.volume.proofs.Walks.Move.{refused-move, refused-forms, forms-fine, nothing-there, home-there, is-taken, none_open, place-open, own-small}
-use borrow.Author.Rules.{rules}
 use Rattle.volume.proofs.moving.move_refusal.Goals as goal
 
 pub returns-then-form-ne0 : goal.returns-then-form-ne0

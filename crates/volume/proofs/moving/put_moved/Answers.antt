@@ -2,7 +2,6 @@ use Prim.Native.Nat.{◌+◌, ◌-◌, ◌*◌, ◌%◌}
 use native.Mathlib.Omega.{arith}
 use Rattle.layout.proofs.Laws.Bytes.{lent-part}
 use Rattle.volume.proofs.Walks.Move.{length-renamed}
-use borrow.Author.Rules.{rules}
 use Rattle.volume.proofs.moving.put_moved.Goals as goal
 
 -- src/moving.rt:145:1

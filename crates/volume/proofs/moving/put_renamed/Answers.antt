@@ -3,7 +3,6 @@ use mathlib.Core.Path.{◌∙◌}
 use native.Mathlib.Omega.{arith}
 use Rattle.layout.proofs.Laws.Bytes.{lent}
 use Rattle.volume.proofs.Walks.Move.{length-renamed}
-use borrow.Author.Rules.{rules}
 use Rattle.volume.proofs.moving.put_renamed.Goals as goal
 
 -- src/moving.rt:136:1

@@ -1,6 +1,5 @@
 use native.Mathlib.Omega.{arith}
-use Rattle.layout.specs.Table.{next}
-use Rattle.volume.proofs.Walks.Notes.{Noting, noting, note-turn, all_noted}
+use Rattle.volume.proofs.Walks.Notes.{noting, note-turn, all_noted}
 use Rattle.volume.proofs.notes.note_all.Goals as goal
 
 pub table_blocks-left-requires : goal.table_blocks-left-requires

@@ -1,6 +1,5 @@
-use native.Mathlib.Omega.{arith}
 use Rattle.layout.specs.Table.{next}
-use Rattle.volume.proofs.Walks.Notes.{Noting, noting, note-turn, all_noted}
+use Rattle.volume.proofs.Walks.Notes.{Noting}
 use Rattle.volume.proofs.notes.note_all.Given as goal
 
 abbrev pub invariant-loop-left : goal.invariant-loop-left

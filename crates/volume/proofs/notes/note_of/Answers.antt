@@ -1,4 +1,3 @@
-use borrow.Author.Rules.{rules}
 use Rattle.volume.proofs.Walks.Notes.{note-full, note-some}
 use Rattle.volume.proofs.notes.note_of.Goals as goal
 

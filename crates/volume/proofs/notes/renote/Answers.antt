@@ -1,5 +1,4 @@
 use native.Mathlib.Omega.{arith}
-use borrow.Author.Rules.{rules}
 use Rattle.volume.proofs.Walks.Notes.{note-in-block, renoted}
 use Rattle.volume.proofs.notes.renote.Goals as goal
 

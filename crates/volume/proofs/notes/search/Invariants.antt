@@ -1,8 +1,6 @@
 use Prim.Native.Nat.{◌-◌}
-use mathlib.Core.Path.{sym, ◌∙◌}
-use native.Mathlib.Omega.{arith}
 use Rattle.layout.specs.Table.{next}
-use Rattle.volume.proofs.Walks.Notes.{Passed, passed_none, pass-block, pass-entry, found_here, found_none}
+use Rattle.volume.proofs.Walks.Notes.{Passed}
 use Rattle.volume.proofs.notes.search.Given as goal
 
 abbrev pub invariant-loop-b : goal.invariant-loop-b

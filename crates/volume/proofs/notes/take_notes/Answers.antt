@@ -1,6 +1,5 @@
 use native.Mathlib.Omega.{arith}
 use Rattle.layout.proofs.Laws.Bytes.{zeros-own}
-use borrow.Author.Rules.{rules}
 use Rattle.volume.proofs.notes.take_notes.Goals as goal
 
 pub note_all-requires : goal.note_all-requires

@@ -1,7 +1,6 @@
 use native.Mathlib.Omega.{arith}
 use lib.ListN.{length-set}
 use Rattle.layout.specs.Bytes.{bytes4}
-use borrow.Author.Rules.{rules}
 use Rattle.layout.proofs.Laws.Bytes.{set4-splice}
 use Rattle.volume.proofs.number.put32.Goals as goal
 

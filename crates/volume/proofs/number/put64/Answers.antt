@@ -3,7 +3,6 @@ use Prim.Native.Nat.{ℕ, ◌/◌, ◌%◌}
 use native.Mathlib.Omega.{arith}
 use Rattle.layout.specs.Bytes.{bytes4, bytes8, splice}
 use mathlib.Core.List.{List, ◌++◌}
-use borrow.Author.Rules.{rules}
 use Rattle.layout.proofs.Laws.Bytes.{bytes4-low, splice-append}
 use Rattle.volume.proofs.number.put64.Goals as goal
 

@@ -1,4 +1,3 @@
-use borrow.Author.Rules.{rules}
 use native.Mathlib.Omega.{arith}
 use mathlib.Core.Path.{◌∙◌}
 use Rattle.volume.proofs.Walks.Places.{refused-place, home-none, name-taken, home_at, slots-full, place_found}

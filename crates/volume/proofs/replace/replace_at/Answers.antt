@@ -1,6 +1,5 @@
 use mathlib.Core.Path.{◌∙◌}
 use Rattle.volume.proofs.Walks.Replace.{replace-shortens, replace-sound, replace-standing, replace-writable, replace-done}
-use borrow.Author.Rules.{rules}
 use Rattle.volume.proofs.replace.replace_at.Goals as goal
 
 pub shorten_at-start-requires : goal.shorten_at-start-requires

@@ -1,7 +1,6 @@
 use mathlib.Core.Path.{◌∙◌}
 use native.Mathlib.Omega.{arith}
 use Rattle.volume.proofs.Walks.Replace.{replace-shortens, replace-writes, replace-marked}
-use borrow.Author.Rules.{rules}
 use Rattle.volume.proofs.replace.replace_named.Goals as goal
 
 pub shorten_named-requires : goal.shorten_named-requires

@@ -1,6 +1,5 @@
 use native.Mathlib.Omega.{arith}
 use Rattle.volume.proofs.Walks.Shorten.{cut-none, cut-some, entry-inside}
-use borrow.Author.Rules.{rules}
 use Rattle.volume.proofs.shorten.find_cut.Goals as goal
 
 pub returns-then-j-eq0 : goal.returns-then-j-eq0

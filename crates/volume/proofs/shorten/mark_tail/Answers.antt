@@ -1,6 +1,5 @@
 use mathlib.Core.Path.{◌∙◌}
 use Rattle.volume.proofs.Walks.Shorten.{end_none, end-some}
-use borrow.Author.Rules.{rules}
 use Rattle.volume.proofs.shorten.mark_tail.Goals as goal
 
 pub returns-then-tail-eq0 : goal.returns-then-tail-eq0

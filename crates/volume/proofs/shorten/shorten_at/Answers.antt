@@ -2,7 +2,6 @@ use mathlib.Core.Path.{◌∙◌}
 use native.Mathlib.Omega.{arith}
 use Rattle.layout.proofs.Walks.Shapes.{sound-shape}
 use Rattle.volume.proofs.Walks.Shorten.{shorten-sizes, shorten-fewer, shorten-run, last-inside, start-inside, cut-freeable, start-given, tail-short, shorten-done}
-use borrow.Author.Rules.{rules}
 use Rattle.volume.proofs.shorten.shorten_at.Goals as goal
 
 pub overflow_add-j : goal.overflow_add-j

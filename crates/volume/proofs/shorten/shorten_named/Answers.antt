@@ -1,7 +1,6 @@
 use mathlib.Core.Path.{◌∙◌}
 use native.Mathlib.Omega.{arith}
 use Rattle.volume.proofs.Walks.Shorten.{shorten-sizes, shorten-fewer, shorten-run, last-inside, rest-run, shorten-marked}
-use borrow.Author.Rules.{rules}
 use Rattle.volume.proofs.shorten.shorten_named.Goals as goal
 
 pub overflow_add-j : goal.overflow_add-j

@@ -3,7 +3,6 @@ use native.Mathlib.Omega.{arith}
 use Rattle.layout.specs.Directory.{is_file}
 use Rattle.layout.proofs.Walks.Looks.{opens-refused, opens_as}
 use Rattle.volume.proofs.Walks.Shorten.{shorten-missing, shorten-above, shorten-fine}
-use borrow.Author.Rules.{rules}
 use Rattle.volume.proofs.shorten.shorten_refusal.Goals as goal
 
 pub returns-then-missing-ne0 : goal.returns-then-missing-ne0

@@ -1,7 +1,6 @@
 use mathlib.Core.Path.{sym}
 use Rattle.volume.proofs.Laws.Shorten.{tail_none}
 use Rattle.volume.proofs.Walks.Shorten.{tail-some}
-use borrow.Author.Rules.{rules}
 use Rattle.volume.proofs.shorten.tail_length.Goals as goal
 
 pub returns-then-size-old : goal.returns-then-size-old

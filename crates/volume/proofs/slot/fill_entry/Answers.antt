@@ -2,7 +2,6 @@
 use mathlib.Core.Path.{◌∙◌}
 use native.Mathlib.Omega.{arith}
 use lib.Seq.{take-length}
-use borrow.Author.Rules.{rules}
 use Rattle.volume.proofs.Walks.Slots.{entry-written}
 use Rattle.volume.proofs.slot.fill_entry.Goals as goal
 

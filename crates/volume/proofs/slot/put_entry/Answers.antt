@@ -2,7 +2,6 @@ use mathlib.Core.Path.{◌∙◌}
 use Prim.Native.Nat.{◌+◌, ◌-◌, ◌≤◌}
 use native.Mathlib.Omega.{arith}
 use lib.ListN.{length}
-use borrow.Author.Rules.{rules}
 use Rattle.volume.proofs.Walks.Slots.{length-entry}
 use Rattle.layout.proofs.Laws.Bytes.{lent}
 use Rattle.volume.proofs.slot.put_entry.Goals as goal

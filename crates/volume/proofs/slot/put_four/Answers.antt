@@ -1,6 +1,5 @@
 use native.Mathlib.Omega.{arith}
 use lib.ListN.{length-set}
-use borrow.Author.Rules.{rules}
 use Rattle.layout.proofs.Laws.Bytes.{set4-splice}
 use Rattle.volume.proofs.slot.put_four.Goals as goal
 

@@ -1,6 +1,5 @@
 use mathlib.Core.Path.{◌∙◌}
 use Rattle.volume.proofs.Walks.Shorten.{cut-nothing, cut-done}
-use borrow.Author.Rules.{rules}
 use Rattle.volume.proofs.table.cut.Goals as goal
 
 pub returns-then-k-eq0 : goal.returns-then-k-eq0

@@ -1,6 +1,5 @@
 use mathlib.Core.Path.{◌∙◌}
 use Rattle.volume.specs.Entries.{freed}
-use borrow.Author.Rules.{rules}
 use Rattle.volume.proofs.table.free_block.Goals as goal
 
 pub returns : goal.returns

@@ -1,5 +1,4 @@
 use native.Mathlib.Omega.{arith}
-use borrow.Author.Rules.{rules}
 use Rattle.volume.proofs.Walks.Grow.{grow-none, search-zero, search-all}
 use Rattle.volume.proofs.table.grow.Goals as goal
 

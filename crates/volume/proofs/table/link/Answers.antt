@@ -1,5 +1,4 @@
 use mathlib.Core.Path.{sym, ◌∙◌}
-use borrow.Author.Rules.{rules}
 use Rattle.volume.proofs.Walks.Lent.{linked-none, linked-some}
 use Rattle.volume.proofs.table.link.Goals as goal
 

@@ -1,5 +1,5 @@
 use native.Mathlib.Omega.{arith}
-use Rattle.volume.proofs.Walks.Release.{Releasing, releasing, below, some-used, turn, all-released}
+use Rattle.volume.proofs.Walks.Release.{releasing, below, some-used, turn, all-released}
 use Rattle.volume.proofs.table.release.Goals as goal
 
 pub loop-left-init : goal.loop-left-init

@@ -1,5 +1,4 @@
-use native.Mathlib.Omega.{arith}
-use Rattle.volume.proofs.Walks.Release.{Releasing, releasing, below, some-used, turn, all-released}
+use Rattle.volume.proofs.Walks.Release.{Releasing}
 use Rattle.volume.proofs.table.release.Given as goal
 
 abbrev pub invariant-loop-left : goal.invariant-loop-left

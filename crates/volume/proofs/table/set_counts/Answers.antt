@@ -1,7 +1,6 @@
 use native.Mathlib.Omega.{arith}
 use Rattle.layout.specs.Bytes.{bytes4}
 use Rattle.volume.specs.Entries.{set_occupied}
-use borrow.Author.Rules.{rules}
 use Rattle.layout.proofs.Laws.Bytes.{lent-header}
 use Rattle.volume.proofs.table.set_counts.Goals as goal
 

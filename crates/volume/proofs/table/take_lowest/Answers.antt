@@ -1,7 +1,6 @@
 use native.Mathlib.Omega.{arith}
-use mathlib.Core.Path.{◌≡◌, refl}
-use lib.ListN.{length}
-use Rattle.volume.proofs.Walks.Grow.{Growing, growing, all_grown, grow-found, takeable, taken-below, grow-turn}
+use mathlib.Core.Path.{refl}
+use Rattle.volume.proofs.Walks.Grow.{growing, all_grown, grow-found, takeable, taken-below, grow-turn}
 use Rattle.volume.proofs.table.take_lowest.Goals as goal
 
 pub loop-left-init : goal.loop-left-init

@@ -1,7 +1,6 @@
-use native.Mathlib.Omega.{arith}
-use mathlib.Core.Path.{◌≡◌, refl}
+use mathlib.Core.Path.{◌≡◌}
 use lib.ListN.{length}
-use Rattle.volume.proofs.Walks.Grow.{Growing, growing, all_grown, grow-found, takeable, taken-below, grow-turn}
+use Rattle.volume.proofs.Walks.Grow.{Growing}
 use Rattle.volume.proofs.table.take_lowest.Given as goal
 
 abbrev pub invariant-loop-left : goal.invariant-loop-left

@@ -1,5 +1,4 @@
 use native.Mathlib.Omega.{arith}
-use borrow.Author.Rules.{rules}
 use Rattle.volume.proofs.Walks.Grow.{take-shape, take-noted}
 use Rattle.volume.proofs.table.take_noted.Goals as goal
 

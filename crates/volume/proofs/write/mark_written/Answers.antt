@@ -1,4 +1,3 @@
-use borrow.Author.Rules.{rules}
 use mathlib.Core.Path.{sym, ap, ◌∙◌}
 use Rattle.volume.specs.Walks.Marks.{marked}
 use Rattle.volume.proofs.Walks.WriteNamed.{written_none, written-some}

@@ -1,4 +1,3 @@
-use borrow.Author.Rules.{rules}
 use native.Mathlib.Omega.{arith}
 use Rattle.layout.proofs.Walks.Looks.{located-below}
 use Rattle.volume.proofs.Walks.Plan.{plan-sizes, planned}

@@ -1,4 +1,3 @@
-use borrow.Author.Rules.{rules}
 use mathlib.Core.Path.{◌∙◌}
 use Rattle.volume.proofs.Walks.WriteImage.{write-growable, write-placed, write-settable, write_done}
 use Rattle.volume.proofs.write.write_at.Goals as goal

@@ -1,7 +1,6 @@
 use mathlib.Core.Path.{sym, ◌∙◌}
 use native.Mathlib.Omega.{arith}
 use Rattle.volume_file.proofs.Laws.Begins.{begins, begin-kept, begin-done}
-use borrow.Author.Rules.{rules}
 use Rattle.volume_file.proofs.begin.begin.Goals as goal
 
 pub returns-then-number-ne0 : goal.returns-then-number-ne0

@@ -3,7 +3,6 @@ use native.Mathlib.Omega.{arith}
 use Rattle.volume_file.proofs.Walks.Turns.{test-true, test-false}
 use Rattle.volume_file.proofs.Laws.Begins.{begin-sizes, begin-length, begin-accepted}
 use Rattle.volume_file.proofs.Laws.Facts.{sizes-split}
-use borrow.Author.Rules.{rules}
 use Rattle.volume_file.proofs.begin.begin_refusal.Goals as goal
 
 pub returns-then-not-sizes_ok : goal.returns-then-not-sizes_ok

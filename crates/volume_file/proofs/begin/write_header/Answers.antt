@@ -3,7 +3,6 @@ use native.Mathlib.Omega.{arith}
 use Rattle.layout.proofs.Laws.Bytes.{lent}
 use Rattle.volume_file.specs.Format.{file_signature}
 use Rattle.volume_file.proofs.Laws.Begins.{header_made}
-use borrow.Author.Rules.{rules}
 use Rattle.volume_file.proofs.begin.write_header.Goals as goal
 
 pub returns : goal.returns

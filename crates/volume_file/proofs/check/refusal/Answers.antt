@@ -1,6 +1,5 @@
 use native.Mathlib.Omega.{arith}
 use Rattle.volume_file.proofs.Walks.Turns.{file-refused, head-long, head-sized, file-rest}
-use borrow.Author.Rules.{rules}
 use Rattle.volume_file.proofs.check.refusal.Goals as goal
 
 pub returns-then-number-ne0 : goal.returns-then-number-ne0

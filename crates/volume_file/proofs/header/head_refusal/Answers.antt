@@ -8,7 +8,6 @@ use Rattle.layout.specs.Bytes.{block}
 use Rattle.volume_file.specs.Format.{header_ok, home_sectors, file_sectors}
 use Rattle.volume_file.proofs.Laws.Facts.{header-small}
 use Rattle.volume_file.proofs.Walks.Turns.{test-true, test-false, refused-short, refused-header, refused-length, accepted-head}
-use borrow.Author.Rules.{rules}
 use Rattle.volume_file.proofs.header.head_refusal.Goals as goal
 
 pub returns-then-file-lt1024 : goal.returns-then-file-lt1024

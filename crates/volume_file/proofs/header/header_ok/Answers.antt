@@ -1,5 +1,4 @@
 use Rattle.volume_file.specs.Format.{header_ok}
-use borrow.Author.Rules.{rules}
 use Rattle.volume_file.proofs.header.header_ok.Goals as goal
 
 pub returns : goal.returns

@@ -1,5 +1,4 @@
 use Rattle.volume_file.specs.Format.{home_sectors}
-use borrow.Author.Rules.{rules}
 use Rattle.volume_file.proofs.header.home_sectors.Goals as goal
 
 pub returns : goal.returns

@@ -1,5 +1,4 @@
 use Rattle.volume_file.specs.Format.{address}
-use borrow.Author.Rules.{rules}
 use Rattle.volume_file.proofs.log.address.Goals as goal
 
 pub returns : goal.returns

@@ -1,7 +1,5 @@
-use Prim.Native.Nat.{◌≤◌, ◌-◌}
-use mathlib.Core.Path.{◌≡◌, refl, sym, ◌∙◌}
+use mathlib.Core.Path.{refl, sym, ◌∙◌}
 use native.Mathlib.Omega.{arith}
-use Rattle.volume_file.specs.Format.{rising}
 use Rattle.volume_file.proofs.Walks.Turns.{rising-no, rising-yes, rising-end}
 use Rattle.volume_file.proofs.log.addresses_rise.Goals as goal
 

@@ -1,8 +1,6 @@
-use Prim.Native.Nat.{◌≤◌, ◌-◌}
-use mathlib.Core.Path.{◌≡◌, refl, sym, ◌∙◌}
-use native.Mathlib.Omega.{arith}
+use Prim.Native.Nat.{◌≤◌}
+use mathlib.Core.Path.{◌≡◌}
 use Rattle.volume_file.specs.Format.{rising}
-use Rattle.volume_file.proofs.Walks.Turns.{rising-no, rising-yes, rising-end}
 use Rattle.volume_file.proofs.log.addresses_rise.Given as goal
 
 abbrev pub invariant-loop-left : goal.invariant-loop-left

@@ -2,7 +2,6 @@ use Prim.Native.Nat.{ℕ}
 use mathlib.Core.Path.{ap, ◌∙◌}
 use Rattle.layout.specs.Bytes.{be32}
 use Rattle.volume_file.specs.Format.{count_at, log_count}
-use borrow.Author.Rules.{rules}
 use Rattle.volume_file.proofs.log.log_count.Goals as goal
 
 pub returns : goal.returns

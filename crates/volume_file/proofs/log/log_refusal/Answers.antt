@@ -1,7 +1,6 @@
 use mathlib.Core.Path.{sym}
 use native.Mathlib.Omega.{arith}
 use Rattle.volume_file.proofs.Walks.Turns.{test-true, test-false, refused-count, refused-addresses, accepted-log}
-use borrow.Author.Rules.{rules}
 use Rattle.volume_file.proofs.log.log_refusal.Goals as goal
 
 pub returns-then-h-k : goal.returns-then-h-k

@@ -1,6 +1,5 @@
 use mathlib.Core.Path.{refl}
 use Rattle.volume_file.specs.Format.{waits}
-use borrow.Author.Rules.{rules}
 use Rattle.volume_file.proofs.log.log_waits.Goals as goal
 
 pub returns : goal.returns

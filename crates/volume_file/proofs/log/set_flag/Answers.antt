@@ -4,7 +4,6 @@ use Rattle.volume_file.proofs.Laws.Facts.{flagged-length}
 use mathlib.Core.Path.{refl}
 use native.Mathlib.Omega.{arith}
 use Rattle.volume_file.proofs.Walks.Turns.{flagged-made}
-use borrow.Author.Rules.{rules}
 use Rattle.volume_file.proofs.log.set_flag.Goals as goal
 
 pub shape_of-file : goal.shape_of-file

@@ -1,5 +1,4 @@
 use Rattle.volume_file.proofs.Walks.Turns.{test-true, test-false, waiting_none, waiting-some}
-use borrow.Author.Rules.{rules}
 use Rattle.volume_file.proofs.log.waiting.Goals as goal
 
 pub returns-then-not-log_waits : goal.returns-then-not-log_waits

@@ -1,6 +1,5 @@
 use Rattle.volume_file.proofs.Walks.Places.{size_none, size-some}
 use Rattle.volume_file.proofs.Walks.Turns.{test-true, test-false}
-use borrow.Author.Rules.{rules}
 use Rattle.volume_file.proofs.parts.file_size.Goals as goal
 
 pub returns-then-not-sizes_ok : goal.returns-then-not-sizes_ok

@@ -1,6 +1,5 @@
 use native.Mathlib.Omega.{arith}
 use Rattle.volume_file.proofs.Walks.Places.{home-refused, given-long, home-beyond, home-small, home-room, home-none, home_found}
-use borrow.Author.Rules.{rules}
 use Rattle.volume_file.proofs.parts.home_extent.Goals as goal
 
 pub returns-then-refusal-ne0 : goal.returns-then-refusal-ne0

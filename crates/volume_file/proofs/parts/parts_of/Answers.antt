@@ -4,7 +4,6 @@ use mathlib.Core.Path.{◌≡◌, ap, ◌∙◌}
 use native.Mathlib.Omega.{arith}
 use Rattle.layout.specs.Bytes.{be32, block}
 use Rattle.volume_file.proofs.Walks.Places.{given-long, given-sizes, parts-refused, parts-given}
-use borrow.Author.Rules.{rules}
 use Rattle.volume_file.proofs.parts.parts_of.Goals as goal
 
 pub returns-then-number-ne0 : goal.returns-then-number-ne0

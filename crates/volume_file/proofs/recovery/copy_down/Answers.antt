@@ -1,8 +1,6 @@
-use Prim.Native.Nat.{◌≤◌, ◌-◌}
 use mathlib.Core.Path.{◌≡◌, refl, sym, ◌∙◌}
 use native.Mathlib.Omega.{arith}
-use lib.ListN.{length, take, drop, length-set}
-use Rattle.layout.specs.Bytes.{splice}
+use lib.ListN.{length-set}
 use Rattle.layout.proofs.Laws.Bytes.{splice-nil}
 use Rattle.volume_file.proofs.Walks.Turns.{copy_step}
 use Rattle.volume_file.proofs.recovery.copy_down.Goals as goal

@@ -1,10 +1,7 @@
 use Prim.Native.Nat.{◌≤◌, ◌-◌}
-use mathlib.Core.Path.{◌≡◌, refl, sym, ◌∙◌}
-use native.Mathlib.Omega.{arith}
-use lib.ListN.{length, take, drop, length-set}
+use mathlib.Core.Path.{◌≡◌}
+use lib.ListN.{length, take, drop}
 use Rattle.layout.specs.Bytes.{splice}
-use Rattle.layout.proofs.Laws.Bytes.{splice-nil}
-use Rattle.volume_file.proofs.Walks.Turns.{copy_step}
 use Rattle.volume_file.proofs.recovery.copy_down.Given as goal
 
 abbrev pub invariant-loop-i : goal.invariant-loop-i

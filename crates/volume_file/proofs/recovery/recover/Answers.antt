@@ -1,7 +1,6 @@
 use mathlib.Core.Path.{sym, ◌∙◌}
 use native.Mathlib.Omega.{arith}
 use Rattle.volume_file.proofs.Walks.Turns.{test-true, test-false, file-long, nothing-answered, nothing-done, ready-size, ready, recover-done, recover-answered, recover-refused, recover-kept}
-use borrow.Author.Rules.{rules}
 use Rattle.volume_file.proofs.recovery.recover.Goals as goal
 
 pub returns-then-number-ne0 : goal.returns-then-number-ne0

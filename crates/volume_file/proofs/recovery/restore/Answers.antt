@@ -1,7 +1,6 @@
-use Prim.Native.Nat.{◌+◌, ◌≤◌, ◌-◌}
+use Prim.Native.Nat.{◌+◌}
 use mathlib.Core.Path.{◌≡◌, refl, ◌∙◌}
 use native.Mathlib.Omega.{arith}
-use lib.ListN.{length}
 use Rattle.volume_file.specs.Save.{restored}
 use Rattle.volume_file.proofs.Walks.Turns.{restore-below, restore-turn, restore-long}
 use Rattle.volume_file.proofs.recovery.restore.Goals as goal

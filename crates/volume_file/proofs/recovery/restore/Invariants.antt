@@ -1,9 +1,7 @@
-use Prim.Native.Nat.{◌+◌, ◌≤◌, ◌-◌}
-use mathlib.Core.Path.{◌≡◌, refl, ◌∙◌}
-use native.Mathlib.Omega.{arith}
+use Prim.Native.Nat.{◌≤◌, ◌-◌}
+use mathlib.Core.Path.{◌≡◌}
 use lib.ListN.{length}
 use Rattle.volume_file.specs.Save.{restored}
-use Rattle.volume_file.proofs.Walks.Turns.{restore-below, restore-turn, restore-long}
 use Rattle.volume_file.proofs.recovery.restore.Given as goal
 
 abbrev pub invariant-loop-j : goal.invariant-loop-j

@@ -1,5 +1,4 @@
 use mathlib.Core.Path.{◌∙◌}
-use borrow.Author.Rules.{rules}
 use Rattle.volume_file.proofs.recovery.restore_one.Goals as goal
 
 pub returns : goal.returns

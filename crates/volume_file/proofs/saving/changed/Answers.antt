@@ -1,5 +1,4 @@
 use Rattle.volume_file.specs.Save.{differs}
-use borrow.Author.Rules.{rules}
 use Rattle.volume_file.proofs.saving.changed.Goals as goal
 
 pub returns : goal.returns

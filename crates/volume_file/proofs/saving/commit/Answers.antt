@@ -1,6 +1,5 @@
 use mathlib.Core.Path.{sym, ◌∙◌}
 use Rattle.volume_file.proofs.Walks.Logging.{commit-kept, commit-done, commit-long}
-use borrow.Author.Rules.{rules}
 use Rattle.volume_file.proofs.saving.commit.Goals as goal
 
 pub returns-then-number-ne0 : goal.returns-then-number-ne0

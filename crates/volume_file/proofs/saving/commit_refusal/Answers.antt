@@ -2,7 +2,6 @@ use mathlib.Core.Path.{sym, ◌∙◌}
 use native.Mathlib.Omega.{arith}
 use Rattle.volume_file.proofs.Walks.Turns.{head-long, head-sized}
 use Rattle.volume_file.proofs.Walks.Logging.{commit-head, commit-log, commit-waits, commit-ok}
-use borrow.Author.Rules.{rules}
 use Rattle.volume_file.proofs.saving.commit_refusal.Goals as goal
 
 pub returns-then-number-ne0 : goal.returns-then-number-ne0

@@ -1,8 +1,6 @@
-use Prim.Native.Nat.{◌-◌}
 use mathlib.Core.Path.{◌∙◌}
 use native.Mathlib.Omega.{arith}
-use Rattle.volume_file.specs.Save.{home_with}
-use Rattle.volume_file.proofs.Walks.Logging.{together-long, Logging, log-start, log-test, log-skip, log-room, log-take, log-count, log-few, log-end}
+use Rattle.volume_file.proofs.Walks.Logging.{together-long, log-start, log-test, log-skip, log-room, log-take, log-count, log-few, log-end}
 use Rattle.volume_file.proofs.Walks.Turns.{test-true, test-false}
 use Rattle.volume_file.proofs.saving.fill_log.Goals as goal
 

@@ -1,7 +1,6 @@
 use mathlib.Core.Path.{sym, ◌∙◌}
 use native.Mathlib.Omega.{arith}
 use Rattle.volume_file.proofs.Laws.Refused.{lengths-image, lengths-journal, lengths-own, lengths-ok}
-use borrow.Author.Rules.{rules}
 use Rattle.volume_file.proofs.saving.lengths_refusal.Goals as goal
 
 pub returns-then-image-get32 : goal.returns-then-image-get32

@@ -6,7 +6,6 @@ use lib.ListN.{length}
 use Rattle.layout.specs.Bytes.{splice}
 use Rattle.layout.proofs.Laws.Bytes.{lent}
 use Rattle.volume_file.specs.Format.{saved_at}
-use borrow.Author.Rules.{rules}
 use Rattle.volume_file.proofs.saving.log_one.Goals as goal
 
 pub returns : goal.returns

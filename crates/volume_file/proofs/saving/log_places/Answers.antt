@@ -3,7 +3,6 @@ use mathlib.Core.Path.{◌≡◌, ap}
 use native.Mathlib.Omega.{arith}
 use Rattle.volume_file.specs.Format.{number_sectors, saved_at}
 use Rattle.volume_file.specs.Answers.{prepare_answered, log_places}
-use borrow.Author.Rules.{rules}
 use Rattle.volume_file.proofs.saving.log_places.Goals as goal
 
 pub returns : goal.returns

@@ -1,6 +1,5 @@
 use native.Mathlib.Omega.{arith}
 use Rattle.volume_file.proofs.Walks.Logging.{prepare-long, prepare-fill, prepare-room, prepare-answered, prepare-done, prepare-refused, prepare-kept}
-use borrow.Author.Rules.{rules}
 use Rattle.volume_file.proofs.saving.prepare.Goals as goal
 
 pub returns-then-number-ne0 : goal.returns-then-number-ne0

@@ -5,7 +5,6 @@ use native.Mathlib.Omega.{arith}
 use Rattle.volume_file.specs.Save.{lengths_refusal}
 use Rattle.volume_file.proofs.Walks.Places.{given-long}
 use Rattle.volume_file.proofs.Laws.Refused.{prepare-file, prepare-waits, prepare-lengths}
-use borrow.Author.Rules.{rules}
 use Rattle.volume_file.proofs.saving.prepare_refusal.Goals as goal
 
 pub returns-then-number-ne0 : goal.returns-then-number-ne0

@@ -2,7 +2,6 @@ use mathlib.Core.Path.{◌∙◌}
 use native.Mathlib.Omega.{arith}
 use mathlib.Core.List.{◌++◌}
 use Rattle.volume_file.proofs.Walks.Logging.{pair_left, middle-right, own-right}
-use borrow.Author.Rules.{rules}
 use Rattle.volume_file.proofs.saving.sector_of.Goals as goal
 
 pub returns-then-i-n : goal.returns-then-i-n

@@ -3,7 +3,6 @@ use native.Mathlib.Omega.{arith}
 use Rattle.write_list.proofs.Laws.Items.{item}
 use Rattle.journal.proofs.Walks.Changes.{answer-number}
 use Rattle.journal.specs.Run.{number_of}
-use borrow.Author.Rules.{rules}
 use Rattle.write_list.proofs.call.write_item.Goals as goal
 
 pub overflow_add-at : goal.overflow_add-at

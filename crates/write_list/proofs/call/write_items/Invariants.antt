@@ -1,13 +1,9 @@
 use mathlib.Core.Path.{◌≡◌}
-use native.Mathlib.Omega.{arith}
 use Prim.Native.Nat.{◌-◌, ◌≤◌}
 use Rattle.write_list.specs.List.{max_list}
 use lib.ListN.{length}
-use mathlib.Core.Path.{refl}
-use borrow.Author.Rules.{rules}
 use Rattle.journal.specs.Run.{state}
-use Rattle.write_list.proofs.Laws.Items.{item}
-use Rattle.write_list.proofs.Laws.Turns.{Midway, form, write-start, write-item, write-stop, write-more, write-end}
+use Rattle.write_list.proofs.Laws.Turns.{Midway}
 use Rattle.write_list.proofs.call.write_items.Given as goal
 
 abbrev pub invariant-loop-at : goal.invariant-loop-at

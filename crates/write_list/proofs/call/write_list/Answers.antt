@@ -3,7 +3,6 @@ use mathlib.Core.Bool.{true, false}
 use borrow.Author.Tests.{not-true, not-false}
 use Rattle.journal.proofs.Walks.Changes.{ready}
 use Rattle.write_list.proofs.Laws.Turns.{list-unready, list-malformed, list_done}
-use borrow.Author.Rules.{rules}
 use Rattle.write_list.proofs.call.write_list.Goals as goal
 
 pub returns-then-unready-ne0 : goal.returns-then-unready-ne0

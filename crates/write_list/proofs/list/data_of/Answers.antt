@@ -3,7 +3,6 @@ use Rattle.write_list.proofs.Laws.Items.{item}
 use Rattle.write_list.specs.List.{data_at}
 use mathlib.Core.Path.{◌≡◌}
 use Prim.Native.Nat.{◌+◌, ◌-◌}
-use borrow.Author.Rules.{rules}
 use Rattle.write_list.proofs.list.data_of.Goals as goal
 
 pub overflow_add-a : goal.overflow_add-a

@@ -2,7 +2,6 @@ use mathlib.Core.Path.{sym}
 use native.Mathlib.Omega.{arith}
 use Rattle.write_list.proofs.Laws.Items.{item, item-cut, item-rest}
 use Rattle.layout.proofs.Laws.Tests.{is_false}
-use borrow.Author.Rules.{rules}
 use Rattle.write_list.proofs.list.item_ok.Goals as goal
 
 pub returns-then-left-lt18 : goal.returns-then-left-lt18

@@ -1,7 +1,6 @@
 use mathlib.Core.Path.{sym, ◌∙◌}
 use native.Mathlib.Omega.{arith}
 use Rattle.write_list.proofs.Laws.Turns.{list-short, list-long, list-version, list_length, list-items}
-use borrow.Author.Rules.{rules}
 use Rattle.write_list.proofs.list.list_ok.Goals as goal
 
 pub returns-then-list-lt5 : goal.returns-then-list-lt5

@@ -1,6 +1,5 @@
 use native.Mathlib.Omega.{arith}
 use Rattle.write_list.specs.List.{path_length}
-use borrow.Author.Rules.{rules}
 use Rattle.write_list.proofs.list.path_length.Goals as goal
 
 pub returns : goal.returns

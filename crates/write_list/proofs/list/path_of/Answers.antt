@@ -3,7 +3,6 @@ use Rattle.write_list.proofs.Laws.Items.{item}
 use Rattle.write_list.specs.List.{path_at}
 use mathlib.Core.Path.{◌≡◌}
 use Prim.Native.Nat.{◌+◌, ◌-◌}
-use borrow.Author.Rules.{rules}
 use Rattle.write_list.proofs.list.path_of.Goals as goal
 
 pub overflow_add-a : goal.overflow_add-a
