@@ -1,6 +1,7 @@
 # flat.awk: takes x86-64 out of the module of the proved archive. It reads the module as text and writes it with these changes, and no other:
 #
 #   - the layout and the name of the machine are left out, and so is the name of the processor in the functions' attributes
+#   - a structure of two numbers or pointers is loaded in two parts, which stand where x86-64 has them: other machines may lay it out otherwise
 #   - the C functions become internal, and a flat function is added for each:
 #
 #         void bulgefs_flat_NAME(RESULT *answer, ...)
@@ -19,7 +20,12 @@ function bad(why) {
     exit 1
 }
 
-BEGIN { for (i = split(CALLS, chosen, " "); i > 0; i--) wanted[chosen[i]] = 1 }
+BEGIN {
+    bytes["i8"] = 1
+    bytes["i32"] = 4
+    bytes["i64"] = bytes["ptr"] = 8
+    for (i = split(CALLS, chosen, " "); i > 0; i--) wanted[chosen[i]] = 1
+}
 
 /^target (datalayout|triple) = / { next }
 
@@ -83,7 +89,25 @@ function flat(type, name, arguments, short, given, comma) {
 
 /^define internal / { print; next }
 
-/^(@|%|module asm)/ || /ptrtoint|inttoptr|addrspace| asm |thread_local|byval|sret/ { bad("nobody has looked at this on another machine: " $0) }
+# "  %r = load { T, U }, ptr %p, align A", word by word.
+/^  %[a-z0-9.]+ = load \{ [a-z0-9]+, [a-z0-9]+ \}, ptr %[a-z0-9.]+, align [0-9]+$/ {
+    type = "{ " $5 " " $6 " }"
+    sub(/,$/, "", $5)
+    sub(/,$/, "", $9)
+    if (!($5 in bytes) || !($6 in bytes)) bad("a structure of other parts: " $0)
+    at = bytes[$6] > bytes[$5] ? bytes[$6] : bytes[$5]
+    print "  " $1 ".first = load " $5 ", ptr " $9 ", align " $11
+    print "  " $1 ".place = getelementptr i8, ptr " $9 ", i64 " at
+    print "  " $1 ".second = load " $6 ", ptr " $1 ".place, align " ($11 < at ? $11 : at)
+    print "  " $1 ".half = insertvalue " type " poison, " $5 " " $1 ".first, 0"
+    print "  " $1 " = insertvalue " type " " $1 ".half, " $6 " " $1 ".second, 1"
+    next
+}
+
+# A constant of single bytes is the same on every machine.
+/^@static\.[0-9]+ = private unnamed_addr constant \[[0-9]+ x i8\] (c"[^"]*"|zeroinitializer), align 1$/ { print; next }
+
+/^(@|%|module asm)/ || /ptrtoint|inttoptr|addrspace| asm |thread_local|byval|sret|(load|store|alloca|getelementptr) [^,]*\{/ { bad("nobody has looked at this on another machine: " $0) }
 
 { print }
 

@@ -180,8 +180,7 @@ fn new_blocks(image: &[u8], n: usize, met: usize, b: usize, k: usize) -> bool
     let root = layout::geometry::root_block(n);
     let mut at = b;
     for i in 0..k {
-        let c = meet(image, limits::MAX_LEVELS, at, root, met, 0);
-        if c.held != 0 {
+        if meet(image, limits::MAX_LEVELS, at, root, met, 0).held != 0 {
             return false;
         }
         at = next(image, at);
@@ -303,7 +302,6 @@ fn tour(image: &[u8], n: usize, levels: usize, d: usize, before: usize) -> Visit
 
 // What is asked of a chain: how many blocks it claims, or whether it holds a block.
 #[derive(Clone, Copy)]
-#[derive(Drop)]
 enum Question {
     Claims,
     Holds(usize),

@@ -15,12 +15,12 @@ pub loop-i-init : goal.loop-i-init
 loop-i-init c = (c.requires.3, omega arith, from_first (λ (x : ℕ). new_from c.args.image.now c.args.met c.args.b x) _)
 
 -- src/check.rt:185:13
-pub meet-c-requires : goal.meet-c-requires
-meet-c-requires c = (omega (arith, c.root_block-root.ensures, c.requires.0.high), c.requires.1, omega (arith, c.requires.2, c.requires.0.high))
+pub meet-requires : goal.meet-requires
+meet-requires c = (omega (arith, c.root_block-root.ensures, c.requires.0.high), c.requires.1, omega (arith, c.requires.2, c.requires.0.high))
 
 -- src/check.rt:187:13
-pub returns-then-c-ne0 : goal.returns-then-c-ne0
-returns-then-c-ne0 c = sym (c.loop-i.invariant.2 ∙ new-stop c.args.image.now c.args.met c.loop-i.at c.args.k c.loop-i.i (omega arith) _ (held-before _ _ _ _ _ _ _ c.requires.0 c.root_block-root.ensures c.meet-c.ensures.equal) c.if-c-ne0.true)
+pub returns-then-meet-ne0 : goal.returns-then-meet-ne0
+returns-then-meet-ne0 c = sym (c.loop-i.invariant.2 ∙ new-stop c.args.image.now c.args.met c.loop-i.at c.args.k c.loop-i.i (omega arith) _ (held-before _ _ _ _ _ _ _ c.requires.0 c.root_block-root.ensures c.meet.ensures.equal) c.if-meet-ne0.true)
 
 -- src/check.rt:189:9
 pub next-at-requires : goal.next-at-requires
@@ -36,7 +36,7 @@ loop-i-smaller c = omega arith
 
 -- src/check.rt:184:5
 pub loop-i-preserved : goal.loop-i-preserved
-loop-i-preserved c = (c.next-at.ensures.1, omega arith, c.loop-i.invariant.2 ∙ new-next c.args.image.now c.args.met c.loop-i.at c.args.k c.loop-i.i (omega arith) _ (held-before _ _ _ _ _ _ _ c.requires.0 c.root_block-root.ensures c.meet-c.ensures.equal) c.if-c-ne0.false _ c.next-at.ensures.0)
+loop-i-preserved c = (c.next-at.ensures.1, omega arith, c.loop-i.invariant.2 ∙ new-next c.args.image.now c.args.met c.loop-i.at c.args.k c.loop-i.i (omega arith) _ (held-before _ _ _ _ _ _ _ c.requires.0 c.root_block-root.ensures c.meet.ensures.equal) c.if-meet-ne0.false _ c.next-at.ensures.0)
 
 -- src/check.rt:178:1
 pub returns : goal.returns
