@@ -1,6 +1,7 @@
 pub mod Limits
 pub mod Lists
 pub mod Refusals
+pub mod Reasons
 pub mod Bytes
 pub mod Geometry
 pub mod Table

@@ -15,5 +15,6 @@ pub mod number;
 pub mod overview;
 pub mod path;
 pub mod reading;
+pub mod refusal;
 pub mod table;
 mod visit;
