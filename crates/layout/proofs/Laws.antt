@@ -1,6 +1,7 @@
 -- THE LAWS that the proofs of this crate and of the crates above cite, by what they speak of.
 pub mod Tests
 pub mod Lists
+pub mod Reasons
 pub mod Rests
 pub mod Joins
 pub mod Bytes

@@ -1,6 +1,7 @@
-// The check, in stages: the number of the first that is not met, or 0.
+// The check, in stages: the first that is not met.
 ghost use Rattle.std.specs.Prelude.{◌+◌, ◌-◌, ◌*◌, ◌/◌, ◌≤◌, ◌<◌, ◌≡◌, length};
-ghost use Rattle.layout.specs.Limits.{max_blocks, small_blocks, tiny_blocks};
+ghost use Rattle.layout.specs.Limits.{max_blocks};
+ghost use Rattle.layout.specs.Reasons.{outcome};
 ghost use Rattle.layout.specs.Bytes.{zeros};
 ghost use Rattle.layout.specs.Geometry.{table_blocks};
 ghost use Rattle.layout.specs.Table.{next};
@@ -11,19 +12,15 @@ ghost use Rattle.layout.specs.Walks.Stages.{visited, walk_root, header_ok, count
 
 use super::limits::{MAX_BLOCKS, MIN_BLOCKS, SMALL_BLOCKS, TINY_BLOCKS};
 use super::number::get32;
+use super::refusal::Refusal;
 
 // Stage 1: the length.
+#[tactic(auto, unfolding(crate::specs::Check::stage1))]
 pub fn sized(image: &[u8]) -> bool
     ensures { result ≡ stage1 image.now }
 {
     let n = image.len() / 512;
-    if image.len() != 512 * n {
-        return false;
-    }
-    if n < MIN_BLOCKS {
-        return false;
-    }
-    n <= MAX_BLOCKS
+    image.len() == 512 * n && MIN_BLOCKS <= n && n <= MAX_BLOCKS
 }
 
 // Stage 2, of the first block: signature and version.
@@ -31,53 +28,46 @@ fn signed(header: &[u8]) -> bool
     requires { 512 ≤ length header.now }
     ensures { result ≡ stage2 header.now }
 {
-    let a = 0;
-    let e = 12;
-    super::bytes::equal(&header[a..e], b"BulgeFS!\x00\x01\x00\x00")
+    &header[..12] == b"BulgeFS!\x00\x01\x00\x00".as_slice()
 }
 
 // Stage 3, of the first block: total, table and root numbers.
+#[tactic(auto, unfolding(crate::specs::Walks::Stages::header_ok))]
 fn numbered(header: &[u8], n: usize) -> bool
     requires { (512 ≤ length header.now) × (n ≤ max_blocks) }
     ensures { result ≡ header_ok header.now n }
 {
-    if get32(header, 12) as usize != n {
-        return false;
-    }
     let t = super::geometry::table_blocks(n);
-    if get32(header, 16) as usize != t {
-        return false;
-    }
-    get32(header, 28) as usize == t + 1
+    get32(header, 12) as usize == n
+        && get32(header, 16) as usize == t
+        && get32(header, 28) as usize == t + 1
 }
 
 // Stages 1 to 3.
-pub fn head(image: &[u8]) -> u32
-    ensures { result ≡ head_stage image.now }
+pub fn head(image: &[u8]) -> Result<(), Refusal>
+    ensures { outcome result ≡ head_stage image.now }
 {
     if !sized(image) {
-        return 1;
+        return Err(Refusal::BadLength);
     }
     let n = image.len() / 512;
     let header = super::bytes::block(image, 0);
     if !signed(header) {
-        return 2;
+        return Err(Refusal::BadSignature);
     }
     if !numbered(header, n) {
-        return 3;
+        return Err(Refusal::BadGeometry);
     }
-    0
+    Ok(())
 }
 
 // The header's counts, of the first block.
+#[tactic(auto, unfolding(crate::specs::Walks::Stages::counts_ok))]
 fn counted(header: &[u8], n: usize, used: usize) -> bool
     requires { (512 ≤ length header.now) × (used ≤ n) }
     ensures { result ≡ counts_ok header.now n used }
 {
-    if get32(header, 20) as usize != used {
-        return false;
-    }
-    get32(header, 24) as usize == n - used
+    get32(header, 20) as usize == used && get32(header, 24) as usize == n - used
 }
 
 // Stage 7: the counts, when so many entries below n are in use.
@@ -89,86 +79,53 @@ fn counts_ok(image: &[u8], n: usize, used: usize) -> bool
 }
 
 // Stages 6 and 7, when the blocks of all directories are marked in dirs; no block is marked in marks.
-fn tables(image: &[u8], t: usize, n: usize, dirs: &[u8], marks: &mut [u8]) -> u32
+fn tables(image: &[u8], t: usize, n: usize, dirs: &[u8], marks: &mut [u8]) -> Result<(), Refusal>
     requires { (Room image.now t n dirs.now) × (visited 0 dirs.now ≡ walk_root image.now n (zeros (length dirs.now)))
         × (128 * t ≤ length marks.old) × (marks.old ≡ zeros (length marks.old)) }
-    ensures { result ≡ body_stage image.now }
+    ensures { outcome result ≡ body_stage image.now }
 {
     let used = super::chains::table_used(image, t, n, dirs, marks);
     if used == 0 {
-        return 6;
+        return Err(Refusal::BadChains);
     }
     if !counts_ok(image, n, used) {
-        return 7;
+        return Err(Refusal::BadCounts);
     }
-    0
-}
-
-// A mark for each block of a tiny volume, all 0.
-fn fewest_marks() -> [u8; TINY_BLOCKS]
-    ensures { result ≡ zeros tiny_blocks }
-{
-    [0u8; TINY_BLOCKS]
+    Ok(())
 }
 
 // Stages 4 to 7, with two marks for each entry of the table, none marked.
-fn body(image: &[u8], n: usize, dirs: &mut [u8], marks: &mut [u8]) -> u32
+fn marked_body(image: &[u8], n: usize, dirs: &mut [u8], marks: &mut [u8]) -> Result<(), Refusal>
     requires { (Shape image.now n) × (128 * table_blocks n ≤ length dirs.old) × (dirs.old ≡ zeros (length dirs.old))
         × (128 * table_blocks n ≤ length marks.old) × (marks.old ≡ zeros (length marks.old)) }
-    ensures { result ≡ body_stage image.now }
+    ensures { outcome result ≡ body_stage image.now }
 {
     let t = super::geometry::table_blocks(n);
-    let why = super::visit::visit(image, t, n, dirs);
-    if why != 0 {
-        return why;
-    }
+    super::visit::visit(image, t, n, dirs)?;
     tables(image, t, n, dirs, marks)
 }
 
-// The same of a tiny volume.
-fn tiny_body(image: &[u8], n: usize) -> u32
-    requires { (Shape image.now n) × (n ≤ tiny_blocks) }
-    ensures { result ≡ body_stage image.now }
+// The same of a volume whose table has at most N entries, with marks of that size.
+fn body<const N: usize>(image: &[u8], n: usize) -> Result<(), Refusal>
+    requires { (Shape image.now n) × (128 * table_blocks n ≤ N) × (N ≤ max_blocks) }
+    ensures { outcome result ≡ body_stage image.now }
 {
-    let mut dirs = fewest_marks();
-    let mut marks = fewest_marks();
-    body(image, n, &mut dirs, &mut marks)
+    let mut dirs = [0u8; N];
+    let mut marks = [0u8; N];
+    marked_body(image, n, &mut dirs, &mut marks)
 }
 
-// The same of a small volume.
-fn small_body(image: &[u8], n: usize) -> u32
-    requires { (Shape image.now n) × (n ≤ small_blocks) }
-    ensures { result ≡ body_stage image.now }
+// The check: the first stage that is not met is the reason of a refusal.
+pub fn check(image: &[u8]) -> Result<(), Refusal>
+    ensures { outcome result ≡ check image.now }
 {
-    let mut dirs = super::table::few_marks();
-    let mut marks = super::table::few_marks();
-    body(image, n, &mut dirs, &mut marks)
-}
-
-// The same of any volume.
-fn large_body(image: &[u8], n: usize) -> u32
-    requires { Shape image.now n }
-    ensures { result ≡ body_stage image.now }
-{
-    let mut dirs = super::table::no_marks();
-    let mut marks = super::table::no_marks();
-    body(image, n, &mut dirs, &mut marks)
-}
-
-// The check: 0, or the number of the first stage that is not met.
-pub fn check(image: &[u8]) -> u32
-    ensures { result ≡ check image.now }
-{
-    let h = head(image);
-    if h != 0 {
-        return h;
-    }
+    head(image)?;
     let n = image.len() / 512;
     if n <= TINY_BLOCKS {
-        return tiny_body(image, n);
+        body::<TINY_BLOCKS>(image, n)
+    } else if n <= SMALL_BLOCKS {
+        body::<SMALL_BLOCKS>(image, n)
+    } else {
+        body::<MAX_BLOCKS>(image, n)
     }
-    if n <= SMALL_BLOCKS {
-        return small_body(image, n);
-    }
-    large_body(image, n)
 }

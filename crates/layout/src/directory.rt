@@ -9,7 +9,7 @@ ghost use Rattle.layout.specs.Walks.Chains.{walked};
 ghost use Rattle.layout.specs.Walks.Entries.{numbers_ok, self_ok};
 ghost use Rattle.layout.specs.Walks.Shapes.{Room, DirectoryAt};
 ghost use Rattle.layout.specs.Walks.Names.{ending, some_has, may_hold};
-ghost use Rattle.layout.specs.Walks.Slots.{Stands, entry_at, entry_named, slot_block, slot_in, all_free};
+ghost use Rattle.layout.specs.Walks.Slots.{SomeUnlessZero, StandsAt, entry_at, entry_named, slot_block, slot_in, all_free};
 ghost use Rattle.layout.specs.Walks.Stages.{follow_directory};
 
 use super::limits::{MAX_ATTRIBUTES, MAX_DIRECTORY, NAME_FIELD};
@@ -312,84 +312,86 @@ fn may_hold(block: &[u8], name: &[u8], w: u32) -> bool
     some_has(block, at, w)
 }
 
-// The slot of a good name, whose ending is w, among the slots k to k + j − 1, which are in block b, or 0.
-fn find_in(image: &[u8], b: usize, k: usize, j: usize, lo: u8, hi: u8, name: &[u8], w: u32) -> usize
+// The slot of a good name, whose ending is w, among the slots k to k + j − 1, which are in block b.
+fn find_in(
+    image: &[u8],
+    b: usize,
+    k: usize,
+    j: usize,
+    lo: u8,
+    hi: u8,
+    name: &[u8],
+    w: u32,
+) -> Option<usize>
     requires { (512 * b + 512 ≤ length image.now) × (k + j ≤ 256) × (1 ≤ k) × (good_name name.now ≡ true) × (w ≡ ending name.now) }
-    ensures { result ≡ slot_in (entry_named (within lo hi) image.now name.now) b k j }
+    ensures { SomeUnlessZero (slot_in (entry_named (within lo hi) image.now name.now) b k j) result }
 {
     if !may_hold(super::bytes::block(image, b), name, w) {
-        return 0;
+        return None;
     }
-    let mut at = k;
-    let mut left = j;
-    while 0 < left {
+    for at in k..k + j {
         if holds_at(image, b, at, lo, hi, name) {
-            return at;
+            return Some(at);
         }
-        at = at + 1;
-        left = left - 1;
     }
-    0
+    None
 }
 
-// Where an entry is: its slot and the block that holds it. Slot 0: there is none.
-#[derive(Drop)]
+// Where an entry is: its slot and the block that holds it.
+#[derive(Clone, Copy, Drop)]
 pub struct Entry {
     pub slot: usize,
     pub block: usize,
 }
 
-// The slot of a good name in a directory, among those whose type is from lo to hi. It goes from block to block.
-pub fn find(image: &[u8], n: usize, first: usize, d: usize, lo: u8, hi: u8, name: &[u8]) -> Entry
+// The entry of a good name in a directory, among those whose type is from lo to hi. It goes from block to block.
+pub fn find(
+    image: &[u8],
+    n: usize,
+    first: usize,
+    d: usize,
+    lo: u8,
+    hi: u8,
+    name: &[u8],
+) -> Option<Entry>
     requires { (DirectoryAt image.now n first d) × (good_name name.now ≡ true) }
-    ensures { Stands (chain (next image.now) first d) n (slot_of (within lo hi) image.now (chain (next image.now) first d) name.now) result.slot result.block }
+    ensures { StandsAt (chain (next image.now) first d) n (slot_of (within lo hi) image.now (chain (next image.now) first d) name.now) result }
 {
     let w = ending(name);
     let mut b = first;
     let mut k = 1;
     let mut left = 4 * d - 2;
     while 0 < left {
-        let j = super::content::least(4 - k % 4, left);
-        let slot = find_in(image, b, k, j, lo, hi, name, w);
-        if slot != 0 {
-            return Entry {
-                slot: slot,
-                block: b,
-            };
+        let j = left.min(4 - k % 4);
+        if let Some(slot) = find_in(image, b, k, j, lo, hi, name, w) {
+            return Some(Entry { slot, block: b });
         }
-        k = k + j;
+        k += j;
         b = following(image, b, k);
-        left = left - j;
+        left -= j;
     }
-    Entry { slot: 0, block: 0 }
+    None
 }
 
 // The lowest free slot of a directory.
-pub fn find_free(image: &[u8], n: usize, first: usize, d: usize) -> Entry
+pub fn find_free(image: &[u8], n: usize, first: usize, d: usize) -> Option<Entry>
     requires { DirectoryAt image.now n first d }
-    ensures { Stands (chain (next image.now) first d) n (free_slot image.now (chain (next image.now) first d)) result.slot result.block }
+    ensures { StandsAt (chain (next image.now) first d) n (free_slot image.now (chain (next image.now) first d)) result }
 {
     let mut b = first;
-    let mut slot = 1;
-    let mut left = 4 * d - 2;
-    while 0 < left {
+    for slot in 1..4 * d - 1 {
         if type_at(image, b, slot) == 0 {
-            return Entry {
-                slot: slot,
-                block: b,
-            };
+            return Some(Entry { slot, block: b });
         }
-        slot = slot + 1;
-        b = following(image, b, slot);
-        left = left - 1;
+        b = following(image, b, slot + 1);
     }
-    Entry { slot: 0, block: 0 }
+    None
 }
 
 // The lowest free slot of the directory at block b.
-pub fn free_slot(image: &[u8], n: usize, b: usize) -> Entry
+pub fn free_slot(image: &[u8], n: usize, b: usize) -> Option<Entry>
     requires { DirectoryAt image.now n b (blocks_of image.now (512 * b)) }
-    ensures { Stands (directory image.now b) n (free_slot image.now (directory image.now b)) result.slot result.block }
+    ensures { StandsAt (directory image.now b) n (free_slot image.now (directory image.now b)) result }
 {
     let d = number_at(image, b, 0, 12);
     find_free(image, n, b, d)

@@ -5,13 +5,13 @@ ghost use Rattle.layout.specs.Table.{next, chain};
 ghost use Rattle.layout.specs.Check.{check};
 ghost use Rattle.layout.specs.Answers.{volume_answer, entry_answer};
 ghost use Rattle.layout.specs.Looks.{volume_info, is_root_path, used_slot, no_entry, entry_fields, next_entry};
-ghost use Rattle.layout.specs.Walks.Looks.{Lists};
+ghost use Rattle.layout.specs.Walks.Looks.{Listed};
 ghost use Rattle.layout.specs.Walks.Shapes.{DirectoryAt};
-ghost use Rattle.layout.specs.Walks.Slots.{Stands, entry_at};
+ghost use Rattle.layout.specs.Walks.Slots.{StandsAt, entry_at};
 
-use super::content::least;
-use super::directory::{byte_at, time_at, word_at};
+use super::directory::{Entry, byte_at, time_at, word_at};
 use super::limits::{LABELS, NAME_FIELD};
+use super::refusal::Refusal;
 
 // The numbers of a volume: its blocks, those in use, free and of the root.
 #[repr(C)]
@@ -47,10 +47,9 @@ fn volume_numbers(image: &[u8]) -> VolumeInfo
 pub fn info(image: &[u8], buffer: &mut [u8]) -> VolumeInfo
     ensures { volume_answer result buffer.new ≡ volume_info image.now buffer.old }
 {
-    let refusal = super::check::check(image);
-    if refusal != 0 {
+    if let Err(why) = super::check::check(image) {
         return VolumeInfo {
-            number: refusal,
+            number: why.number(),
             blocks: 0,
             used: 0,
             free: 0,
@@ -58,51 +57,28 @@ pub fn info(image: &[u8], buffer: &mut [u8]) -> VolumeInfo
         };
     }
     let numbers = volume_numbers(image);
-    let count = least(buffer.len(), LABELS);
+    let count = buffer.len().min(LABELS);
     super::content::copy_block(image, 0, 112, buffer, 0, count);
     numbers
-}
-
-// A directory to be listed: the number of the refusal, or 0, and its first block.
-#[derive(Drop)]
-struct Listed {
-    number: u32,
-    first: usize,
 }
 
 // Whether a path is `/` alone.
 fn is_root_path(path: &[u8]) -> bool
     ensures { result ≡ is_root_path path.now }
 {
-    if path.len() != 1 {
-        return false;
-    }
-    path[0] == b'/'
+    path == b"/".as_slice()
 }
 
-// The directory of a path, or the refusal, 1 to 7, 9, 17 or 10.
-fn open_listed(image: &[u8], path: &[u8]) -> Listed
-    ensures { Lists image.now path.now result.number result.first }
+// The first block of the directory of a path, or the refusal, 1 to 7, 9, 17 or 10.
+fn open_listed(image: &[u8], path: &[u8]) -> Result<usize, Refusal>
+    ensures { Listed image.now path.now result }
 {
-    let refusal = super::check::check(image);
-    if refusal != 0 {
-        return Listed {
-            number: refusal,
-            first: 0,
-        };
-    }
+    super::check::check(image)?;
     if is_root_path(path) {
-        let n = image.len() / 512;
-        return Listed {
-            number: 0,
-            first: super::geometry::root_block(n),
-        };
+        return Ok(super::geometry::root_block(image.len() / 512));
     }
-    let o = super::file::open_directory(image, path);
-    Listed {
-        number: o.number,
-        first: o.first,
-    }
+    let directory = super::file::open_directory(image, path)?;
+    Ok(directory.first)
 }
 
 // Whether slot k, which is in block b, is from `start` on and not free.
@@ -110,41 +86,28 @@ fn is_used_from(image: &[u8], b: usize, k: usize, start: usize) -> bool
     requires { 512 * b + 512 ≤ length image.now }
     ensures { result ≡ leb start k && is_used (type_of image.now (entry_at b k)) }
 {
-    if k < start {
-        return false;
-    }
-    super::directory::type_at(image, b, k) != 0
+    start <= k && super::directory::type_at(image, b, k) != 0
 }
 
 // The lowest slot from `start` on of a directory that is not free.
-fn find_used(
-    image: &[u8],
-    n: usize,
-    first: usize,
-    d: usize,
-    start: usize,
-) -> super::directory::Entry
+fn find_used(image: &[u8], n: usize, first: usize, d: usize, start: usize) -> Option<Entry>
     requires { DirectoryAt image.now n first d }
-    ensures { Stands (chain (next image.now) first d) n (used_slot image.now (chain (next image.now) first d) start) result.slot result.block }
+    ensures { StandsAt (chain (next image.now) first d) n (used_slot image.now (chain (next image.now) first d) start) result }
 {
     let mut b = first;
-    let mut k = 1;
-    let mut left = 4 * d - 2;
-    while 0 < left {
-        if is_used_from(image, b, k, start) {
-            return super::directory::Entry { slot: k, block: b };
+    for slot in 1..4 * d - 1 {
+        if is_used_from(image, b, slot, start) {
+            return Some(Entry { slot, block: b });
         }
-        k = k + 1;
-        b = super::directory::following(image, b, k);
-        left = left - 1;
+        b = super::directory::following(image, b, slot + 1);
     }
-    super::directory::Entry { slot: 0, block: 0 }
+    None
 }
 
 // The lowest slot from `start` on of the directory at block b that is not free.
-fn used_slot(image: &[u8], n: usize, b: usize, start: usize) -> super::directory::Entry
+fn used_slot(image: &[u8], n: usize, b: usize, start: usize) -> Option<Entry>
     requires { DirectoryAt image.now n b (blocks_of image.now (512 * b)) }
-    ensures { Stands (directory image.now b) n (used_slot image.now (directory image.now b) start) result.slot result.block }
+    ensures { StandsAt (directory image.now b) n (used_slot image.now (directory image.now b) start) result }
 {
     let d = super::directory::number_at(image, b, 0, 12);
     find_used(image, n, b, d, start)
@@ -221,22 +184,17 @@ fn entry_fields(image: &[u8], b: usize, k: usize) -> EntryInfo
 pub fn next_entry(image: &[u8], path: &[u8], start: usize, buffer: &mut [u8]) -> EntryInfo
     ensures { entry_answer result buffer.new ≡ next_entry image.now path.now start buffer.old }
 {
-    let o = open_listed(image, path);
-    let number = o.number;
-    let first = o.first;
-    if number != 0 {
-        return no_entry(number);
-    }
+    let first = match open_listed(image, path) {
+        Ok(first) => first,
+        Err(why) => return no_entry(why.number()),
+    };
     let n = image.len() / 512;
-    let f = used_slot(image, n, first, start);
-    let k = f.slot;
-    let b = f.block;
-    if k == 0 {
+    let Some(at) = used_slot(image, n, first, start) else {
         return no_entry(0);
-    }
-    let fields = entry_fields(image, b, k);
-    let count = least(buffer.len(), NAME_FIELD);
-    let o = 128 * (k % 4) + 48;
-    super::content::copy_block(image, b, o, buffer, 0, count);
+    };
+    let fields = entry_fields(image, at.block, at.slot);
+    let count = buffer.len().min(NAME_FIELD);
+    let o = 128 * (at.slot % 4) + 48;
+    super::content::copy_block(image, at.block, o, buffer, 0, count);
     fields
 }

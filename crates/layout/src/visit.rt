@@ -1,6 +1,7 @@
 // Stages 4 and 5: from a directory to its entries, and from an entry to a child directory. The blocks of each directory met are marked.
 ghost use Rattle.std.specs.Prelude.{◌+◌, ◌-◌, ◌*◌, ◌≤◌, ◌<◌, ◌≡◌, length};
 ghost use Rattle.layout.specs.Limits.{max_levels};
+ghost use Rattle.layout.specs.Reasons.{outcome};
 ghost use Rattle.layout.specs.Table.{next, chain};
 ghost use Rattle.layout.specs.Directory.{slot_at, type_of};
 ghost use Rattle.layout.specs.Walks.Chains.{walked};
@@ -11,6 +12,7 @@ ghost use Rattle.layout.specs.Walks.Stages.{child_entry, follow_child, visited, 
 
 use super::directory::number_at;
 use super::limits::MAX_LEVELS;
+use super::refusal::Refusal;
 
 // Whether the entry of a child directory, in slot k of block at, and the child's self entry have the same size and name.
 fn child_matches(image: &[u8], n: usize, at: usize, k: usize) -> bool
@@ -59,7 +61,7 @@ fn end_type(image: &[u8], n: usize, first: usize, d: usize) -> u8
     super::directory::type_at(image, b, 4 * d - 1)
 }
 
-// The directory of d blocks from b on, and all below it, at most `left` levels: its end slot, then its slots; 0, or the number of the first fault.
+// The directory of d blocks from b on, and all below it, at most `left` levels: its end slot, then its slots; the first fault is refused.
 #[cycle(directory_check_entry_check)]
 fn directory_check(
     image: &[u8],
@@ -72,31 +74,24 @@ fn directory_check(
     places: &mut [usize],
     seen: &mut [u8],
     marks: &mut [u8],
-) -> u32
+) -> Result<(), Refusal>
     requires { (Room image.now t n marks.old) × (DirectoryAt image.now n b d) × (left ≤ max_levels) × (NoteRoom prints.old places.old seen.old) }
-    ensures { visited result marks.new
+    ensures { visited (outcome result) marks.new
         ≡ walk_entries (walk_child left image.now n b) image.now (chain (next image.now) b d) d marks.old }
 {
     if end_type(image, n, b, d) != 0xFF {
-        return 5;
+        return Err(Refusal::BadSlot);
     }
     let bad = super::names::bad_slot(image, n, b, d, prints, places, seen);
     let mut at = b;
-    let mut k = 1;
-    let mut slots = 4 * d - 2;
-    while 0 < slots {
+    for k in 1..4 * d - 1 {
         if k == bad {
-            return 5;
+            return Err(Refusal::BadSlot);
         }
-        let why = entry_check(image, t, n, b, at, k, left, prints, places, seen, marks);
-        if why != 0 {
-            return why;
-        }
-        k = k + 1;
-        at = super::directory::following(image, at, k);
-        slots = slots - 1;
+        entry_check(image, t, n, b, at, k, left, prints, places, seen, marks)?;
+        at = super::directory::following(image, at, k + 1);
     }
-    0
+    Ok(())
 }
 
 // Slot k, a right one, in block at, of the directory at block b: if it is a child directory's, the child and all below it.
@@ -113,18 +108,18 @@ fn entry_check(
     places: &mut [usize],
     seen: &mut [u8],
     marks: &mut [u8],
-) -> u32
+) -> Result<(), Refusal>
     requires { (Room image.now t n marks.old) × (at < n) × (left ≤ max_levels) × (NoteRoom prints.old places.old seen.old) }
-    ensures { visited result marks.new ≡ walk_entry (walk_child left image.now n b) image.now (entry_at at k) marks.old }
+    ensures { visited (outcome result) marks.new ≡ walk_entry (walk_child left image.now n b) image.now (entry_at at k) marks.old }
 {
     if !super::directory::is_directory(super::directory::type_at(image, at, k)) {
-        return 0;
+        return Ok(());
     }
     if left == 0 {
-        return 4;
+        return Err(Refusal::BadSelf);
     }
     if !child_ok(image, t, n, b, at, k, marks) {
-        return 4;
+        return Err(Refusal::BadSelf);
     }
     let child = number_at(image, at, k, 4);
     let d = number_at(image, child, 0, 12);
@@ -140,13 +135,13 @@ fn visit_with(
     places: &mut [usize],
     seen: &mut [u8],
     marks: &mut [u8],
-) -> u32
+) -> Result<(), Refusal>
     requires { (Room image.now t n marks.old) × (NoteRoom prints.old places.old seen.old) }
-    ensures { visited result marks.new ≡ walk_root image.now n marks.old }
+    ensures { visited (outcome result) marks.new ≡ walk_root image.now n marks.old }
 {
     let root = t + 1;
     if !super::directory::directory_ok(image, t, n, root, root, marks) {
-        return 4;
+        return Err(Refusal::BadSelf);
     }
     let d = number_at(image, root, 0, 12);
     directory_check(
@@ -155,9 +150,9 @@ fn visit_with(
 }
 
 // The root and all below it: stages 4 and 5 of the whole tree.
-pub fn visit(image: &[u8], t: usize, n: usize, marks: &mut [u8]) -> u32
+pub fn visit(image: &[u8], t: usize, n: usize, marks: &mut [u8]) -> Result<(), Refusal>
     requires { Room image.now t n marks.old }
-    ensures { visited result marks.new ≡ walk_root image.now n marks.old }
+    ensures { visited (outcome result) marks.new ≡ walk_root image.now n marks.old }
 {
     let mut prints = super::names::no_slots();
     let mut places = super::names::no_slots();

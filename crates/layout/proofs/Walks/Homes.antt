@@ -8,6 +8,9 @@ use native.Mathlib.Omega.{arith}
 use lib.Dec.{eqb, leb}
 use lib.ListN.{length, get_or, drop}
 use borrow.Author.Tests.{ne_eqb, eqb-false, le-leb, leb-true}
+use Rattle.std.specs.Prelude.{Option, Some, None}
+use Rattle.layout.specs.declared.directory.Entry.{Entry}
+use Rattle.layout.specs.declared.path.Spot.{Spot}
 use Rattle.layout.specs.Limits.{max_levels}
 use Rattle.layout.specs.Lists.{within, every, same}
 use Rattle.layout.specs.Geometry.{block_count}
@@ -17,8 +20,8 @@ use Rattle.layout.specs.Directory.{slot_at, slots, type_of, blocks_of, is_used, 
 use Rattle.layout.specs.Check.{check}
 use Rattle.layout.specs.Paths.{cut, parts, path_ok, leading, last_part, shallow, child_of, resolve, home, path_slot}
 use Rattle.layout.specs.Walks.Shapes.{DirectoryAt}
-use Rattle.layout.specs.Walks.Slots.{Stands, entry_at, all_free}
-use Rattle.layout.specs.Walks.Paths.{Along, PathGiven, Spotted}
+use Rattle.layout.specs.Walks.Slots.{Stands, StandsAt, entry_at, all_free}
+use Rattle.layout.specs.Walks.Paths.{Along, PathGiven, Spotted, SpottedAt}
 use Rattle.layout.proofs.Laws.Chains.{length-chain, get_d-chain}
 use Rattle.layout.proofs.Laws.Lists.{In}
 use Rattle.layout.proofs.Laws.Joins.{select-agree}
@@ -145,6 +148,11 @@ module _ (s path : List ℕ) (G : PathGiven s path) where
     spotted-there h e ne k b ds name ed en st =
         record { there = e; stands = rw (← e, ne_eqb h 0 ne) (rw (ed, en) at st) }
 
+    pub path-there : (h : ℕ) → h ≡ home s path → (h ≡ 0 → ⊥) → (ds name : List ℕ) → ds ≡ directory s h → name ≡ last_part (parts path) → (r : Option Entry)
+        → StandsAt ds (block_count s) (slot_of type s ds name) r → StandsAt (directory s (home s path)) (block_count s) (path_slot type s path) r
+    unfolding path_slot
+    path-there h e ne ds name ed en r st = rw (← e, ne_eqb h 0 ne) (rw (ed, en) at st)
+
 -- among all entries that are used: a byte that is not 0 is from 1 to 255
 module _ (s path : List ℕ) (bytes : (i : ℕ) → get_or s i 0 < 256) where
   used-within : (x : ℕ) → x < 256 → is_used x ≡ within 1 255 x
@@ -164,6 +172,14 @@ module _ (s path : List ℕ) (bytes : (i : ℕ) → get_or s i 0 < 256) where
   pub spotted-used : {h k b : ℕ} → Spotted (within 1 255) s path h k b → Spotted is_used s path h k b
   unfolding path_slot
   spotted-used sp = record { there = sp.there; stands = rw (used-slot (directory s (home s path)) (last_part (parts path))) sp.stands }
+
+  path-used : path_slot (within 1 255) s path ≡ path_slot is_used s path
+  unfolding path_slot
+  path-used = rw (used-slot (directory s (home s path)) (last_part (parts path)))
+
+  pub spotted-used-at : (r : Option Spot) → SpottedAt (within 1 255) s path r → SpottedAt is_used s path r
+  spotted-used-at (Some spot) p = (p.0, p.1, subst (λ (x : ℕ). StandsAt (directory s (home s path)) (block_count s) x spot.entry) path-used p.2)
+  spotted-used-at None p = p
 
 -- the root of a sound image, of as many blocks as were read
 module _ (s : List ℕ) (ok : check s ≡ 0) (d : ℕ) (ed : d ≡ be32 s (entry_at (root_of s) 0 + 12)) where

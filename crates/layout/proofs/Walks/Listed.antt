@@ -7,6 +7,8 @@ use native.Mathlib.Omega.{arith}
 use lib.Dec.{eqb, leb}
 use lib.ListN.{length, get_or}
 use borrow.Author.Tests.{eq-eqb, ne_eqb, eqb-false, not-true, le-leb, lt-leb, leb-true}
+use Rattle.layout.specs.declared.refusal.Refusal.{Refusal}
+use Rattle.layout.specs.Reasons.{number_of}
 use Rattle.layout.specs.Limits.{max_levels}
 use Rattle.layout.specs.Bytes.{be32, be64, part, splice}
 use Rattle.layout.specs.Geometry.{block_count}
@@ -17,6 +19,7 @@ use Rattle.layout.specs.Paths.{parts, path_ok, leading, shallow, home, path_slot
 use Rattle.layout.specs.Looks.{VolumeAnswer, EntryAnswer, volume_info, is_root_path, listed_refusal, listed_block, used_slot, no_entry, entry_fields, next_entry}
 use Rattle.layout.specs.Walks.Looks.{Opens, Lists}
 use Rattle.layout.specs.Walks.Slots.{Stands, entry_at, used_from}
+use Rattle.layout.proofs.Laws.Reasons.{reason}
 use Rattle.layout.proofs.Laws.Bytes.{be32-part}
 use Rattle.layout.proofs.Laws.Lists.{In, interval-next}
 use Rattle.layout.proofs.Laws.Paths.{path-named, path-home}
@@ -97,6 +100,9 @@ module _ (s path : List ℕ) where
   pub lists-refused : (r : ℕ) → r ≡ check s → (r ≡ 0 → ⊥) → Lists s path r 0
   unfolding listed_refusal
   lists-refused r e h = record { number_is = rw (← e) (sym (first_of-refused r _ h)); start = λ z. absurd (h z); there = λ z. absurd (h z) }
+
+  pub lists-why : (why : Refusal) → number_of why ≡ listed_refusal s path → Lists s path (number_of why) 0
+  lists-why why e = record { number_is = e; start = λ z. absurd (reason why z); there = λ z. absurd (reason why z) }
 
   module _ (ok : check s ≡ 0) where
     pub lists-root : true ≡ is_root_path path → (b : ℕ) → b ≡ root_of s → Lists s path 0 b

@@ -8,6 +8,8 @@ use lib.Dec.{leb}
 use lib.ListN.{length, get_or, take, drop, length-drop, length-take}
 use borrow.Author.Tests.{eq-eqb, le-leb, leb-true, lt-leb, ne_eqb}
 use Rattle.layout.specs.Limits.{max_blocks, max_levels}
+use Rattle.layout.specs.declared.refusal.Refusal.{Refusal}
+use Rattle.layout.specs.Reasons.{number_of}
 use Rattle.layout.specs.Refusals.{require}
 use Rattle.layout.specs.Bytes.{be32, part, splice}
 use Rattle.layout.specs.Limits.{max_blocks}
@@ -25,6 +27,7 @@ use Rattle.layout.proofs.Laws.Bytes.{part-part, lent}
 use Rattle.layout.proofs.Laws.Chains.{chain_ok-split}
 use Rattle.layout.proofs.Laws.Counts.{chain-most}
 use Rattle.layout.proofs.Laws.Looks.{path-file, lookup-sound, lookup-path, lookup-file, extent-refused, extent-past, extent-found}
+use Rattle.layout.proofs.Laws.Reasons.{reason}
 use Rattle.layout.proofs.Laws.Tests.{first_of-refused, accept-refused, require-zero}
 use Rattle.layout.proofs.Walks.Content.{chain_bytes, length-chain_bytes, below-nth}
 use Rattle.layout.proofs.Walks.Homes.{some-parts}
@@ -81,6 +84,9 @@ module _ (type : ℕ → Bool) (s path : List ℕ) where
   pub opens-refused : {refusal number slot b first size blocks : ℕ} → number ≡ refusal → (number ≡ 0 → ⊥) → NoFile slot b first size blocks
       → Opens type s path refusal number slot b first size blocks
   opens-refused e h z = record { number_is = e; file = λ q. absurd (h q); none = λ q. z }
+
+  pub opens-why : {refusal : ℕ} (why : Refusal) → number_of why ≡ refusal → Opens type s path refusal (number_of why) 0 0 0 0 0
+  opens-why why e = opens-refused e (reason why) (record { no_slot = refl; no_block = refl; no-first = refl; no_size = refl; no_blocks = refl })
 
   pub opens_as : {refusal refusal' number slot b first size blocks : ℕ} → refusal ≡ refusal' → Opens type s path refusal number slot b first size blocks
       → Opens type s path refusal' number slot b first size blocks
@@ -160,6 +166,10 @@ module _ (s path : List ℕ) where
   pub lookup_refusal-check : (r : ℕ) → r ≡ check s → (r ≡ 0 → ⊥) → r ≡ lookup_refusal s path
   unfolding lookup_refusal
   lookup_refusal-check r e h = rw (← e) (sym (first_of-refused r (file_refusal s path) h))
+
+  pub lookup_refusal-sound : check s ≡ 0 → file_refusal s path ≡ lookup_refusal s path
+  unfolding lookup_refusal
+  lookup_refusal-sound e = rw e
 
   pub opens-checked : check s ≡ 0 → {number slot b first size blocks : ℕ} → Opens is_file s path (file_refusal s path) number slot b first size blocks
       → Opens is_file s path (lookup_refusal s path) number slot b first size blocks

@@ -1,5 +1,8 @@
 -- What opening a file or a directory gives.
-use Rattle.std.specs.Prelude.{ℕ, ◌*◌, ◌<◌, Bool, not, List, ◌≡◌, eqb}
+use Rattle.std.specs.Prelude.{ℕ, Result, Ok, Err, ◌*◌, ◌<◌, Bool, not, List, ◌≡◌, eqb}
+use Rattle.layout.specs.declared.file.File.{File}
+use Rattle.layout.specs.declared.refusal.Refusal.{Refusal}
+use Rattle.layout.specs.Reasons.{number_of}
 use Rattle.layout.specs.Refusals.{require}
 use Rattle.layout.specs.Geometry.{block_count}
 use Rattle.layout.specs.Directory.{first_block, size_of, blocks_of}
@@ -42,8 +45,17 @@ pub record Opens (type : ℕ → Bool) (s path : List ℕ) (refusal number slot 
   pub file : number ≡ 0 → Located type s path slot block first size blocks
   pub none : (number ≡ 0 → ⊥) → NoFile slot block first size blocks
 
+-- the same of an answer: the entry, or the reason of its refusal
+abbrev pub Opened : (ℕ → Bool) → List ℕ → List ℕ → ℕ → Result File Refusal → Type 0
+Opened type s path refusal (Ok f) = Opens type s path refusal 0 f.slot f.block f.first f.size f.blocks
+Opened type s path refusal (Err why) = number_of why ≡ refusal
+
 -- a directory to be listed: the number of its refusal, and if that is 0, its first block
 pub record Lists (s path : List ℕ) (number first : ℕ) : Type 0 where
   pub number_is : number ≡ listed_refusal s path
   pub start : number ≡ 0 → first ≡ listed_block s path
   pub there : number ≡ 0 → DirectoryAt s (block_count s) first (blocks_of s (512 * first))
+
+abbrev pub Listed : List ℕ → List ℕ → Result ℕ Refusal → Type 0
+Listed s path (Ok first) = Lists s path 0 first
+Listed s path (Err why) = number_of why ≡ listed_refusal s path

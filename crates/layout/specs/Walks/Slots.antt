@@ -1,5 +1,6 @@
 -- The loops over a directory's slots, from slot k on.
-use Rattle.std.specs.Prelude.{ℕ, ◌+◌, ◌*◌, ◌/◌, ◌%◌, ◌<◌, Bool, cond, ◌&&◌, List, ◌≡◌, eqb, leb, get_or}
+use Rattle.std.specs.Prelude.{ℕ, Option, Some, None, ◌+◌, ◌*◌, ◌/◌, ◌%◌, ◌<◌, Bool, cond, ◌&&◌, List, ◌≡◌, eqb, leb, get_or}
+use Rattle.layout.specs.declared.directory.Entry.{Entry}
 use Rattle.layout.specs.Lists.{interval, every, same, lowest}
 use Rattle.layout.specs.Directory.{slot_at, type_of, is_free, is_used, name_of}
 
@@ -45,3 +46,17 @@ pub record Stands (ds : List ℕ) (n x k b : ℕ) : Type 0 where
   pub low : k < 256
   pub block : (k ≡ 0 → ⊥) → (b < n) × (entry_at b k ≡ slot_at ds k)
   pub none : k ≡ 0 → b ≡ 0
+
+-- a number that may be none, by the number that stands for it in the rules, where 0 is none: as far as that goes, and if no 0 is given
+abbrev pub NoneIsZero : ℕ → Option ℕ → Type 0
+NoneIsZero x (Some k) = k ≡ x
+NoneIsZero x None = x ≡ 0
+
+abbrev pub SomeUnlessZero : ℕ → Option ℕ → Type 0
+SomeUnlessZero x (Some k) = (k ≡ x) × (k ≡ 0 → ⊥)
+SomeUnlessZero x None = x ≡ 0
+
+-- an entry that may be none, by the slot x that a search gives
+abbrev pub StandsAt : List ℕ → ℕ → ℕ → Option Entry → Type 0
+StandsAt ds n x (Some e) = Stands ds n x e.slot e.block × (e.slot ≡ 0 → ⊥)
+StandsAt ds n x None = Stands ds n x 0 0

@@ -1,36 +1,39 @@
-use mathlib.Core.Path.{sym, ◌∙◌}
+use Rattle.std.proofs.Common.{sym, ◌∙◌, arith}
+use Rattle.std.proofs.lemmas.Result.{err_from_is_err_and}
+use Rattle.layout.specs.Reasons.{number_of}
+use Rattle.layout.proofs.Laws.Reasons.{reason}
 use Rattle.layout.proofs.Walks.Stages.{stage1-shape, check-head, check-body}
 use Rattle.layout.proofs.check.check.Goals as goal
 
-pub returns-then-h-ne0 : goal.returns-then-h-ne0
-returns-then-h-ne0 c = sym (check-head c.args.image.now _ c.head-h.ensures c.if-h-ne0.true)
+pub returns-in_err-head : goal.returns-in_err-head
+returns-in_err-head c =
+    let why = c.in_err-head.field-0.0 in
+    let q = err_from_is_err_and c.from_residual.result c.from_residual.ensures.1 in
+    rw (q.1, q.2) (sym (check-head c.args.image.now (number_of why) c.in_err-head.ensures (reason why)))
 
-pub tiny_body-requires : goal.tiny_body-requires
-tiny_body-requires c =
+pub body-requires : goal.body-requires
+body-requires c =
     let s = c.args.image.now in
-    (stage1-shape s (check-body s (sym c.head-h.ensures ∙ c.if-h-ne0.false)).1, c.if-n-le-TINY_BLOCKS.true)
+    let h = stage1-shape s (check-body s (sym c.in_ok-head.ensures)).1 in
+    (h, omega (arith, h), omega arith)
+
+pub body-requires-then-n-le-SMALL_BLOCKS : goal.body-requires-then-n-le-SMALL_BLOCKS
+body-requires-then-n-le-SMALL_BLOCKS c =
+    let s = c.args.image.now in
+    let h = stage1-shape s (check-body s (sym c.in_ok-head.ensures)).1 in
+    (h, omega (arith, h), omega arith)
+
+pub body-requires-else-n-le-SMALL_BLOCKS : goal.body-requires-else-n-le-SMALL_BLOCKS
+body-requires-else-n-le-SMALL_BLOCKS c =
+    let s = c.args.image.now in
+    let h = stage1-shape s (check-body s (sym c.in_ok-head.ensures)).1 in
+    (h, omega (arith, h), omega arith)
 
 pub returns-then-n-le-TINY_BLOCKS : goal.returns-then-n-le-TINY_BLOCKS
-returns-then-n-le-TINY_BLOCKS c =
-    let s = c.args.image.now in
-    c.tiny_body.ensures ∙ sym (check-body s (sym c.head-h.ensures ∙ c.if-h-ne0.false)).0
-
-pub small_body-requires : goal.small_body-requires
-small_body-requires c =
-    let s = c.args.image.now in
-    (stage1-shape s (check-body s (sym c.head-h.ensures ∙ c.if-h-ne0.false)).1, c.if-n-le-SMALL_BLOCKS.true)
+returns-then-n-le-TINY_BLOCKS c = c.body.ensures ∙ sym (check-body c.args.image.now (sym c.in_ok-head.ensures)).0
 
 pub returns-then-n-le-SMALL_BLOCKS : goal.returns-then-n-le-SMALL_BLOCKS
-returns-then-n-le-SMALL_BLOCKS c =
-    let s = c.args.image.now in
-    c.small_body.ensures ∙ sym (check-body s (sym c.head-h.ensures ∙ c.if-h-ne0.false)).0
+returns-then-n-le-SMALL_BLOCKS c = c.body-then-n-le-SMALL_BLOCKS.ensures ∙ sym (check-body c.args.image.now (sym c.in_ok-head.ensures)).0
 
-pub large_body-requires : goal.large_body-requires
-large_body-requires c =
-    let s = c.args.image.now in
-    stage1-shape s (check-body s (sym c.head-h.ensures ∙ c.if-h-ne0.false)).1
-
-pub returns : goal.returns
-returns c =
-    let s = c.args.image.now in
-    c.large_body.ensures ∙ sym (check-body s (sym c.head-h.ensures ∙ c.if-h-ne0.false)).0
+pub returns-else-n-le-SMALL_BLOCKS : goal.returns-else-n-le-SMALL_BLOCKS
+returns-else-n-le-SMALL_BLOCKS c = c.body-else-n-le-SMALL_BLOCKS.ensures ∙ sym (check-body c.args.image.now (sym c.in_ok-head.ensures)).0

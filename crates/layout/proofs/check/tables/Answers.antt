@@ -1,8 +1,7 @@
 use Prim.Native.Nat.{ℕ, ◌*◌}
 use mathlib.Core.Bool.{true, false}
-use mathlib.Core.Path.{◌≡◌, refl, sym, ap, ◌∙◌}
+use mathlib.Core.Path.{refl, sym, ap, ◌∙◌}
 use native.Mathlib.Omega.{arith}
-use borrow.Author.Tests.{not-true, not-false}
 use Rattle.layout.specs.Table.{next}
 use Rattle.layout.specs.Walks.Chains.{count_used}
 use Rattle.layout.proofs.Walks.Stages.{body_stage-6, body_stage-7, body_stage-0, body_stage-used, table-fresh}
@@ -30,13 +29,13 @@ counts_ok-requires c =
 pub returns-then-not-counts_ok : goal.returns-then-not-counts_ok
 returns-then-not-counts_ok c =
     let w = c.table_used-used.ensures.some c.if-used-eq0.false in
-    let u : c.counts_ok.result ≡ false = not-true _ c.if-not-counts_ok.true-raw in
+    let u = c.if-not-counts_ok.true in
     body_stage-7 c.args.image.now c.args.n c.requires.0.shape 0 c.args.dirs.now _ (omega (arith, c.requires.0.marks, c.requires.0.table)) c.requires.1 refl true _ (omega (arith, c.requires.2, c.requires.0.table))
     (table-fresh c.args.image.now c.args.t c.args.n c.args.dirs.now c.args.marks.now w.0 c.requires.0.table c.requires.3) refl (sym u ∙ c.counts_ok.ensures)
 
 pub returns : goal.returns
 returns c =
     let w = c.table_used-used.ensures.some c.if-used-eq0.false in
-    let u : c.counts_ok.result ≡ true = not-false _ c.if-not-counts_ok.false-raw in
+    let u = c.if-not-counts_ok.false in
     body_stage-0 c.args.image.now c.args.n c.requires.0.shape 0 c.args.dirs.now _ (omega (arith, c.requires.0.marks, c.requires.0.table)) c.requires.1 refl true _ (omega (arith, c.requires.2, c.requires.0.table))
     (table-fresh c.args.image.now c.args.t c.args.n c.args.dirs.now c.args.marks.now w.0 c.requires.0.table c.requires.3) refl (sym u ∙ c.counts_ok.ensures)

@@ -1,5 +1,8 @@
-use native.Mathlib.Omega.{arith}
-use Rattle.layout.proofs.Walks.Homes.{at_read, free-read}
+use Rattle.std.proofs.Common.{ℕ, List, subst, arith}
+use Rattle.layout.specs.Directory.{free_slot}
+use Rattle.layout.specs.Walks.Slots.{StandsAt}
+use Rattle.layout.proofs.Walks.Homes.{at_read}
+use Rattle.layout.proofs.Walks.Paths.{directory-is}
 use Rattle.layout.proofs.Walks.Visits.{at-below}
 use Rattle.layout.proofs.directory.free_slot.Goals as goal
 
@@ -10,4 +13,6 @@ pub find_free-requires : goal.find_free-requires
 find_free-requires c = at_read c.args.image.now c.args.n c.args.b _ c.number_at-d.ensures c.requires
 
 pub returns : goal.returns
-returns c = free-read c.args.image.now c.args.n c.args.b _ c.number_at-d.ensures _ _ c.find_free.ensures
+returns c =
+    let a = c.args in
+    subst (λ (ds : List ℕ). StandsAt ds a.n (free_slot a.image.now ds) c.find_free.result) (directory-is a.image.now a.b _ c.number_at-d.ensures) c.find_free.ensures

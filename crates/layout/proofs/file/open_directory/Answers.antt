@@ -1,13 +1,23 @@
-use mathlib.Core.Path.{sym, ◌∙◌}
+use Rattle.std.proofs.Common.{ℕ, subst}
+use Rattle.std.proofs.lemmas.Result.{err_from_is_err_and}
 use Rattle.layout.specs.Directory.{is_directory}
-use Rattle.layout.proofs.Walks.Looks.{opens-refused, opens_as, whole-refused, whole-given, directory-found}
+use Rattle.layout.specs.Reasons.{number_of}
+use Rattle.layout.specs.Walks.Looks.{Opened}
+use Rattle.layout.proofs.Laws.Reasons.{reason}
+use Rattle.layout.proofs.Walks.Looks.{whole-refused, whole-given, directory-found}
 use Rattle.layout.proofs.file.open_directory.Goals as goal
 
-pub returns-then-form-ne0 : goal.returns-then-form-ne0
-returns-then-form-ne0 c = opens-refused is_directory _ _ (c.refused.ensures.0 ∙ whole-refused _ _ _ c.whole_path_refusal-form.ensures c.if-form-ne0.true) (λ z. c.if-form-ne0.true (sym c.refused.ensures.0 ∙ z)) c.refused.ensures.1
+pub returns-in_err-whole_path_refusal : goal.returns-in_err-whole_path_refusal
+returns-in_err-whole_path_refusal c =
+    let a = c.args in
+    let why = c.in_err-whole_path_refusal.field-0.0 in
+    let q = err_from_is_err_and c.from_residual.result c.from_residual.ensures.1 in
+    rw (q.1, q.2) (whole-refused a.image.now a.path.now (number_of why) c.in_err-whole_path_refusal.ensures (reason why))
 
 pub open_entry-requires : goal.open_entry-requires
-open_entry-requires c = whole-given _ _ c.requires (sym c.if-form-ne0.false ∙ c.whole_path_refusal-form.ensures)
+open_entry-requires c = whole-given _ _ c.requires c.in_ok-whole_path_refusal.ensures
 
 pub returns : goal.returns
-returns c = opens_as is_directory _ _ (directory-found c.args.image.now c.args.path.now (sym c.if-form-ne0.false ∙ c.whole_path_refusal-form.ensures)) c.open_entry.ensures
+returns c =
+    let a = c.args in
+    subst (λ (x : ℕ). Opened is_directory a.image.now a.path.now x c.open_entry.result) (directory-found a.image.now a.path.now c.in_ok-whole_path_refusal.ensures) c.open_entry.ensures

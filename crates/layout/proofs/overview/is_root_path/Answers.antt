@@ -1,8 +1,9 @@
-use Rattle.layout.proofs.Walks.Listed.{root-path-long, root-path-one}
+use Rattle.std.proofs.Common.{ap, ◌∙◌}
+use Rattle.layout.specs.Lists.{same}
+use Rattle.layout.specs.Looks.{is_root_path}
+use Rattle.layout.proofs.Laws.Lists.{pointwise-same}
 use Rattle.layout.proofs.overview.is_root_path.Goals as goal
 
-pub returns-then-path-ne1 : goal.returns-then-path-ne1
-returns-then-path-ne1 c = root-path-long c.args.path.now c.if-path-ne1.true
-
 pub returns : goal.returns
-returns c = root-path-one c.args.path.now c.if-path-ne1.false
+unfolding is_root_path
+returns c = let p = c.args.path.now in c.eq.ensures ∙ pointwise-same p c.as_slice.result.now ∙ ap (same p) c.as_slice.ensures

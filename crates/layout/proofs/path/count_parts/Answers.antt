@@ -1,12 +1,6 @@
-use mathlib.Core.Bool.{true, false}
-use mathlib.Core.Path.{◌≡◌, refl, sym, ◌∙◌}
-use native.Mathlib.Omega.{arith}
-use borrow.Author.Tests.{not-true, not-false}
+use Rattle.std.proofs.Common.{refl, sym, ◌∙◌, arith}
 use Rattle.layout.proofs.Walks.Paths.{good_from-bad, good_from-next, good_from-end}
 use Rattle.layout.proofs.path.count_parts.Goals as goal
-
-pub part_end-end-requires : goal.part_end-end-requires
-part_end-end-requires c = omega arith
 
 pub loop-end-init : goal.loop-end-init
 loop-end-init c = let e = c.part_end-end.ensures in (omega arith, e.1, e.0, omega arith, refl)
@@ -17,33 +11,19 @@ slice_bounds-good_name-count c = omega arith
 pub slice_bounds-good_name-start : goal.slice_bounds-good_name-start
 slice_bounds-good_name-start c = omega arith
 
-pub slice_bounds-good_name-end : goal.slice_bounds-good_name-end
-slice_bounds-good_name-end c = omega arith
-
 pub returns-then-not-good_name : goal.returns-then-not-good_name
 returns-then-not-good_name c =
     let l = c.loop-end in
-    let t : c.good_name.result ≡ false = not-true _ c.if-not-good_name.true-raw in
-    sym (l.invariant.4 ∙ good_from-bad c.args.rest.now l.at l.end (omega arith) l.invariant.2 l.count l.invariant.1 (sym t ∙ c.good_name.ensures))
+    l.invariant.4 ∙ good_from-bad c.args.rest.now l.at l.end (omega arith) l.invariant.2 l.count l.invariant.1 (sym c.if-not-good_name.true ∙ c.good_name.ensures)
 
 pub overflow_add-count : goal.overflow_add-count
 overflow_add-count c = omega arith
-
-pub overflow_add-at : goal.overflow_add-at
-overflow_add-at c = omega arith
-
-pub part_end-end-requires-in-loop-end : goal.part_end-end-requires-in-loop-end
-part_end-end-requires-in-loop-end c = omega arith
-
-pub loop-end-smaller : goal.loop-end-smaller
-loop-end-smaller c = let e = c.part_end-end-in-loop-end.ensures in omega arith
 
 pub loop-end-preserved : goal.loop-end-preserved
 loop-end-preserved c =
     let l = c.loop-end in
     let e = c.part_end-end-in-loop-end.ensures in
-    let t : c.good_name.result ≡ true = not-false _ c.if-not-good_name.false-raw in
-    (omega arith, e.1, e.0, omega arith, l.invariant.4 ∙ good_from-next c.args.rest.now l.at l.end (omega arith) l.invariant.2 l.count (omega arith) (sym t ∙ c.good_name.ensures))
+    (omega arith, e.1, e.0, omega arith, l.invariant.4 ∙ good_from-next c.args.rest.now l.at l.end (omega arith) l.invariant.2 l.count (omega arith) (sym c.if-not-good_name.false ∙ c.good_name.ensures))
 
 pub slice_bounds-good_name-count-2 : goal.slice_bounds-good_name-count-2
 slice_bounds-good_name-count-2 c = omega arith
@@ -57,14 +37,14 @@ slice_bounds-good_name-end-2 c = omega arith
 pub returns-then-not-good_name-2 : goal.returns-then-not-good_name-2
 returns-then-not-good_name-2 c =
     let l = c.loop-end in
-    let t : c.good_name-2.result ≡ false = not-true _ c.if-not-good_name-2.true-raw in
-    sym (l.invariant.4 ∙ good_from-bad c.args.rest.now l.at l.end (omega arith) l.invariant.2 l.count l.invariant.1 (sym t ∙ c.good_name-2.ensures))
+    l.invariant.4 ∙ good_from-bad c.args.rest.now l.at l.end (omega arith) l.invariant.2 l.count l.invariant.1 (sym c.if-not-good_name-2.true ∙ c.good_name-2.ensures)
 
 pub overflow_add-result : goal.overflow_add-result
 overflow_add-result c = omega arith
 
 pub returns : goal.returns
 returns c =
-    let l = c.loop-end in
-    let t : c.good_name-2.result ≡ true = not-false _ c.if-not-good_name-2.false-raw in
-    sym (l.invariant.4 ∙ good_from-end c.args.rest.now l.at l.end (omega arith) l.invariant.2 l.count (omega arith) l.invariant.1 (sym t ∙ c.good_name-2.ensures))
+    let l = c.loop-end in (
+      sym (l.invariant.4 ∙ good_from-end c.args.rest.now l.at l.end (omega arith) l.invariant.2 l.count (omega arith) l.invariant.1 (sym c.if-not-good_name-2.false ∙ c.good_name-2.ensures)),
+      λ z. omega arith,
+    )

@@ -1,6 +1,6 @@
-use mathlib.Core.Path.{◌≡◌, sym, ap, ◌∙◌}
-use native.Mathlib.Omega.{arith}
+use Rattle.std.proofs.Common.{ℕ, ◌≡◌, sym, ap, ◌∙◌, subst, arith}
 use Rattle.layout.specs.Paths.{cut}
+use Rattle.layout.specs.Walks.Slots.{SomeUnlessZero}
 use Rattle.layout.proofs.Laws.Bytes.{part-rest}
 use Rattle.layout.proofs.Walks.Shapes.{sound-shape}
 use Rattle.layout.proofs.Walks.Homes.{path-some, path-rest, path_names, given-along, home-is}
@@ -27,4 +27,5 @@ returns c =
     let a = c.args in
     let p = c.requires in
     let q = path-rest a.path.now p.good ∙ ap cut (sym (part-rest a.path.now 1)) in
-    rw c.root_block-root.ensures at c.resolve.ensures ∙ home-is a.image.now a.path.now _ q
+    subst (λ (x : ℕ). SomeUnlessZero x c.resolve.result) (rw c.root_block-root.ensures (home-is a.image.now a.path.now _ q))
+    (c.resolve.ensures.some (λ z. omega (arith, c.root_block-root.ensures)))

@@ -15,13 +15,6 @@ slice_bounds-last_start-count c = path-some c.args.path.now c.requires
 pub slice_bounds-last_start-start : goal.slice_bounds-last_start-start
 slice_bounds-last_start-start c = let h = path-some c.args.path.now c.requires in omega (arith, h)
 
-pub overflow_add-a : goal.overflow_add-a
-overflow_add-a c =
-    let h = path-some c.args.path.now c.requires in
-    let q = ap length (part-rest c.args.path.now 1) ∙ length-drop 1 c.args.path.now in
-    let k = c.last_start-k.ensures.1 in
-    omega (arith, h, q, k)
-
 pub slice_bounds-result-count : goal.slice_bounds-result-count
 slice_bounds-result-count c =
     let h = path-some c.args.path.now c.requires in

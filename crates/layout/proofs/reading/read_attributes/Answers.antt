@@ -1,30 +1,27 @@
-use Prim.Native.Nat.{ℕ, ◌-◌, ◌*◌}
-use mathlib.Core.Path.{sym, ap}
-use native.Mathlib.Omega.{arith}
-use Rattle.layout.proofs.Walks.Looks.{attributes-refused, opened-attributes, attributes-room, attributes-fill}
+use Rattle.std.proofs.Common.{ℕ, ◌*◌, refl, sym, ap}
+use Rattle.std.proofs.lemmas.Result.{err_from_is_err_and}
+use Rattle.layout.specs.Directory.{is_file}
+use Rattle.layout.proofs.Laws.Reasons.{reason}
+use Rattle.layout.proofs.Walks.Looks.{opens-why, attributes-refused, opened-attributes, attributes-room, attributes-fill}
 use Rattle.layout.proofs.reading.read_attributes.Goals as goal
 
-pub returns-then-number-ne0 : goal.returns-then-number-ne0
-returns-then-number-ne0 c = let a = c.args in record { answer = sym (attributes-refused c.open_file-o.ensures a.buffer.now c.if-number-ne0.true); numbered = c.if-number-ne0.true }
-
-pub attribute_chain-c-requires : goal.attribute_chain-c-requires
-attribute_chain-c-requires c =
-    omega (arith, (c.open_file-o.ensures.file c.if-number-ne0.false).inside)
+pub returns-in_err-file : goal.returns-in_err-file
+returns-in_err-file c =
+    let a = c.args in
+    let why = c.in_err-file.field-0.0 in
+    let q = err_from_is_err_and c.from_residual.result c.from_residual.ensures.1 in
+    rw (q.1, q.2) (sym (attributes-refused (opens-why is_file a.image.now a.path.now why c.in_err-file.ensures) a.buffer.now (reason why)))
 
 pub read_chain-requires : goal.read_chain-requires
 read_chain-requires c =
-    let least = c.least-whole in
-    let if1 = c.if-number-ne0 in
-    let a = c.args in (
-      opened-attributes c.open_file-o.ensures if1.false c.attribute_chain-c.ensures,
-      attributes-room c.open_file-o.ensures if1.false c.attribute_chain-c.ensures a.buffer.now (512 * least.result) (512 * least.result - 0) (ap (λ (x : ℕ). 512 * x) least.ensures) (omega arith),
+    let a = c.args in
+    let count = 512 * c.min-count.result in (
+      opened-attributes c.in_ok-file.ensures refl c.attribute_chain-chain.ensures,
+      attributes-room c.in_ok-file.ensures refl c.attribute_chain-chain.ensures a.buffer.now count count (ap (λ (x : ℕ). 512 * x) c.min-count.ensures) refl,
     )
 
 pub returns : goal.returns
-returns c = let least = c.least-whole in
-    let if1 = c.if-number-ne0 in
-    let a = c.args in record {
-      answer = attributes-fill c.open_file-o.ensures if1.false c.attribute_chain-c.ensures a.buffer.now (512 * least.result) (512 * least.result - 0) _ (ap (λ (x : ℕ). 512 * x) least.ensures) (omega arith)
-          c.read_chain.ensures;
-      numbered = tt;
-    }
+returns c =
+    let a = c.args in
+    let count = 512 * c.min-count.result in
+    attributes-fill c.in_ok-file.ensures refl c.attribute_chain-chain.ensures a.buffer.now count count _ (ap (λ (x : ℕ). 512 * x) c.min-count.ensures) refl c.read_chain.ensures

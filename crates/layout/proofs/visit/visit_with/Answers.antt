@@ -1,8 +1,6 @@
 use Prim.Native.Nat.{◌+◌}
-use mathlib.Core.Bool.{true, false}
-use mathlib.Core.Path.{◌≡◌, sym, ◌∙◌}
+use mathlib.Core.Path.{sym, ◌∙◌}
 use native.Mathlib.Omega.{arith}
-use borrow.Author.Tests.{not-true, not-false}
 use Rattle.layout.proofs.Walks.Visits.{walk_root-refused, walk_root-down, directory-at}
 use Rattle.layout.proofs.visit.visit_with.Goals as goal
 
@@ -16,7 +14,7 @@ pub returns-then-not-directory_ok : goal.returns-then-not-directory_ok
 returns-then-not-directory_ok c =
     let a = c.args in
     let p = c.requires.0 in
-    let t : c.directory_ok.result ≡ false = not-true _ c.if-not-directory_ok.true-raw in
+    let t = c.if-not-directory_ok.true in
     sym (walk_root-refused a.image.now a.n a.marks.now _ (rw (t, p.table) at c.directory_ok.ensures))
 
 pub number_at-d-requires : goal.number_at-d-requires
@@ -26,7 +24,7 @@ pub directory_check-requires : goal.directory_check-requires
 directory_check-requires c =
     let a = c.args in
     let p = c.requires.0 in
-    let t : c.directory_ok.result ≡ true = not-false _ c.if-not-directory_ok.false-raw in (
+    let t = c.if-not-directory_ok.false in (
       record { shape = p.shape; table = p.table; marks = omega arith },
       directory-at a.image.now a.n (a.t + 1) (a.t + 1) a.marks.now _ _ p.shape (rw t at c.directory_ok.ensures) c.number_at-d.ensures,
       omega arith,
@@ -49,6 +47,6 @@ pub returns : goal.returns
 returns c =
     let a = c.args in
     let p = c.requires.0 in
-    let t : c.directory_ok.result ≡ true = not-false _ c.if-not-directory_ok.false-raw in
+    let t = c.if-not-directory_ok.false in
     rw p.table at c.directory_check.ensures
     ∙ sym (walk_root-down a.image.now a.n a.marks.now _ (rw (t, p.table) at c.directory_ok.ensures) _ (rw p.table at c.number_at-d.ensures))
