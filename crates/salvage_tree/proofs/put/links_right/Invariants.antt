@@ -5,6 +5,3 @@ use Rattle.salvage_tree.proofs.put.links_right.Given as goal
 
 abbrev pub invariant-loop-i : goal.invariant-loop-i
 invariant-loop-i l = LinksOn l.image l.blocks l.b l.i
-
-abbrev pub decreases-loop-i : goal.decreases-loop-i
-decreases-loop-i l = length l.blocks - l.i
