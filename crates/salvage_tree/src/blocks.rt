@@ -14,7 +14,7 @@ pub use salvage::chains::is_good;
 // The most blocks that a directory has.
 const MAX_BLOCKS: usize = 64;
 
-// Room for the blocks of a directory.
+// Room for the blocks of a directory; how many it has is told beside it, since there is no heap.
 pub fn no_blocks() -> [usize; MAX_BLOCKS]
     ensures { result ≡ zeros max_directory }
 {

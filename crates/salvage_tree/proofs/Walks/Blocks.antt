@@ -9,17 +9,17 @@ use native.Mathlib.Omega.{arith}
 use lib.Dec.{eqb}
 use lib.ListN.{length, get_or, take, set, length-set}
 use lib.Seq.{take-suc, take-suc-set, get_or-set_same, get_or-set_other, length-take-le, get_or-take, take-take, take-length}
-use borrow.Author.Tests.{eq-eqb, ne_eqb, lt-ltb, not-true}
+use borrow.Author.Tests.{eq-eqb, ne_eqb, not-true}
 use Rattle.std.specs.List.{list_any}
 use Rattle.layout.specs.Lists.{within, interval, every, has, select}
 use Rattle.layout.specs.Limits.{max_directory}
-use Rattle.layout.specs.Geometry.{table_blocks, in_volume}
+use Rattle.layout.specs.Geometry.{in_volume}
 use Rattle.layout.specs.Directory.{type_of}
 use Rattle.layout.specs.Table.{next, chain}
 use Rattle.layout.proofs.Laws.Tests.{and_split, and-join, is_false, true-not-false, within-join, within-split, lt-or-ge}
 use Rattle.layout.proofs.Laws.Lists.{In, in_left, in_right, in-append, in-elim, get_d-in, has-eqb-in, in-has-eqb, false-has, interval-next, get_d-interval}
 use Rattle.layout.specs.Walks.Shapes.{DirectoryAt}
-use Rattle.layout.proofs.Laws.Chains.{in_volume-split, nth, nth-suc, chain_snoc, get_d-chain}
+use Rattle.layout.proofs.Laws.Chains.{nth, nth-suc, chain_snoc, get_d-chain}
 use Rattle.layout.proofs.Laws.Joins.{interval-in, in-select, select_has}
 use Rattle.layout.proofs.Walks.Marks.{marked_more}
 use Rattle.salvage.specs.Walks.{MarksOf}

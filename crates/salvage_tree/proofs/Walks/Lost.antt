@@ -5,7 +5,7 @@ use mathlib.Core.List.{List, [], ◌∷◌}
 use mathlib.Core.Path.{◌≡◌, refl, sym, ap, ◌∙◌, subst}
 use native.Mathlib.Omega.{arith}
 use lib.Dec.{eqb}
-use lib.ListN.{length, get_or, take, drop}
+use lib.ListN.{length, get_or, take}
 use lib.Seq.{take_all}
 use borrow.Author.Tests.{eq-eqb, ne_eqb, eqb-true}
 use Rattle.layout.specs.Lists.{interval, every, has}
@@ -32,7 +32,6 @@ use Rattle.salvage_tree.specs.Walks.{st, Reached, Ready, LooksLost, other_than, 
 use Rattle.salvage_tree.proofs.Laws.Rest.{TreeIs, tree_is}
 use Rattle.salvage_tree.proofs.Laws.Lost.{hang-is}
 use Rattle.salvage_tree.proofs.Walks.Blocks.{some-marks}
-use Rattle.salvage_tree.proofs.Walks.Entries.{front}
 
 module _ (s : List ℕ) (r b : ℕ) (m : List ℕ) where
   pub lost-marked : (get_or m b 0 ≡ 0 → ⊥) → LooksLost s r b m false

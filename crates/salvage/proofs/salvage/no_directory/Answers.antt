@@ -1,5 +1,5 @@
-use Rattle.std.proofs.Common.{◌≡◌, ℕ, ◌+◌, ◌-◌, ◌*◌, refl, sym, ◌∙◌, arith}
-use Rattle.layout.specs.Table.{next, chain}
+use Rattle.std.proofs.Common.{◌≡◌, ◌+◌, ◌-◌, ◌*◌, refl, sym, ◌∙◌, arith}
+use Rattle.layout.specs.Table.{next}
 use Rattle.layout.specs.Walks.Slots.{entry_at}
 use Rattle.layout.proofs.Walks.Slots.{place-below, place-entry, place-then, place-first}
 use Rattle.salvage.proofs.Walks.Refusals.{plain_end, plain-next, plain-stop}

@@ -1,5 +1,3 @@
-use Prim.Native.Nat.{◌-◌}
-use Rattle.layout.specs.Limits.{max_directory}
 use Rattle.salvage_tree.proofs.Walks.Blocks.{Running}
 use Rattle.salvage_tree.proofs.blocks.run.Given as goal
 

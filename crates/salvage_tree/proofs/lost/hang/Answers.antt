@@ -1,5 +1,4 @@
 use native.Mathlib.Omega.{arith}
-use borrow.Author.Tests.{not-true, not-false}
 use Rattle.salvage_tree.proofs.Walks.Lost.{hang-not, hang-named, hang-full, hang-done, lost-clear, lost-good}
 use Rattle.salvage_tree.proofs.lost.hang.Goals as goal
 use Rattle.salvage_tree.proofs.lost.hang.Goals.{then-not-looks_lost-via-then-not-looks_lost, then-not-looks_lost-via-else-not-looks_lost+then-not-is_unnamed}

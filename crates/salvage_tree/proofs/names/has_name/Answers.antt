@@ -1,4 +1,4 @@
-use Rattle.std.proofs.Common.{◌∙◌, sym}
+use Rattle.std.proofs.Common.{◌∙◌}
 use Rattle.layout.specs.Walks.Slots.{entry_at}
 use Rattle.layout.proofs.Walks.Fingerprints.{field-long}
 use Rattle.salvage_tree.proofs.Walks.Names.{name_free, name-held}

@@ -1,6 +1,6 @@
 use Rattle.std.proofs.Common.{◌≡◌, ◌/◌, List, ℕ, true, sym, ◌∙◌, subst, arith}
 use Rattle.layout.specs.Directory.{good_name}
-use Rattle.salvage_tree.proofs.Walks.Names.{right-name, right-broken, right_new}
+use Rattle.salvage_tree.proofs.Walks.Names.{right-name, right_new}
 use Rattle.salvage_tree.proofs.names.slot_right.Goals as goal
 
 pub slot_ok_at-requires : goal.slot_ok_at-requires

@@ -1,11 +1,8 @@
 use native.Mathlib.Omega.{arith}
-use mathlib.Core.Path.{refl, sym, ap, ◌∙◌}
-use lib.ListN.{length}
+use mathlib.Core.Path.{sym, ◌∙◌}
 use Rattle.layout.specs.Walks.Slots.{entry_at}
 use Rattle.layout.proofs.Walks.Fingerprints.{field-long}
-use Rattle.layout.proofs.Laws.Bytes.{length-zeros}
 use Rattle.salvage_tree.proofs.Walks.Puts.{adopt-done}
-use Rattle.salvage_tree.proofs.Walks.Levels.{ready-again}
 use Rattle.salvage_tree.proofs.put.adopt.Goals as goal
 
 pub field_at-requires : goal.field_at-requires

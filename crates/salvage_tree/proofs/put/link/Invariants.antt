@@ -1,5 +1,3 @@
-use Prim.Native.Nat.{◌-◌}
-use lib.ListN.{length}
 use Rattle.salvage_tree.specs.SalvageTree.{linked}
 use Rattle.salvage_tree.proofs.Walks.Puts.{Writing}
 use Rattle.salvage_tree.proofs.put.link.Given as goal

@@ -1,5 +1,3 @@
-use Prim.Native.Nat.{◌-◌}
-use lib.ListN.{length}
 use Rattle.salvage_tree.proofs.Walks.Puts.{LinksOn}
 use Rattle.salvage_tree.proofs.put.links_right.Given as goal
 
