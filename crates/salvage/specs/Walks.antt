@@ -1,8 +1,9 @@
 -- What the contracts of private functions say. The blocks claimed are known by a mark for each block; only which blocks are marked counts, so what a
 -- function does is said for every list of blocks that the marks are those of.
-use Rattle.std.specs.Prelude.{ℕ, ◌+◌, ◌≤◌, ◌<◌, List, [], ◌∷◌, ◌++◌, Bool, true, false, not, cond, ◌≡◌, eqb, length, get_or, set}
+use Rattle.std.specs.Prelude.{ℕ, ◌+◌, ◌≤◌, ◌<◌, List, [], ◌∷◌, ◌++◌, Bool, true, false, not, ◌&&◌, cond, ◌≡◌, eqb, length, get_or, set}
 use Rattle.layout.specs.Lists.{interval, every, has}
 use Rattle.layout.specs.Bytes.{part, splice}
+use Rattle.layout.specs.Geometry.{in_volume}
 use Rattle.layout.specs.Table.{chain, next}
 use Rattle.layout.specs.Directory.{slot_at, type_of, is_directory, root_of, root, file_blocks}
 use Rattle.layout.specs.Walks.Names.{Noted, SlotIn, fingerprint}
@@ -13,6 +14,11 @@ use Rattle.salvage.specs.Salvage.{Progress, claimable, take_file, take_slot, fre
 -- the blocks cs are marked in m, and no others
 pub record MarksOf (m cs : List ℕ) : Type 0 where
   pub at : (x : ℕ) → eqb (get_or m x 0) 0 ≡ not (has eqb x cs)
+
+-- a block that can be claimed
+pub record IsGood (n : ℕ) (m : List ℕ) (b : ℕ) (r : Bool) : Type 0 where
+  pub told : (cs : List ℕ) → MarksOf m cs → r ≡ in_volume n b && not (has eqb b cs)
+  pub below : r ≡ true → b < n
 
 -- the marks of some blocks taken back
 unfoldable pub unmarked : List ℕ → List ℕ → List ℕ

@@ -1,32 +1,33 @@
 // The chain of a file: its blocks claimed, its last value put right. A block that is claimed has a mark.
 ghost use Rattle.std.specs.Prelude.{◌≡◌, ◌≤◌, length};
+ghost use Rattle.layout.specs.Geometry.{table_blocks};
 ghost use Rattle.layout.specs.Table.{next, chain};
 ghost use Rattle.layout.specs.Walks.Shapes.{Room, ChainBelow};
 ghost use Rattle.salvage.specs.Salvage.{ends, ended};
-ghost use Rattle.salvage.specs.Walks.{Walked, Claimed, unmarked};
+ghost use Rattle.salvage.specs.Walks.{IsGood, Walked, Claimed, unmarked};
 
-// Walks along the chain of k blocks from first on and marks each block, up to one that is not above t, not below n or marked. It gives how many it marked.
+// Whether block b is above t, below n and not claimed.
+pub fn is_good(t: usize, n: usize, marks: &[u8], b: usize) -> bool
+    requires { (t ≡ table_blocks n) × (n ≤ length marks.now) }
+    ensures { IsGood n marks.now b result }
+{
+    (t + 1..n).contains(&b) && marks[b] == 0
+}
+
+// Walks along the chain of k blocks from first on and marks each block, up to one that is not good. It gives how many it marked.
 fn walk(image: &[u8], t: usize, n: usize, first: usize, k: usize, marks: &mut [u8]) -> usize
     requires { Room image.now t n marks.old }
     ensures { Walked (next image.now) n first k marks.old result marks.new }
 {
     let mut b = first;
-    let mut met = 0;
-    while met < k {
-        if b <= t {
-            return met;
-        }
-        if n <= b {
-            return met;
-        }
-        if marks[b] != 0 {
+    for met in 0..k {
+        if !is_good(t, n, marks, b) {
             return met;
         }
         marks[b] = 1;
         b = layout::table::entry(image, b);
-        met = met + 1;
     }
-    met
+    k
 }
 
 // Takes back the marks of the k blocks from first on.
@@ -35,11 +36,9 @@ fn unmark(image: &[u8], n: usize, first: usize, k: usize, marks: &mut [u8])
     ensures { marks.new ≡ unmarked marks.old (chain (next image.now) first k) }
 {
     let mut b = first;
-    let mut left = k;
-    while 0 < left {
+    for _ in 0..k {
         marks[b] = 0;
         b = layout::table::entry(image, b);
-        left = left - 1;
     }
 }
 

@@ -1,31 +1,40 @@
 // Salvage: what refuses it, and its steps in order.
-ghost use Rattle.std.specs.Prelude.{◌≡◌, ◌-◌, ◌*◌, ◌≤◌, ◌<◌, length};
-ghost use Rattle.layout.specs.Limits.{small_blocks};
-ghost use Rattle.layout.specs.Bytes.{zeros, splice};
+ghost use Rattle.std.specs.Prelude.{◌≡◌, ◌+◌, ◌-◌, ◌*◌, ◌≤◌, length};
+ghost use Rattle.layout.specs.Limits.{max_blocks};
+ghost use Rattle.layout.specs.Bytes.{be32, zeros, splice};
 ghost use Rattle.layout.specs.Geometry.{table_blocks};
 ghost use Rattle.layout.specs.Table.{next, chain};
 ghost use Rattle.layout.specs.Walks.Shapes.{Shape, Room, DirectoryAt};
+ghost use Rattle.layout.specs.Walks.Slots.{entry_at};
 ghost use Rattle.layout.specs.Walks.Stages.{head_stage};
 ghost use Rattle.salvage.specs.Salvage.{SalvageAnswer, salvage, salvage_image, salvage_codes};
 ghost use Rattle.salvage.specs.Walks.{no_directory, Weighed};
 
-use layout::limits::SMALL_BLOCKS;
+use super::slots::Root;
+use layout::limits::{MAX_BLOCKS, SMALL_BLOCKS};
 
-// Whether no slot of the root of d blocks from first on has the type of a directory.
-fn no_directory(image: &[u8], n: usize, first: usize, d: usize) -> bool
-    requires { DirectoryAt image.now n first d }
-    ensures { result ≡ no_directory image.now (chain (next image.now) first d) 1 (4 * d - 2) }
+// The root, by what its self entry says.
+fn root_at(image: &[u8], t: usize, n: usize) -> Root
+    requires { (Shape image.now n) × (t ≡ table_blocks n) }
+    ensures given { (result.t ≡ t) × (result.n ≡ n) × (result.first ≡ t + 1) }
+    ensures size { result.d ≡ be32 image.now (entry_at result.first 0 + 12) }
 {
-    let mut b = first;
-    let mut k = 1;
-    let mut left = 4 * d - 2;
-    while 0 < left {
+    let first = t + 1;
+    let d = layout::directory::number_at(image, first, 0, 12);
+    Root { t, n, first, d }
+}
+
+// Whether no slot of the root has the type of a directory.
+fn no_directory(image: &[u8], root: Root) -> bool
+    requires { DirectoryAt image.now root.n root.first root.d }
+    ensures { result ≡ no_directory image.now (chain (next image.now) root.first root.d) 1 (4 * root.d - 2) }
+{
+    let mut b = root.first;
+    for k in 1..4 * root.d - 1 {
         if layout::directory::is_directory(layout::directory::type_at(image, b, k)) {
             return false;
         }
-        k = k + 1;
-        b = layout::directory::following(image, b, k);
-        left = left - 1;
+        b = layout::directory::following(image, b, k + 1);
     }
     true
 }
@@ -35,15 +44,14 @@ fn refusal(image: &[u8], t: usize, n: usize, size: usize, marks: &mut [u8]) -> u
     requires { (Room image.now t n marks.old) × (head_stage image.now ≡ 0) × (marks.old ≡ zeros (length marks.old)) }
     ensures { Weighed image.now size result marks.new }
 {
-    let root = t + 1;
-    if !layout::directory::directory_ok(image, t, n, root, root, marks) {
+    let root = root_at(image, t, n);
+    if !layout::directory::directory_ok(image, t, n, root.first, root.first, marks) {
         return 4;
     }
-    let d = layout::directory::number_at(image, root, 0, 12);
-    if !no_directory(image, n, root, d) {
+    if !no_directory(image, root) {
         return 5;
     }
-    if size < 4 * d {
+    if size < 4 * root.d {
         return 9;
     }
     0
@@ -55,12 +63,10 @@ fn repair(image: &mut [u8], t: usize, n: usize, marks: &mut [u8], report: &mut [
     ensures bytes { image.new ≡ salvage_image image.old }
     ensures codes { report.new ≡ splice report.old 0 (salvage_codes image.old) }
 {
-    let root = t + 1;
-    let d = layout::directory::number_at(image, root, 0, 12);
+    let root = root_at(image, t, n);
     report[0] = 0;
-    super::slots::take_slots(image, t, n, root, d, marks, report);
-    let end = 4 * d - 1;
-    report[end] = super::table::put_end(image, n, root, d);
+    super::slots::take_slots(image, root, marks, report);
+    report[4 * root.d - 1] = super::table::put_end(image, root);
     super::table::put_table(image, t, n, marks);
     super::table::put_counts(image, n);
 }
@@ -79,21 +85,12 @@ fn body(image: &mut [u8], n: usize, marks: &mut [u8], report: &mut [u8]) -> u32
     0
 }
 
-// The same of a small volume.
-fn small_body(image: &mut [u8], n: usize, report: &mut [u8]) -> u32
-    requires { (Shape image.old n) × (head_stage image.old ≡ 0) × (n ≤ small_blocks) }
+// The same with room for so many marks.
+fn marked_body<const MARKS: usize>(image: &mut [u8], n: usize, report: &mut [u8]) -> u32
+    requires { (Shape image.old n) × (head_stage image.old ≡ 0) × (128 * table_blocks n ≤ MARKS) × (MARKS ≤ max_blocks) }
     ensures { ◌≡◌ {A = SalvageAnswer} (record { number = result; image = image.new; report = report.new }) (salvage image.old report.old) }
 {
-    let mut marks = layout::table::few_marks();
-    body(image, n, &mut marks, report)
-}
-
-// The same of any volume.
-fn large_body(image: &mut [u8], n: usize, report: &mut [u8]) -> u32
-    requires { (Shape image.old n) × (head_stage image.old ≡ 0) }
-    ensures { ◌≡◌ {A = SalvageAnswer} (record { number = result; image = image.new; report = report.new }) (salvage image.old report.old) }
-{
-    let mut marks = layout::table::no_marks();
+    let mut marks = [0; MARKS];
     body(image, n, &mut marks, report)
 }
 
@@ -107,7 +104,7 @@ pub fn salvage(image: &mut [u8], report: &mut [u8]) -> u32
     }
     let n = image.len() / 512;
     if n <= SMALL_BLOCKS {
-        return small_body(image, n, report);
+        return marked_body::<SMALL_BLOCKS>(image, n, report);
     }
-    large_body(image, n, report)
+    marked_body::<MAX_BLOCKS>(image, n, report)
 }

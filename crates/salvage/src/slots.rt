@@ -1,6 +1,5 @@
 // The root's slots, one after the other.
 ghost use Rattle.std.specs.Prelude.{cond, ◌&&◌, ◌≡◌, ℕ, ◌+◌, ◌*◌, ◌≤◌, ◌<◌, length, set};
-ghost use Rattle.layout.specs.Limits.{max_slots};
 ghost use Rattle.layout.specs.Bytes.{part};
 ghost use Rattle.layout.specs.Table.{next, chain};
 ghost use Rattle.layout.specs.Directory.{first_block, blocks_of, type_of};
@@ -10,17 +9,29 @@ ghost use Rattle.layout.specs.Walks.Shapes.{Room, ChainBelow};
 ghost use Rattle.layout.specs.Walks.Slots.{entry_at};
 ghost use Rattle.salvage.specs.Walks.{FileTaken, SlotTaken, SlotGiven, RootGiven, RootTaken};
 
+use layout::limits::MAX_SLOTS;
+
+// The root of a volume of n blocks with t table blocks: d blocks from `first` on.
+#[derive(Clone, Copy)]
+pub struct Root {
+    pub t: usize,
+    pub n: usize,
+    pub first: usize,
+    pub d: usize,
+}
+
+// What is noted of each slot: the fingerprint of its name, and its block. The look-up of names goes through the fingerprints alone, so they are an array of their own.
+#[derive(Drop)]
+struct Notes {
+    prints: [usize; MAX_SLOTS],
+    places: [usize; MAX_SLOTS],
+}
+
 // The code of a file that is kept, by whether the last value of each of its chains was right.
 fn file_code(own: bool, second: bool) -> u8
     ensures { ◌≡◌ {A = ℕ} result (cond (own && second) 0 3) }
 {
-    if !own {
-        return 3;
-    }
-    if !second {
-        return 3;
-    }
-    0
+    if own && second { 0 } else { 3 }
 }
 
 // The file in slot k of block b, whose own chain is claimed: the last value of it, then the chain of its attributes. It gives the slot's code.
@@ -41,117 +52,73 @@ pub fn take_file(image: &mut [u8], t: usize, n: usize, b: usize, k: usize, marks
 }
 
 // Whether slot k, in block b, which is not free, is right and its name new. The slots before it are right.
-fn slot_right(
-    image: &[u8],
-    first: usize,
-    d: usize,
-    prints: &[usize],
-    places: &[usize],
-    b: usize,
-    k: usize,
-) -> bool
-    requires { (SlotGiven image.now first d prints.now places.now b k) × (type_of image.now (entry_at b k) ≡ 0 → ⊥) }
-    ensures { result ≡ slot_ok image.now (entry_at b k) && new_name image.now (chain (next image.now) first d) k }
+fn slot_right(image: &[u8], root: Root, notes: &Notes, b: usize, k: usize) -> bool
+    requires { (SlotGiven image.now root.first root.d notes.now.prints notes.now.places b k) × (type_of image.now (entry_at b k) ≡ 0 → ⊥) }
+    ensures { result ≡ slot_ok image.now (entry_at b k) && new_name image.now (chain (next image.now) root.first root.d) k }
 {
-    if !layout::directory::slot_ok_at(image, b, k) {
-        return false;
-    }
-    !layout::names::name_in(image, first, d, b, k, prints, places)
+    layout::directory::slot_ok_at(image, b, k)
+        && !layout::names::name_in(
+            image,
+            root.first,
+            root.d,
+            b,
+            k,
+            &notes.prints,
+            &notes.places,
+        )
 }
 
-// Slot k, in block b, of the root of d blocks from first on. It gives the slot's code.
+// Slot k of the root, in block b. It gives the slot's code.
 fn take_slot(
     image: &mut [u8],
-    t: usize,
-    n: usize,
-    first: usize,
-    d: usize,
-    prints: &[usize],
-    places: &[usize],
+    root: Root,
+    notes: &Notes,
     b: usize,
     k: usize,
     marks: &mut [u8],
 ) -> u8
-    requires { (Room image.old t n marks.old) × (b < n) × (SlotGiven image.old first d prints.now places.now b k) }
-    ensures { SlotTaken image.old marks.old (chain (next image.old) first d) k result image.new marks.new }
+    requires { (Room image.old root.t root.n marks.old) × (b < root.n) × (SlotGiven image.old root.first root.d notes.now.prints notes.now.places b k) }
+    ensures { SlotTaken image.old marks.old (chain (next image.old) root.first root.d) k result image.new marks.new }
 {
     if layout::directory::type_at(image, b, k) == 0 {
         return 0;
     }
-    if !slot_right(image, first, d, prints, places, b, k) {
+    if !slot_right(image, root, notes, b, k) {
         volume::file::clear_slot(image, b, k);
         return 1;
     }
     let file = layout::directory::number_at(image, b, k, 4);
     let blocks = layout::directory::number_at(image, b, k, 12);
-    if !super::chains::claim(image, t, n, file, blocks, marks) {
+    if !super::chains::claim(image, root.t, root.n, file, blocks, marks) {
         volume::file::clear_slot(image, b, k);
         return 2;
     }
-    take_file(image, t, n, b, k, marks)
+    take_file(image, root.t, root.n, b, k, marks)
 }
 
-// Notes the fingerprint of slot k, in block b.
-fn note(image: &[u8], b: usize, k: usize, prints: &mut [usize])
-    requires { (512 * b + 512 ≤ length image.now) × (k < length prints.old) × (length prints.old ≤ max_slots) }
-    ensures { prints.new ≡ set prints.old k (fingerprint (part image.now (entry_at b k + 48) 80)) }
+// The fingerprint of the name of slot k, in block b.
+fn fingerprint_at(image: &[u8], b: usize, k: usize) -> usize
+    requires { 512 * b + 512 ≤ length image.now }
+    ensures { result ≡ fingerprint (part image.now (entry_at b k + 48) 80) }
 {
-    prints[k] = layout::names::fingerprint(layout::directory::field_at(image, b, k));
+    layout::names::fingerprint(layout::directory::field_at(image, b, k))
 }
 
 // All slots of the root from 1 to 4·d − 2; the code of each goes into the report. A slot's block and fingerprint are noted, the fingerprint again when it is done: it may be free now.
-fn take_each(
-    image: &mut [u8],
-    t: usize,
-    n: usize,
-    first: usize,
-    d: usize,
-    prints: &mut [usize],
-    places: &mut [usize],
-    marks: &mut [u8],
-    report: &mut [u8],
-)
-    requires { (RootGiven image.old t n first d marks.old report.old) × (length prints.old ≡ max_slots) × (length places.old ≡ max_slots) }
+pub fn take_slots(image: &mut [u8], root: Root, marks: &mut [u8], report: &mut [u8])
+    requires { RootGiven image.old root.t root.n root.first root.d marks.old report.old }
     ensures { RootTaken image.old report.old image.new marks.new report.new }
 {
-    let mut b = first;
-    let mut k = 1;
-    let mut left = 4 * d - 2;
-    while 0 < left {
-        places[k] = b;
-        note(image, b, k, prints);
-        report[k] = take_slot(image, t, n, first, d, prints, places, b, k, marks);
-        note(image, b, k, prints);
-        k = k + 1;
-        b = layout::directory::following(image, b, k);
-        left = left - 1;
+    let mut notes = Notes {
+        prints: [0; MAX_SLOTS],
+        places: [0; MAX_SLOTS],
+    };
+    let mut b = root.first;
+    for k in 1..4 * root.d - 1 {
+        notes.places[k] = b;
+        notes.prints[k] = fingerprint_at(image, b, k);
+        report[k] = take_slot(image, root, &notes, b, k, marks);
+        notes.prints[k] = fingerprint_at(image, b, k);
+        b = layout::directory::following(image, b, k + 1);
     }
-}
-
-// The same, with nothing noted yet.
-pub fn take_slots(
-    image: &mut [u8],
-    t: usize,
-    n: usize,
-    first: usize,
-    d: usize,
-    marks: &mut [u8],
-    report: &mut [u8],
-)
-    requires { RootGiven image.old t n first d marks.old report.old }
-    ensures { RootTaken image.old report.old image.new marks.new report.new }
-{
-    let mut prints = layout::names::no_slots();
-    let mut places = layout::names::no_slots();
-    take_each(
-        image,
-        t,
-        n,
-        first,
-        d,
-        &mut prints,
-        &mut places,
-        marks,
-        report,
-    );
 }

@@ -9,13 +9,15 @@ ghost use Rattle.layout.specs.Walks.Shapes.{Shape, Room, DirectoryAt};
 ghost use Rattle.salvage.specs.Salvage.{end_right, end_put, one_at, in_turn, counts_put};
 ghost use Rattle.salvage.specs.Walks.{EntryFreed, EntriesFreed, TablePut};
 
-// Puts right the type of the end slot of the root of d blocks from first on, and gives the slot's code.
-pub fn put_end(image: &mut [u8], n: usize, first: usize, d: usize) -> u8
-    requires { DirectoryAt image.old n first d }
-    ensures code { result ≡ cond (end_right image.old (chain (next image.old) first d)) 0 3 }
-    ensures bytes { image.new ≡ end_put image.old (chain (next image.old) first d) }
+use super::slots::Root;
+
+// Puts right the type of the end slot of the root, and gives the slot's code.
+pub fn put_end(image: &mut [u8], root: Root) -> u8
+    requires { DirectoryAt image.old root.n root.first root.d }
+    ensures code { result ≡ cond (end_right image.old (chain (next image.old) root.first root.d)) 0 3 }
+    ensures bytes { image.new ≡ end_put image.old (chain (next image.old) root.first root.d) }
 {
-    let b = layout::table::nth(image, n, first, d, d - 1);
+    let b = layout::table::nth(image, root.n, root.first, root.d, root.d - 1);
     if layout::directory::type_at(image, b, 3) == 0xFF {
         return 0;
     }
@@ -28,10 +30,9 @@ fn put_one(image: &mut [u8], b: usize)
     requires { 512 * table_block_of b + 512 ≤ length image.old }
     ensures { image.new ≡ one_at image.old b }
 {
-    if layout::table::entry(image, b) == 1 {
-        return;
+    if layout::table::entry(image, b) != 1 {
+        volume::table::set_entry(image, b, 1);
     }
-    volume::table::set_entry(image, b, 1);
 }
 
 // Sets entries 0 to k − 1 to 1.
@@ -39,12 +40,8 @@ pub fn put_ones(image: &mut [u8], k: usize)
     requires { 512 * table_blocks k + 512 ≤ length image.old }
     ensures { image.new ≡ in_turn one_at image.old (interval 0 k) }
 {
-    let mut b = 0;
-    let mut left = k;
-    while 0 < left {
+    for b in 0..k {
         put_one(image, b);
-        b = b + 1;
-        left = left - 1;
     }
 }
 
@@ -53,17 +50,12 @@ fn free_entry(image: &mut [u8], n: usize, marks: &[u8], b: usize)
     requires { (Shape image.old n) × (b < 128 * table_blocks n) × (b < length marks.now) }
     ensures { EntryFreed image.old marks.now b image.new }
 {
-    if marks[b] != 0 {
+    if marks[b] != 0 || layout::table::entry(image, b) == 0 {
         return;
     }
-    if layout::table::entry(image, b) == 0 {
-        return;
+    if b < n {
+        volume::table::clear_block(image, b);
     }
-    if n <= b {
-        volume::table::set_entry(image, b, 0);
-        return;
-    }
-    volume::table::clear_block(image, b);
     volume::table::set_entry(image, b, 0);
 }
 
@@ -72,12 +64,8 @@ pub fn free_entries(image: &mut [u8], n: usize, marks: &[u8], from: usize, k: us
     requires { (Shape image.old n) × (from + k ≤ 128 * table_blocks n) × (from + k ≤ length marks.now) }
     ensures { EntriesFreed image.old marks.now from k image.new }
 {
-    let mut b = from;
-    let mut left = k;
-    while 0 < left {
+    for b in from..from + k {
         free_entry(image, n, marks, b);
-        b = b + 1;
-        left = left - 1;
     }
 }
 
@@ -97,10 +85,8 @@ pub fn counts_right(image: &[u8], n: usize, used: usize) -> bool
     requires { (Shape image.now n) × (used ≡ count_used (next image.now) 0 n) × (used ≤ n) }
     ensures { result ≡ stage7 image.now }
 {
-    if layout::number::header_number(image, 20) != used {
-        return false;
-    }
-    layout::number::header_number(image, 24) == n - used
+    layout::number::header_number(image, 20) == used
+        && layout::number::header_number(image, 24) == n - used
 }
 
 // Puts right the header's counts.
@@ -109,8 +95,7 @@ pub fn put_counts(image: &mut [u8], n: usize)
     ensures { image.new ≡ counts_put image.old }
 {
     let used = layout::table::count_used(image, n);
-    if counts_right(image, n, used) {
-        return;
+    if !counts_right(image, n, used) {
+        volume::table::set_counts(image, n, used);
     }
-    volume::table::set_counts(image, n, used);
 }

@@ -10,6 +10,7 @@ use Rattle.layout.specs.Directory.{slot_at, slots, type_of, is_free, name_of, na
 use Rattle.layout.specs.Check.{stage1, stage2}
 use Rattle.layout.specs.Walks.Shapes.{Room}
 use Rattle.salvage.specs.Walks.{MarksOf}
+pub use Rattle.salvage.specs.Walks.{IsGood}
 use Rattle.salvage_tree.specs.SalvageTree.{State, run, row_right, directory_blocks, put_directory, sized, take_file_at, take_slot, take_slots, witness, take_child, ones_put, blocks_freed, padding_put, freed_codes, rest, adopt, coded, tree_done, hung_at, hang, folders_hung, number, hung_over, salvaged}
 
 abbrev pub st : List ℕ → List ℕ → List ℕ → State
@@ -25,11 +26,6 @@ pub record Reached (q : State) (s m codes : List ℕ) : Type 0 where
 pub record Ready (s : List ℕ) (t n : ℕ) (m codes : List ℕ) : Type 0 where
   pub room : Room s t n m
   pub sized : length codes ≡ 4 * n
-
--- a block that can be claimed
-pub record IsGood (n : ℕ) (m : List ℕ) (b : ℕ) (r : Bool) : Type 0 where
-  pub told : (cs : List ℕ) → MarksOf m cs → r ≡ in_volume n b && not (has eqb b cs)
-  pub below : r ≡ true → b < n
 
 -- the first r of some numbers are the run from b on
 pub record Ran (s : List ℕ) (n b : ℕ) (m : List ℕ) (r : ℕ) (blocks : List ℕ) : Type 0 where

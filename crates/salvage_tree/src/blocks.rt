@@ -7,30 +7,18 @@ ghost use Rattle.layout.specs.Table.{next, chain};
 ghost use Rattle.layout.specs.Geometry.{table_blocks};
 ghost use Rattle.layout.specs.Walks.Shapes.{Shape, Room, DirectoryAt};
 ghost use Rattle.salvage_tree.specs.SalvageTree.{ends_in};
-ghost use Rattle.salvage_tree.specs.Walks.{IsGood, Ran, RowGood, RowRight, ChoseOther, Chose, MarkedToo};
+ghost use Rattle.salvage_tree.specs.Walks.{Ran, RowGood, RowRight, ChoseOther, Chose, MarkedToo};
+
+pub use salvage::chains::is_good;
 
 // The most blocks that a directory has.
 const MAX_BLOCKS: usize = 64;
 
-// Room for the blocks of a directory.
+// Room for the blocks of a directory; how many it has is told beside it, since there is no heap.
 pub fn no_blocks() -> [usize; MAX_BLOCKS]
     ensures { result ≡ zeros max_directory }
 {
     [0usize; MAX_BLOCKS]
-}
-
-// Whether block b is above t, below n and not claimed.
-pub fn is_good(t: usize, n: usize, marks: &[u8], b: usize) -> bool
-    requires { (t ≡ table_blocks n) × (n ≤ length marks.now) }
-    ensures { IsGood n marks.now b result }
-{
-    if b <= t {
-        return false;
-    }
-    if n <= b {
-        return false;
-    }
-    marks[b] == 0
 }
 
 // Whether b is one of the first k numbers.
@@ -38,14 +26,7 @@ fn is_met(blocks: &[usize], k: usize, b: usize) -> bool
     requires { (k ≤ length blocks.now) × (length blocks.now ≤ max_directory) }
     ensures { result ≡ has eqb b (take k blocks.now) }
 {
-    let mut i = 0;
-    while i < k {
-        if blocks[i] == b {
-            return true;
-        }
-        i = i + 1;
-    }
-    false
+    blocks[..k].contains(&b)
 }
 
 // The run from b on; it gives how many blocks the run has.
@@ -54,19 +35,14 @@ fn run(image: &[u8], t: usize, n: usize, b: usize, marks: &[u8], blocks: &mut [u
     ensures { Ran image.now n b marks.now result blocks.new }
 {
     let mut c = b;
-    let mut k = 0;
-    while k < MAX_BLOCKS {
-        if !is_good(t, n, marks, c) {
-            return k;
-        }
-        if is_met(blocks, k, c) {
+    for k in 0..MAX_BLOCKS {
+        if !is_good(t, n, marks, c) || is_met(blocks, k, c) {
             return k;
         }
         blocks[k] = c;
         c = layout::table::entry(image, c);
-        k = k + 1;
     }
-    k
+    MAX_BLOCKS
 }
 
 // Whether all of the d blocks from b on in a row are good.
@@ -74,14 +50,10 @@ fn row_good(t: usize, n: usize, b: usize, d: usize, marks: &[u8]) -> bool
     requires { (t ≡ table_blocks n) × (n ≤ length marks.now) × (n ≤ max_blocks) }
     ensures { RowGood n b d marks.now result }
 {
-    let mut x = b;
-    let mut left = d;
-    while 0 < left {
-        if !is_good(t, n, marks, x) {
+    for i in 0..d {
+        if !is_good(t, n, marks, b + i) {
             return false;
         }
-        x = x + 1;
-        left = left - 1;
     }
     true
 }
@@ -91,17 +63,9 @@ fn row_right(image: &[u8], t: usize, n: usize, b: usize, d: usize, marks: &[u8])
     requires { Room image.now t n marks.now }
     ensures { RowRight image.now n b d marks.now result }
 {
-    if d < 1 {
-        return false;
-    }
-    if MAX_BLOCKS < d {
-        return false;
-    }
-    if !row_good(t, n, b, d, marks) {
-        return false;
-    }
-    let last = b + d - 1;
-    layout::directory::type_at(image, last, 3) == 0xFF
+    (1..=MAX_BLOCKS).contains(&d)
+        && row_good(t, n, b, d, marks)
+        && layout::directory::type_at(image, b + d - 1, 3) == 0xFF
 }
 
 // Whether block b ends, or has value 1.
@@ -109,10 +73,7 @@ fn ends_in(image: &[u8], n: usize, b: usize) -> bool
     requires { (Shape image.now n) × (b < n) }
     ensures { result ≡ ends_in image.now b }
 {
-    if layout::directory::type_at(image, b, 3) == 0xFF {
-        return true;
-    }
-    layout::table::entry(image, b) == 1
+    layout::directory::type_at(image, b, 3) == 0xFF || layout::table::entry(image, b) == 1
 }
 
 // The d blocks from b on in a row.
@@ -120,10 +81,8 @@ fn put_row(b: usize, d: usize, blocks: &mut [usize])
     requires { (d ≤ max_directory) × (length blocks.old ≡ max_directory) × (b ≤ max_blocks) }
     ensures { take d blocks.new ≡ interval b d }
 {
-    let mut k = 0;
-    while k < d {
+    for k in 0..d {
         blocks[k] = b + k;
-        k = k + 1;
     }
 }
 
@@ -146,16 +105,7 @@ fn choose_other(
         put_row(b, d, blocks);
         return d;
     }
-    if !sure {
-        return k;
-    }
-    if d < 1 {
-        return k;
-    }
-    if k < d {
-        return k;
-    }
-    d
+    if sure && (1..=k).contains(&d) { d } else { k }
 }
 
 // The blocks of a directory that begins at b and is said to have d; `sure`: its entry and its self entry both say so. It gives how many there are.
@@ -173,17 +123,10 @@ pub fn choose(
     ensures { Chose image.now n b d sure marks.now result blocks.new }
 {
     let k = run(image, t, n, b, marks, blocks);
-    if d < 1 {
-        return choose_other(image, t, n, b, d, sure, marks, k, blocks);
+    if 1 <= d && d <= k && ends_in(image, n, blocks[d - 1]) {
+        return d;
     }
-    if k < d {
-        return choose_other(image, t, n, b, d, sure, marks, k, blocks);
-    }
-    let last = d - 1;
-    if !ends_in(image, n, blocks[last]) {
-        return choose_other(image, t, n, b, d, sure, marks, k, blocks);
-    }
-    d
+    choose_other(image, t, n, b, d, sure, marks, k, blocks)
 }
 
 // The d blocks of the chain from first on.
@@ -192,11 +135,9 @@ pub fn read_blocks(image: &[u8], n: usize, first: usize, d: usize, blocks: &mut 
     ensures { take d blocks.new ≡ chain (next image.now) first d }
 {
     let mut b = first;
-    let mut k = 0;
-    while k < d {
+    for k in 0..d {
         blocks[k] = b;
         b = layout::table::entry(image, b);
-        k = k + 1;
     }
 }
 
@@ -205,10 +146,7 @@ pub fn claim_blocks(blocks: &[usize], marks: &mut [u8])
     requires { ((i : ℕ) → i < length blocks.now → get_or blocks.now i 0 < length marks.old) × (length blocks.now ≤ max_directory) }
     ensures { MarkedToo blocks.now marks.old marks.new }
 {
-    let mut i = 0;
-    while i < blocks.len() {
-        let b = blocks[i];
+    for &b in blocks {
         marks[b] = 1;
-        i = i + 1;
     }
 }

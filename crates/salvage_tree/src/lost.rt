@@ -1,6 +1,5 @@
 // Lost folders: directories of the root that no entry names, hung again in free slots of the root.
 ghost use Rattle.std.specs.Prelude.{◌≡◌, ◌+◌, ◌*◌, ◌≤◌, ◌<◌, true, length, get_or};
-ghost use Rattle.layout.specs.Bytes.{zeros};
 ghost use Rattle.layout.specs.Directory.{blocks_of, name_ok};
 ghost use Rattle.layout.specs.Walks.Shapes.{Room, DirectoryAt};
 ghost use Rattle.layout.specs.Walks.Slots.{entry_at};
@@ -12,19 +11,13 @@ fn looks_lost(image: &[u8], t: usize, n: usize, marks: &[u8], b: usize) -> bool
     requires { (Room image.now t n marks.now) × (b < n) }
     ensures { LooksLost image.now (t + 1) b marks.now result }
 {
-    if marks[b] != 0 {
+    if marks[b] != 0 || layout::table::entry(image, b) == 0 {
         return false;
     }
-    if layout::table::entry(image, b) == 0 {
-        return false;
-    }
-    if layout::directory::type_at(image, b, 0) != 1 {
-        return false;
-    }
-    if layout::directory::number_at(image, b, 0, 4) != b {
-        return false;
-    }
-    if layout::directory::number_at(image, b, 0, 8) != t + 1 {
+    if layout::directory::type_at(image, b, 0) != 1
+        || layout::directory::number_at(image, b, 0, 4) != b
+        || layout::directory::number_at(image, b, 0, 8) != t + 1
+    {
         return false;
     }
     layout::bytes::name_ok(layout::directory::field_at(image, b, 0))
@@ -38,21 +31,13 @@ fn is_unnamed(image: &[u8], n: usize, root: usize, b: usize) -> bool
     let d = layout::directory::number_at(image, root, 0, 12);
     let mut blocks = super::blocks::no_blocks();
     super::blocks::read_blocks(image, n, root, d, &mut blocks);
-    let z = 0;
     super::names::is_new(
         image,
         n,
-        &blocks[z..d],
+        &blocks[..d],
         4 * d - 2,
         super::names::name_at(image, b, 0),
     )
-}
-
-// Room for an entry.
-fn no_entry() -> [u8; 128]
-    ensures { result ≡ zeros 128 }
-{
-    [0u8; 128]
 }
 
 // Slot k of block `at` gets block b's self entry, as that of a child directory.
@@ -60,7 +45,7 @@ fn put_hung(image: &mut [u8], at: usize, k: usize, b: usize)
     requires { (512 * at + 512 ≤ length image.old) × (512 * b + 512 ≤ length image.old) }
     ensures { image.new ≡ hung_at image.old (entry_at at k) b }
 {
-    let mut entry = no_entry();
+    let mut entry = [0; 128];
     layout::bytes::copy_part(image, 512 * b, &mut entry, 0, 128);
     let e = 512 * at + 128 * (k % 4);
     layout::bytes::copy_part(&entry, 0, image, e, 128);
@@ -87,10 +72,8 @@ fn hang_at(
     let mut own = super::blocks::no_blocks();
     let d = super::blocks::choose(image, t, n, b, said, false, marks, &mut own);
     put_hung(image, at, k, b);
-    let z = 0;
-    super::put::adopt(image, t, n, at, k, &own[z..d], t + 1, marks, codes);
-    let y = 0;
-    super::tree::take_slots(image, t, n, &own[y..d], 7, marks, codes);
+    super::put::adopt(image, t, n, at, k, &own[0..d], t + 1, marks, codes);
+    super::tree::take_slots(image, t, n, &own[0..d], 7, marks, codes);
     super::numbers::put_code(codes, at, k, 6);
 }
 
@@ -99,20 +82,14 @@ fn hang(image: &mut [u8], t: usize, n: usize, b: usize, marks: &mut [u8], codes:
     requires { (Ready image.old t n marks.old codes.old) × (t < b) × (b < n) × (DirectoryAt image.old n (t + 1) (blocks_of image.old (512 * (t + 1)))) }
     ensures { HangDone image.old (t + 1) b marks.old codes.old image.new marks.new codes.new }
 {
-    if !looks_lost(image, t, n, marks, b) {
-        return;
-    }
     let root = t + 1;
-    if !is_unnamed(image, n, root, b) {
+    if !looks_lost(image, t, n, marks, b) || !is_unnamed(image, n, root, b) {
         return;
     }
-    let f = layout::directory::free_slot(image, n, root);
-    let k = f.slot;
-    let at = f.block;
-    if k == 0 {
-        return;
+    let free = layout::directory::free_slot(image, n, root);
+    if free.slot != 0 {
+        hang_at(image, t, n, b, free.block, free.slot, marks, codes);
     }
-    hang_at(image, t, n, b, at, k, marks, codes);
 }
 
 // All lost folders, in ascending order of their blocks.
@@ -120,11 +97,7 @@ pub fn hang_each(image: &mut [u8], t: usize, n: usize, marks: &mut [u8], codes: 
     requires { (Ready image.old t n marks.old codes.old) × (TreeTaken image.old marks.old codes.old) }
     ensures { FoldersDone image.old marks.old codes.old image.new marks.new codes.new }
 {
-    let mut b = t + 2;
-    let mut left = n - b;
-    while 0 < left {
+    for b in t + 2..n {
         hang(image, t, n, b, marks, codes);
-        b = b + 1;
-        left = left - 1;
     }
 }

@@ -11,14 +11,12 @@ ghost use Rattle.salvage_tree.specs.Walks.{other_than};
 fn name_length(field: &[u8]) -> usize
     ensures { (result ≡ length (unpadded field.now)) × (result ≤ length field.now) }
 {
-    let mut i = 0;
-    while i < field.len() {
-        if field[i] == 0 {
+    for (i, byte) in field.iter().enumerate() {
+        if *byte == 0 {
             return i;
         }
-        i = i + 1;
     }
-    i
+    field.len()
 }
 
 // The name of slot k, which is in block b.
@@ -27,9 +25,7 @@ pub fn name_at<'a>(image: &'a [u8], b: usize, k: usize) -> &'a [u8]
     ensures { result.now ≡ name_of image.now (entry_at b k) }
 {
     let field = layout::directory::field_at(image, b, k);
-    let z = 0;
-    let e = name_length(field);
-    &field[z..e]
+    &field[..name_length(field)]
 }
 
 // Whether slot k, in block b, is used and has a good name.
@@ -37,10 +33,8 @@ fn has_name(image: &[u8], b: usize, k: usize, name: &[u8]) -> bool
     requires { (512 * b + 512 ≤ length image.now) × (good_name name.now ≡ true) }
     ensures { result ≡ not (other_than image.now (entry_at b k) name.now) }
 {
-    if layout::directory::type_at(image, b, k) == 0 {
-        return false;
-    }
-    layout::bytes::holds_name(layout::directory::field_at(image, b, k), name)
+    layout::directory::type_at(image, b, k) != 0
+        && layout::bytes::holds_name(layout::directory::field_at(image, b, k), name)
 }
 
 // Whether none of the slots 1 to j of a directory is used and has a good name.
@@ -48,14 +42,10 @@ pub fn is_new(image: &[u8], n: usize, blocks: &[usize], j: usize, name: &[u8]) -
     requires { (Shape image.now n) × (Blocks n (length blocks.now) blocks.now) × (j < 4 * length blocks.now) × (good_name name.now ≡ true) }
     ensures { result ≡ every (λ x. other_than image.now (slot_at blocks.now x) name.now) (interval 1 j) }
 {
-    let mut k = 1;
-    let mut left = j;
-    while 0 < left {
+    for k in 1..j + 1 {
         if has_name(image, blocks[k / 4], k, name) {
             return false;
         }
-        k = k + 1;
-        left = left - 1;
     }
     true
 }
@@ -65,8 +55,6 @@ pub fn slot_right(image: &[u8], n: usize, blocks: &[usize], b: usize, k: usize) 
     requires { (Shape image.now n) × (Blocks n (length blocks.now) blocks.now) × (1 ≤ k) × (k < 4 * length blocks.now) × (b ≡ get_or blocks.now (k / 4) 0) × (type_of image.now (entry_at b k) ≡ 0 → ⊥) }
     ensures { result ≡ slot_ok image.now (entry_at b k) && new_name image.now blocks.now k }
 {
-    if !layout::directory::slot_ok_at(image, b, k) {
-        return false;
-    }
-    is_new(image, n, blocks, k - 1, name_at(image, b, k))
+    layout::directory::slot_ok_at(image, b, k)
+        && is_new(image, n, blocks, k - 1, name_at(image, b, k))
 }

@@ -2,11 +2,13 @@
 ghost use Rattle.std.specs.Prelude.{[], ◌≡◌, ◌+◌, ◌*◌, ◌≤◌, ◌<◌, length, get_or};
 ghost use Rattle.layout.specs.Limits.{max_blocks, max_directory};
 ghost use Rattle.layout.specs.Lists.{same};
-ghost use Rattle.layout.specs.Bytes.{part, zeros};
+ghost use Rattle.layout.specs.Bytes.{part};
 ghost use Rattle.layout.specs.Walks.Shapes.{Shape};
 ghost use Rattle.layout.specs.Walks.Slots.{entry_at};
 ghost use Rattle.salvage_tree.specs.SalvageTree.{put_byte, linked, self_put, sized};
 ghost use Rattle.salvage_tree.specs.Walks.{st, Own, Ready, links_right, self_right, PutDone, Adopted};
+
+use layout::limits::NAME_FIELD;
 
 // Whether the value of each block is the next of them, and of the last 1.
 fn links_right(image: &[u8], n: usize, blocks: &[usize]) -> bool
@@ -14,13 +16,11 @@ fn links_right(image: &[u8], n: usize, blocks: &[usize]) -> bool
     ensures { result ≡ links_right image.now blocks.now }
 {
     let mut b = blocks[0];
-    let mut i = 1;
-    while i < blocks.len() {
+    for i in 1..blocks.len() {
         if layout::table::entry(image, b) != blocks[i] {
             return false;
         }
         b = blocks[i];
-        i = i + 1;
     }
     layout::table::entry(image, b) == 1
 }
@@ -31,12 +31,9 @@ fn link(image: &mut [u8], n: usize, blocks: &[usize])
     ensures { image.new ≡ linked image.old blocks.now }
 {
     let mut b = blocks[0];
-    let mut i = 1;
-    while i < blocks.len() {
-        let c = blocks[i];
-        super::numbers::put_value(image, b, c);
-        b = c;
-        i = i + 1;
+    for i in 1..blocks.len() {
+        super::numbers::put_value(image, b, blocks[i]);
+        b = blocks[i];
     }
     super::numbers::put_value(image, b, 1);
 }
@@ -46,16 +43,11 @@ fn self_right(image: &[u8], b: usize, parent: usize, d: usize, field: &[u8]) -> 
     requires { (512 * b + 512 ≤ length image.now) × (length field.now ≡ 80) }
     ensures { result ≡ self_right image.now b parent d field.now }
 {
-    if layout::directory::type_at(image, b, 0) != 1 {
-        return false;
-    }
-    if layout::directory::number_at(image, b, 0, 4) != b {
-        return false;
-    }
-    if layout::directory::number_at(image, b, 0, 8) != parent {
-        return false;
-    }
-    if layout::directory::number_at(image, b, 0, 12) != d {
+    if layout::directory::type_at(image, b, 0) != 1
+        || layout::directory::number_at(image, b, 0, 4) != b
+        || layout::directory::number_at(image, b, 0, 8) != parent
+        || layout::directory::number_at(image, b, 0, 12) != d
+    {
         return false;
     }
     super::numbers::has_field(image, 512 * b + 48, field)
@@ -125,13 +117,6 @@ pub fn put_directory(
     super::blocks::claim_blocks(blocks, marks);
 }
 
-// Room for the field of a name.
-fn no_field() -> [u8; 80]
-    ensures { result ≡ zeros 80 }
-{
-    [0u8; 80]
-}
-
 // Puts right a directory, with the name's field of slot k of block b.
 pub fn put_named(
     image: &mut [u8],
@@ -147,8 +132,8 @@ pub fn put_named(
     requires { (Ready image.old t n marks.old codes.old) × (Own n blocks.now) × (parent < n) × (b < n) }
     ensures { PutDone image.old blocks.now parent (part image.old (entry_at b k + 48) 80) marks.old codes.old image.new marks.new codes.new }
 {
-    let mut field = no_field();
-    layout::bytes::copy(layout::directory::field_at(image, b, k), &mut field);
+    let mut field = [0; NAME_FIELD];
+    field.copy_from_slice(layout::directory::field_at(image, b, k));
     put_directory(image, t, n, blocks, parent, &field, marks, codes);
 }
 
@@ -179,8 +164,8 @@ pub fn adopt(
     requires { (Ready image.old t n marks.old codes.old) × (Own n blocks.now) × (parent < n) × (b < n) }
     ensures { Adopted image.old parent (entry_at b k) blocks.now marks.old codes.old image.new marks.new codes.new }
 {
-    let mut field = no_field();
-    layout::bytes::copy(layout::directory::field_at(image, b, k), &mut field);
+    let mut field = [0; NAME_FIELD];
+    field.copy_from_slice(layout::directory::field_at(image, b, k));
     put_size(image, b, k, blocks.len(), codes);
     put_directory(image, t, n, blocks, parent, &field, marks, codes);
 }

@@ -14,13 +14,13 @@ use Rattle.layout.specs.Lists.{has, last_or}
 use Rattle.layout.specs.Geometry.{table_blocks, in_volume}
 use Rattle.layout.specs.Table.{next, chain}
 use Rattle.layout.specs.Walks.Shapes.{ChainBelow}
-use Rattle.layout.proofs.Laws.Tests.{and-join, eqb-self, is_false, true-not-false}
+use Rattle.layout.proofs.Laws.Tests.{and_split, and-join, eqb-self, is_false, true-not-false}
 use Rattle.layout.proofs.Laws.Lists.{In, in-elim, in-append, in_left, in_right, every_in, has-eqb-in, in-has-eqb, false-has, distinct_append, every_append}
 use Rattle.layout.proofs.Laws.Chains.{nth, nth-suc, chain-none, chain-suc, chain_snoc, length-chain, get_d-chain, in-chain, chain-in, last_some, in_volume-split}
 use Rattle.layout.proofs.Walks.Marks.{marked_more}
 use Rattle.layout.proofs.Walks.Shapes.{run-rest}
 use Rattle.salvage.specs.Salvage.{claimable, ends}
-use Rattle.salvage.specs.Walks.{MarksOf, Walked, Claimed, unmarked}
+use Rattle.salvage.specs.Walks.{MarksOf, IsGood, Walked, Claimed, unmarked}
 use Rattle.salvage.proofs.Laws.Walked.{Claimable, claimable-split, claimable-join}
 use Rattle.salvage.proofs.Laws.Places.{index-apart}
 
@@ -37,6 +37,20 @@ pub marked-in : (m cs : List ℕ) (b : ℕ) → MarksOf m cs → get_or m b 0 �
 marked-in m cs b M z =
     let e : not (has eqb b cs) ≡ false = sym (M.at b) ∙ ne_eqb (get_or m b 0) 0 z in
     has-eqb-in b cs (not-false _ e)
+
+-- A GOOD BLOCK, by its tests
+not-inside : (n b : ℕ) → (b ≤ table_blocks n) ⊎ (n ≤ b) → in_volume n b ≡ false
+not-inside n b o = is_false (in_volume n b) (λ e. let i = in_volume-split n b e in ⊎_elim (λ p. omega arith) (λ p. omega arith) o)
+
+inside : (n b : ℕ) → table_blocks n < b → b < n → in_volume n b ≡ true
+unfolding in_volume
+inside n b l h = and-join (lt-ltb _ _ l) (lt-ltb _ _ h)
+
+pub good-outside : (n : ℕ) (m : List ℕ) (b : ℕ) → (b ≤ table_blocks n) ⊎ (n ≤ b) → IsGood n m b false
+good-outside n m b o = record { told = λ cs M. rw (not-inside n b o); below = λ e. absurd (true-not-false e refl) }
+
+pub good-marked : (n : ℕ) (m : List ℕ) (b : ℕ) → table_blocks n < b → b < n → IsGood n m b (eqb (get_or m b 0) 0)
+good-marked n m b l h = record { told = λ cs M. rw (inside n b l h) (M.at b); below = λ e. h }
 
 -- THE WALK, when `met` blocks are marked and b is the next
 pub record Walking (v : ℕ → ℕ) (n first : ℕ) (m₀ m : List ℕ) (met b : ℕ) : Type 0 where
@@ -61,10 +75,10 @@ module _ (v : ℕ → ℕ) (n first : ℕ) (m₀ m : List ℕ) (met b : ℕ) (w 
   one_more : chain v first (suc met) ≡ chain v first met ++ (b ∷ [])
   one_more = chain_snoc v v first first met b (λ y h. refl) (sym w.here)
 
-  pub walking-more : (c : ℕ) → table_blocks n < b → b < n → n ≤ length m → get_or m b 0 ≡ 0 → c ≡ v b → Walking v n first m₀ (set m b 1) (met + 1) c
-  unfolding in_volume
-  walking-more c low high room z e =
+  pub walking-more : (c : ℕ) → IsGood n m b true → n ≤ length m → c ≡ v b → Walking v n first m₀ (set m b 1) (met + 1) c
+  walking-more c G room e =
       let q : met + 1 ≡ suc met = omega arith in
+      let high : b < n = G.below refl in
       rw (q, e)
       (record {
         here = ap v w.here ∙ sym (nth-suc v met first);
@@ -81,9 +95,10 @@ module _ (v : ℕ → ℕ) (n first : ℕ) (m₀ m : List ℕ) (met b : ℕ) (w 
       more cs M =
           let xs = chain v first met in
           let C = w.good cs M in
-          let out = unmarked-out m (cs ++ xs) b (w.marks cs M) z in
+          let g = and_split (in_volume n b) _ (sym (G.told (cs ++ xs) (w.marks cs M))) in
+          let out : In b (cs ++ xs) → ⊥ = λ i. true-not-false (in-has-eqb b (cs ++ xs) i) (not-true _ g.1) in
           record {
-            inside = every_append (in_volume n) xs (b ∷ []) C.inside (and-join (and-join (lt-ltb _ _ low) (lt-ltb _ _ high)) refl);
+            inside = every_append (in_volume n) xs (b ∷ []) C.inside (and-join g.0 refl);
             once = distinct_append eqb eqb-true eqb-self xs (b ∷ []) C.once refl
                 (λ x i j. in-elim x b [] j (λ p. out (in_right b cs xs (subst (λ (y : ℕ). In y xs) p i))) (λ o. o));
             fresh = λ x i j. ⊎_elim (λ o. C.fresh x i o) (λ o. in-elim x b [] o (λ p. out (in_left b cs xs (subst (λ (y : ℕ). In y cs) p i))) (λ o. o)) (in-append x xs (b ∷ []) j);
@@ -97,8 +112,8 @@ module _ (v : ℕ → ℕ) (n first : ℕ) (m₀ m : List ℕ) (met b : ℕ) (w 
     in_whole : In b (chain v first k)
     in_whole = chain-in v first k b met more w.here
 
-    walked-stuck : ((cs : List ℕ) → MarksOf m₀ cs → Claimable n cs (chain v first k) → ⊥) → Walked v n first k m₀ met m
-    walked-stuck f =
+    stuck-at : ((cs : List ℕ) → MarksOf m₀ cs → Claimable n cs (chain v first k) → ⊥) → Walked v n first k m₀ met m
+    stuck-at f =
         record {
           most = omega arith;
           below = λ i h. rw (get_d-chain v first met i h) (w.below i h);
@@ -107,28 +122,26 @@ module _ (v : ℕ → ℕ) (n first : ℕ) (m₀ m : List ℕ) (met b : ℕ) (w 
           stuck = λ h cs M. stop cs (f cs M);
         }
 
-    pub walked-outside : (b ≤ table_blocks n) ⊎ (n ≤ b) → Walked v n first k m₀ met m
-    walked-outside o = walked-stuck (λ cs M C.
-        let i = in_volume-split n b (every_in (in_volume n) (chain v first k) b C.inside in_whole) in
-        ⊎_elim (λ p. omega arith) (λ p. omega arith) o)
-
-    pub walked-marked : get_or m b 0 ≢ 0 → Walked v n first k m₀ met m
-    walked-marked ne = walked-stuck (λ cs M C.
+    pub walked-stuck : IsGood n m b false → Walked v n first k m₀ met m
+    walked-stuck G = stuck-at (λ cs M C.
+        let i : in_volume n b ≡ true = every_in (in_volume n) (chain v first k) b C.inside in_whole in
+        let met-before : not (has eqb b (cs ++ chain v first met)) ≡ false = rw i at (sym (G.told (cs ++ chain v first met) (w.marks cs M))) in
         ⊎_elim (λ i. C.fresh b i in_whole)
         (λ i. let x = in-chain v first met b i in
         index-apart (chain v first k) C.once x.0 met (rw (length-chain v first k) (omega (arith, x.1))) (rw (length-chain v first k) more) (λ p. omega (arith, x.1))
         (get_d-chain v first k x.0 (omega (arith, x.1)) ∙ sym x.2 ∙ w.here ∙ sym (get_d-chain v first k met more)))
-        (in-append b cs (chain v first met) (marked-in m (cs ++ chain v first met) b (w.marks cs M) ne)))
+        (in-append b cs (chain v first met) (has-eqb-in b (cs ++ chain v first met) (not-false _ met-before))))
 
-  pub walked_all : (k : ℕ) → met ≡ k → Walked v n first k m₀ met m
+  pub walked_all : (k : ℕ) → met ≡ k → Walked v n first k m₀ k m
   walked_all k e =
-      record {
+      rw (← e)
+      (record {
         most = omega arith;
         below = λ i h. rw (get_d-chain v first met i h) (w.below i h);
         marks = w.marks;
         good = λ cs M. claimable-join n cs (chain v first met) (w.good cs M);
         stuck = λ h cs M. absurd (omega arith);
-      }
+      })
 
 -- THE MARKS TAKEN BACK
 pub length-unmarked : (bs m : List ℕ) → length (unmarked m bs) ≡ length m
@@ -178,10 +191,12 @@ module _ {s : List ℕ} {n : ℕ} {goal m : List ℕ} {b left : ℕ} (w : Unmark
   pub unmarking-size : length m ≡ length goal
   unmarking-size = sym (ap length w.whole ∙ length-unmarked (chain (next s) b left) m)
 
-  pub unmarking-turn : 0 < left → (c : ℕ) → c ≡ next s b → Unmarking s n goal (set m b 0) c (left - 1)
+  pub unmarking-turn : (rest : ℕ) → rest + 1 ≡ left → (c : ℕ) → c ≡ next s b → Unmarking s n goal (set m b 0) c rest
   unfolding unmarked
-  unmarking-turn pos c e =
-      rw e
+  unmarking-turn rest r c e =
+      let q : rest ≡ left - 1 = omega arith in
+      let pos : 0 < left = omega arith in
+      rw (q, e)
       (record {
         run = run-rest w.run pos;
         size = omega (arith, length-set m b 0, w.size);

@@ -35,11 +35,13 @@ use Rattle.salvage.proofs.Walks.Root.{root-same, root-at}
 
 -- no slot from k on has the type of a directory
 module _ (s ds : List ℕ) (k j e type : ℕ) (at : e ≡ slot_at ds k) (et : type ≡ type_of s e) where
-  pub plain-next : 0 < j → (r : Bool) → r ≡ is_directory type → r ≡ false → no_directory s ds k j ≡ no_directory s ds (k + 1) (j - 1)
+  pub plain-next : (rest : ℕ) → rest + 1 ≡ j → (r : Bool) → r ≡ is_directory type → r ≡ false → no_directory s ds k j ≡ no_directory s ds (k + 1) rest
   unfolding no_directory
-  plain-next h r er z =
+  plain-next rest h r er z =
       let q : is_directory (type_of s (slot_at ds k)) ≡ false = rw (← at, ← et, ← er) z in
-      rw (interval-next k j h, q)
+      let p : 0 < j = omega arith in
+      let w : j - 1 ≡ rest = omega arith in
+      rw (interval-next k j p, q, w)
 
   pub plain-stop : 0 < j → (r : Bool) → r ≡ is_directory type → r ≡ true → no_directory s ds k j ≡ false
   unfolding no_directory

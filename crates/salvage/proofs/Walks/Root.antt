@@ -44,6 +44,14 @@ pub record Taking (s₀ : List ℕ) (n first d : ℕ) (report₀ s m ps pl repor
   pub at : Place (directory s₀ (root_of s₀)) d b k left
   pub told : report ≡ splice report₀ 0 codes
 
+-- in the ranges of the numbers that the loop has
+pub record InRange (n d : ℕ) (report₀ s : List ℕ) (b : ℕ) : Type 0 where
+  pub some : 1 ≤ d
+  pub few : d ≤ max_directory
+  pub room : 4 * d ≤ length report₀
+  pub shape : Shape s n
+  pub below : b < n
+
 module _ {s₀ : List ℕ} {t n first d : ℕ} {m₀ report₀ : List ℕ} (R : RootGiven s₀ t n first d m₀ report₀) where
   abbrev ds : List ℕ
   ds = directory s₀ (root_of s₀)
@@ -115,6 +123,9 @@ module _ {s₀ : List ℕ} {t n first d : ℕ} {m₀ report₀ : List ℕ} (R : 
 
     pub taking-below : b < n
     taking-below = place-below n ds d b k left (subst (Blocks n d) same-root (root-at T.run).blocks) T.at
+
+    pub taking-range : InRange n d report₀ s b
+    taking-range = record { some = root-size.0; few = root-size.1; room = root-room; shape = taking-shape; below = taking-below }
 
     taking-entry : entry_at b k ≡ slot_at ds k
     taking-entry = place-entry ds d b k left T.at
@@ -214,11 +225,12 @@ module _ {s₀ : List ℕ} {t n first d : ℕ} {m₀ report₀ : List ℕ} (R : 
 
         -- the next turn: the slot's code is stored, and its fingerprint noted as it is now
         pub taking-turn : (ps₁ ps₂ pl₁ : List ℕ) → (v : ℕ) → ps₁ ≡ set ps k v → ps₂ ≡ set ps₁ k (fingerprint (part s' (entry_at b k + 48) 80)) → pl₁ ≡ set pl k b
-            → (c : ℕ) → c ≡ slot_block (next s') b (k + 1) → Taking s₀ n first d report₀ s' m' ps₂ pl₁ (set report k code) c (k + 1) (left - 1)
-        taking-turn ps₁ ps₂ pl₁ v e₁ e₂ e₃ c ec =
+            → (c : ℕ) → c ≡ slot_block (next s') b (k + 1) → (rest : ℕ) → rest + 1 ≡ left → Taking s₀ n first d report₀ s' m' ps₂ pl₁ (set report k code) c (k + 1) rest
+        taking-turn ps₁ ps₂ pl₁ v e₁ e₂ e₃ c ec rest er =
             let y : ℕ = fingerprint (part s' (entry_at b k + 48) 80) in
             let z : k + 1 ≡ suc k = omega arith in
-            let f : suc (left - 1) ≡ left = omega arith in
+            let f : suc rest ≡ left = omega arith in
+            let r : left - 1 ≡ rest = omega arith in
             let l₁ : length ps₁ ≡ length ps = rw e₁ (length-set ps k v) in
             let l₂ : length ps₂ ≡ length ps = rw e₂ (length-set ps₁ k y) ∙ l₁ in
             let same : chain (next s') first d ≡ ds = root-same ran' in
@@ -231,8 +243,8 @@ module _ {s₀ : List ℕ} {t n first d : ℕ} {m₀ report₀ : List ℕ} (R : 
               here = z;
               run = ran';
               rest =
-                  ap (λ (x : Progress). take_slots ds x (interval (k + 1) (left - 1))) (sym q-is) ∙ ap (λ (j : ℕ). take_slots ds q (interval j (left - 1))) z
-                  ∙ sym (slots_next ds p k (left - 1)) ∙ ap (λ (j : ℕ). take_slots ds p (interval k j)) f ∙ T.rest;
+                  ap (λ (x : Progress). take_slots ds x (interval (k + 1) rest)) (sym q-is) ∙ ap (λ (j : ℕ). take_slots ds q (interval j rest)) z
+                  ∙ sym (slots_next ds p k rest) ∙ ap (λ (j : ℕ). take_slots ds p (interval k j)) f ∙ T.rest;
               marks = X.marks;
               noted = record {
                 prints-room = l₂ ∙ T.noted.prints-room;
@@ -249,7 +261,8 @@ module _ {s₀ : List ℕ} {t n first d : ℕ} {m₀ report₀ : List ℕ} (R : 
                     ∙ ap fingerprint (sym (field-same i g)))
                     (λ u. ap (λ (x : List ℕ). get_or x k 0) e₂ ∙ get_or-set_same ps₁ k y 0 low ∙ ap (λ (x : ℕ). fingerprint (part s' (x + 48) 80)) taking-entry));
               };
-              at = subst (λ (x : List ℕ). Place x d c (k + 1) (left - 1)) same
-                  (place-then (next s') first d b k left c (subst (λ (x : List ℕ). Place x d b k left) (sym same) T.at) pos ec);
+              at = rw (← r)
+                  (subst (λ (x : List ℕ). Place x d c (k + 1) (left - 1)) same
+                  (place-then (next s') first d b k left c (subst (λ (x : List ℕ). Place x d b k left) (sym same) T.at) pos ec));
               told = ap (λ (x : List ℕ). set x k code) T.told ∙ report-more report₀ T.codes k code counted (omega (arith, root-room, taking-slot));
             }

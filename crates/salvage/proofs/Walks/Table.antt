@@ -76,11 +76,11 @@ module _ (f : List ℕ → ℕ → List ℕ) (s : List ℕ) (b left : ℕ) where
   pub turn_last : left ≡ 0 → in_turn f s (interval b left) ≡ s
   turn_last e = ap (λ (j : ℕ). in_turn f s (interval b j)) e ∙ turn_end f s b
 
-  pub turn_more : 0 < left → (s' : List ℕ) → s' ≡ f s b → in_turn f s (interval b left) ≡ in_turn f s' (interval (b + 1) (left - 1))
-  turn_more h s' e =
-      let q : left ≡ suc (left - 1) = omega arith in
+  pub turn_more : (rest : ℕ) → rest + 1 ≡ left → (s' : List ℕ) → s' ≡ f s b → in_turn f s (interval b left) ≡ in_turn f s' (interval (b + 1) rest)
+  turn_more rest r s' e =
+      let q : left ≡ suc rest = omega arith in
       let w : suc b ≡ b + 1 = omega arith in
-      ap (λ (j : ℕ). in_turn f s (interval b j)) q ∙ turn-next f s b (left - 1) ∙ rw (e, w)
+      ap (λ (j : ℕ). in_turn f s (interval b j)) q ∙ turn-next f s b rest ∙ rw (e, w)
 
 -- the entries from b on are freed, for every list of blocks that the marks are those of
 pub record Freeing (s₀ m : List ℕ) (a k : ℕ) (s : List ℕ) (b left : ℕ) : Type 0 where
@@ -91,8 +91,8 @@ module _ {s₀ m : List ℕ} {a k : ℕ} {s : List ℕ} {b left : ℕ} (F : Free
   pub freeing-end : left ≡ 0 → EntriesFreed s₀ m a k s
   freeing-end e = record { freed = λ cs M. sym (F.whole cs M ∙ turn_last (free_at cs) s b left e) }
 
-  pub freeing-turn : 0 < left → (s' : List ℕ) → length s' ≡ length s → EntryFreed s m b s' → Freeing s₀ m a k s' (b + 1) (left - 1)
-  freeing-turn h s' l E = record { size = l ∙ F.size; whole = λ cs M. F.whole cs M ∙ turn_more (free_at cs) s b left h s' (E.freed cs M) }
+  pub freeing-turn : (rest : ℕ) → rest + 1 ≡ left → (s' : List ℕ) → length s' ≡ length s → EntryFreed s m b s' → Freeing s₀ m a k s' (b + 1) rest
+  freeing-turn rest r s' l E = record { size = l ∙ F.size; whole = λ cs M. F.whole cs M ∙ turn_more (free_at cs) s b left rest r s' (E.freed cs M) }
 
 -- THE TABLE
 pub table-put : (s m : List ℕ) (t n : ℕ) (s₁ s' : List ℕ) → Shape s n → t ≡ table_blocks n → s₁ ≡ in_turn one_at s (interval 0 (t + 1))
@@ -108,7 +108,7 @@ module _ (s : List ℕ) (n used : ℕ) (shape : Shape s n) (eu : used ≡ count_
   unfolding occupied count_used
   used-is = ap (occupied (next s)) (shape-block_count s n shape) ∙ sym eu
 
-  pub counts-wrong : (x : ℕ) → x ≡ be32 s 20 → (x ≡ used → ⊥) → false ≡ stage7 s
+  pub counts-wrong : (x : ℕ) → x ≡ be32 s 20 → (x ≡ used → ⊥) → eqb x used ≡ stage7 s
   unfolding stage7
   counts-wrong x ex ne = rw (used-is, ← ex, ne_eqb x used ne)
 

@@ -1,6 +1,6 @@
 -- The blocks of a directory: the loops that find them, and the choices.
 use Prim.Native.Nat.{ℕ, zero, suc, ◌+◌, ◌-◌, ◌*◌, ◌≤◌, ◌<◌}
-use mathlib.Core.Bool.{Bool, true, false, not, ◌&&◌}
+use mathlib.Core.Bool.{Bool, true, false, not, ◌&&◌, ◌||◌}
 use mathlib.Core.List.{List, [], ◌∷◌, ◌++◌, append-nil, append_assoc}
 use mathlib.Core.Logic.{◌⊎◌, ⊎_elim}
 use mathlib.Core.Path.{◌≡◌, refl, sym, ap, ◌∙◌, subst}
@@ -9,36 +9,23 @@ use native.Mathlib.Omega.{arith}
 use lib.Dec.{eqb}
 use lib.ListN.{length, get_or, take, set, length-set}
 use lib.Seq.{take-suc, take-suc-set, get_or-set_same, get_or-set_other, length-take-le, get_or-take, take-take, take-length}
-use borrow.Author.Tests.{eq-eqb, ne_eqb, lt-ltb, not-true}
+use borrow.Author.Tests.{eq-eqb, ne_eqb, not-true}
+use Rattle.std.specs.List.{list_any}
 use Rattle.layout.specs.Lists.{within, interval, every, has, select}
 use Rattle.layout.specs.Limits.{max_directory}
-use Rattle.layout.specs.Geometry.{table_blocks, in_volume}
+use Rattle.layout.specs.Geometry.{in_volume}
 use Rattle.layout.specs.Directory.{type_of}
 use Rattle.layout.specs.Table.{next, chain}
 use Rattle.layout.proofs.Laws.Tests.{and_split, and-join, is_false, true-not-false, within-join, within-split, lt-or-ge}
 use Rattle.layout.proofs.Laws.Lists.{In, in_left, in_right, in-append, in-elim, get_d-in, has-eqb-in, in-has-eqb, false-has, interval-next, get_d-interval}
 use Rattle.layout.specs.Walks.Shapes.{DirectoryAt}
-use Rattle.layout.proofs.Laws.Chains.{in_volume-split, nth, nth-suc, chain_snoc, get_d-chain}
+use Rattle.layout.proofs.Laws.Chains.{nth, nth-suc, chain_snoc, get_d-chain}
 use Rattle.layout.proofs.Laws.Joins.{interval-in, in-select, select_has}
 use Rattle.layout.proofs.Walks.Marks.{marked_more}
 use Rattle.salvage.specs.Walks.{MarksOf}
 use Rattle.salvage_tree.specs.SalvageTree.{run, ends_in, row_right, directory_blocks}
 use Rattle.salvage_tree.specs.Walks.{IsGood, Ran, RowGood, RowRight, otherwise, ChoseOther, Chose, MarkedToo, Own}
 use Rattle.salvage_tree.proofs.Laws.Chosen.{Chosen, chosen}
-
--- A GOOD BLOCK, by its tests
-not-inside : (n b : ℕ) → (b ≤ table_blocks n) ⊎ (n ≤ b) → in_volume n b ≡ false
-not-inside n b o = is_false (in_volume n b) (λ e. let i = in_volume-split n b e in ⊎_elim (λ p. omega arith) (λ p. omega arith) o)
-
-inside : (n b : ℕ) → table_blocks n < b → b < n → in_volume n b ≡ true
-unfolding in_volume
-inside n b l h = and-join (lt-ltb _ _ l) (lt-ltb _ _ h)
-
-pub good-outside : (n : ℕ) (m : List ℕ) (b : ℕ) → (b ≤ table_blocks n) ⊎ (n ≤ b) → IsGood n m b false
-good-outside n m b o = record { told = λ cs M. rw (not-inside n b o); below = λ e. absurd (true-not-false e refl) }
-
-pub good-marked : (n : ℕ) (m : List ℕ) (b : ℕ) → table_blocks n < b → b < n → IsGood n m b (eqb (get_or m b 0) 0)
-good-marked n m b l h = record { told = λ cs M. rw (inside n b l h) (M.at b); below = λ e. h }
 
 -- A NUMBER AMONG THE FIRST k
 pub met_start : (xs : List ℕ) (b : ℕ) → has eqb b (take 0 xs) ≡ false
@@ -53,6 +40,14 @@ met-more xs b i h e ne =
 pub met-found : (xs : List ℕ) (b i k : ℕ) → i < k → k ≤ length xs → get_or xs i 0 ≡ b → true ≡ has eqb b (take k xs)
 met-found xs b i k h l e =
     sym (in-has-eqb b (take k xs) (subst (λ (y : ℕ). In y (take k xs)) (get_or-take k xs i 0 h ∙ e) (get_d-in (take k xs) i 0 (rw (length-take-le k xs l) h))))
+
+-- a list's own test
+pub any-has : (xs : List ℕ) (b : ℕ) → list_any (λ y. eqb y b) xs ≡ has eqb b xs
+any-has [] b = refl
+any-has (x ∷ xs) b = ap (λ (t : Bool). t || list_any (λ y. eqb y b) xs) (flip x b) ∙ ap (λ (t : Bool). eqb b x || t) (any-has xs b)
+  where
+    flip : (x y : ℕ) → eqb x y ≡ eqb y x
+    flip x y = elim (ℕ_discrete x y) [ yes e ↦ rw e | no e ↦ rw (ne_eqb x y e, ne_eqb y x (λ z. e (sym z))) ]
 
 -- THE RUN, when k of its blocks are found and c is the next number
 pub record Running (s : List ℕ) (n b : ℕ) (m xs : List ℕ) (k c : ℕ) : Type 0 where
@@ -134,24 +129,25 @@ pub record Rowing (n b d : ℕ) (m : List ℕ) (x left : ℕ) : Type 0 where
 pub rowing_start : (n b d : ℕ) (m : List ℕ) → Rowing n b d m b d
 rowing_start n b d m = record { told = λ cs M. refl; sum = refl; low = λ h. absurd (omega arith) }
 
-every-step : (p : ℕ → Bool) (x left : ℕ) → 0 < left → every p (interval x left) ≡ p x && every p (interval (x + 1) (left - 1))
-every-step p x left h = ap (every p) (interval-next x left h)
+every-step : (p : ℕ → Bool) (x left rest : ℕ) → rest + 1 ≡ left → every p (interval x left) ≡ p x && every p (interval (x + 1) rest)
+every-step p x left rest r = let h : 0 < left = omega arith in let e : left - 1 ≡ rest = omega arith in ap (every p) (interval-next x left h) ∙ rw e
 
 module _ {n b d : ℕ} {m : List ℕ} {x left : ℕ} (w : Rowing n b d m x left) where
   pub row-bad : 0 < left → (r : Bool) → IsGood n m x r → r ≡ false → RowGood n b d m false
   row-bad h r g e =
       record {
-        told = λ cs M. sym (w.told cs M ∙ every-step (λ y. in_volume n y && not (has eqb y cs)) x left h ∙ rw (sym (g.told cs M) ∙ e));
+        told = λ cs M. sym (w.told cs M ∙ every-step (λ y. in_volume n y && not (has eqb y cs)) x left (left - 1) (omega arith) ∙ rw (sym (g.told cs M) ∙ e));
         below = λ z. absurd (true-not-false z refl);
       }
 
-  pub row_more : 0 < left → (r : Bool) → IsGood n m x r → r ≡ true → Rowing n b d m (x + 1) (left - 1)
-  row_more h r g e =
-      record {
-        told = λ cs M. w.told cs M ∙ every-step (λ y. in_volume n y && not (has eqb y cs)) x left h ∙ rw (sym (g.told cs M) ∙ e);
+  pub row_more : (y rest : ℕ) → y ≡ x + 1 → rest + 1 ≡ left → (r : Bool) → IsGood n m x r → r ≡ true → Rowing n b d m y rest
+  row_more y rest ey h r g e =
+      rw ey
+      (record {
+        told = λ cs M. w.told cs M ∙ every-step (λ y. in_volume n y && not (has eqb y cs)) x left rest h ∙ rw (sym (g.told cs M) ∙ e);
         sum = omega (arith, w.sum);
         low = λ z. let y = g.below e in omega arith;
-      }
+      })
 
   pub row-all : left ≡ 0 → RowGood n b d m true
   row-all e = record { told = λ cs M. sym (w.told cs M ∙ rw e); below = λ z h. let y = w.low (omega (arith, w.sum)) in omega (arith, w.sum) }
@@ -278,7 +274,7 @@ met-none xs b i k e h l = let q : i ≡ k = omega arith in sym (subst (λ (j : �
 
 -- A BLOCK THAT ENDS
 module _ (s : List ℕ) (b type : ℕ) (et : type ≡ type_of s (512 * b + 384)) where
-  pub ends-typed : type ≡ 255 → true ≡ ends_in s b
+  pub ends-typed : type ≡ 255 → eqb type 255 ≡ ends_in s b
   unfolding ends_in
   ends-typed z = rw (← et, eq-eqb type 255 z)
 

@@ -18,7 +18,8 @@ use Rattle.layout.proofs.Walks.Shapes.{shape-block_count}
 use Rattle.salvage.specs.Walks.{MarksOf}
 use Rattle.salvage_tree.specs.SalvageTree.{State, coded, put_directory, take_slots, take_child, adopt, directory_blocks, root_blocks_of, tree_done, hung_at}
 use Rattle.salvage_tree.specs.Walks.{st, Reached, Chose, Own, PutDone, Adopted, readied, SlotsDone, RootDone, hung_state, HungIn}
-use Rattle.salvage_tree.proofs.Walks.Blocks.{chose-own, chose-first, good-marked}
+use Rattle.salvage.proofs.Walks.Claims.{good-marked}
+use Rattle.salvage_tree.proofs.Walks.Blocks.{chose-own, chose-first}
 use Rattle.salvage_tree.proofs.Walks.Entries.{front, chose-some}
 
 -- no block is claimed where no mark stands

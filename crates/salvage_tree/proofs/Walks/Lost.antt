@@ -5,7 +5,7 @@ use mathlib.Core.List.{List, [], ◌∷◌}
 use mathlib.Core.Path.{◌≡◌, refl, sym, ap, ◌∙◌, subst}
 use native.Mathlib.Omega.{arith}
 use lib.Dec.{eqb}
-use lib.ListN.{length, get_or, take, drop}
+use lib.ListN.{length, get_or, take}
 use lib.Seq.{take_all}
 use borrow.Author.Tests.{eq-eqb, ne_eqb, eqb-true}
 use Rattle.layout.specs.Lists.{interval, every, has}
@@ -32,7 +32,6 @@ use Rattle.salvage_tree.specs.Walks.{st, Reached, Ready, LooksLost, other_than, 
 use Rattle.salvage_tree.proofs.Laws.Rest.{TreeIs, tree_is}
 use Rattle.salvage_tree.proofs.Laws.Lost.{hang-is}
 use Rattle.salvage_tree.proofs.Walks.Blocks.{some-marks}
-use Rattle.salvage_tree.proofs.Walks.Entries.{front}
 
 module _ (s : List ℕ) (r b : ℕ) (m : List ℕ) where
   pub lost-marked : (get_or m b 0 ≡ 0 → ⊥) → LooksLost s r b m false
@@ -182,9 +181,11 @@ hanging-start s t n m codes R =
     }
 
 module _ {t n : ℕ} {s₀ m₀ c₀ s m codes : List ℕ} {b left : ℕ} (w : Hanging t n s₀ m₀ c₀ s m codes b left) where
-  pub hanging-more : t ≡ table_blocks n → 0 < left → (s' m' c' : List ℕ) → length s' ≡ length s → length m' ≡ length m → length c' ≡ length codes → HangDone s (t + 1) b m codes s' m' c' → Hanging t n s₀ m₀ c₀ s' m' c' (b + 1) (left - 1)
+  pub hanging-more : t ≡ table_blocks n → (rest : ℕ) → rest + 1 ≡ left → (s' m' c' : List ℕ) → length s' ≡ length s → length m' ≡ length m → length c' ≡ length codes → HangDone s (t + 1) b m codes s' m' c' → Hanging t n s₀ m₀ c₀ s' m' c' (b + 1) rest
   unfolding hang_each
-  hanging-more et h s' m' c' ls lm lc D =
+  hanging-more et rest r s' m' c' ls lm lc D =
+      let h : 0 < left = omega arith in
+      let e₁ : left - 1 ≡ rest = omega arith in
       record {
         sum = omega (arith, w.sum);
         low = omega (arith, w.low);
@@ -199,7 +200,7 @@ module _ {t n : ℕ} {s₀ m₀ c₀ s m codes : List ℕ} {b left : ℕ} (w : H
               state = hang (t + 1) p b;
               tree = hang-is o n (t + 1) p G.tree b (omega (arith, w.low, et)) (omega (arith, w.sum));
               reached = subst (λ (q : State). Reached (hang (t + 1) q b) s' m' c') e (D.reached p.claimed G.reached.marks);
-              is = G.is ∙ ap (hang_each (t + 1) p) (interval-next b left h);
+              is = G.is ∙ ap (hang_each (t + 1) p) (interval-next b left h) ∙ ap (λ (x : ℕ). hang_each (t + 1) (hang (t + 1) p b) (interval (b + 1) x)) e₁;
             };
       }
 
@@ -243,20 +244,20 @@ module _ (s : List ℕ) (n r d : ℕ) (D : DirectoryAt s n r (blocks_of s (512 *
   root-read = subst (DirectoryAt s n r) (sym d-is) D
 
   module _ (xs : List ℕ) (e : take d xs ≡ chain (next s) r d) where
-    lent_is : take (d - 0) (drop 0 xs) ≡ chain (next s) r d
-    lent_is = front d xs ∙ e
+    lent_is : take d xs ≡ chain (next s) r d
+    lent_is = e
 
-    pub lent-blocks : Blocks n (length (take (d - 0) (drop 0 xs))) (take (d - 0) (drop 0 xs))
+    pub lent-blocks : Blocks n (length (take d xs)) (take d xs)
     lent-blocks =
         let B = root-read.blocks in
         let l : length (chain (next s) r d) ≡ d = B.size in
         subst (λ (ys : List ℕ). Blocks n (length ys) ys) (sym lent_is)
         (record { some = omega (arith, B.some, l); few = omega (arith, B.few, l); size = refl; below = λ i h. B.below i (omega (arith, l, h)) })
 
-    pub lent-long : length (take (d - 0) (drop 0 xs)) ≡ d
+    pub lent-long : length (take d xs) ≡ d
     lent-long = ap length lent_is ∙ root-read.blocks.size
 
-    pub unnamed-is : (b : ℕ) (name : List ℕ) → name ≡ name_of s (entry_at b 0) → (x : Bool) → x ≡ every (λ y. other_than s (slot_at (take (d - 0) (drop 0 xs)) y) name) (interval 1 (4 * d - 2)) → x ≡ unnamed s r (512 * b)
+    pub unnamed-is : (b : ℕ) (name : List ℕ) → name ≡ name_of s (entry_at b 0) → (x : Bool) → x ≡ every (λ y. other_than s (slot_at (take d xs) y) name) (interval 1 (4 * d - 2)) → x ≡ unnamed s r (512 * b)
     unfolding unnamed directory
     unnamed-is b name en x ex =
         let q : entry_at b 0 ≡ 512 * b = omega arith in

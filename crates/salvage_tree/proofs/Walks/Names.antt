@@ -8,6 +8,7 @@ use native.Mathlib.Omega.{arith}
 use lib.ListN.{length, get_or, take, drop}
 use lib.Seq.{drop-length}
 use borrow.Author.Tests.{eq-eqb, ne_eqb}
+use lib.Dec.{eqb}
 use Rattle.layout.specs.Lists.{interval, every, same}
 use Rattle.layout.specs.Bytes.{part}
 use Rattle.layout.specs.Directory.{slot_at, type_of, unpadded, good_name, name_of, name_ok}
@@ -37,22 +38,21 @@ measuring-more f i w h ne =
 pub measured-stop : (f : List ℕ) (i : ℕ) → Measuring f i → i < length f → get_or f i 0 ≡ 0 → (i ≡ length (unpadded f)) × (i ≤ length f)
 measured-stop f i w h e = let q : length (unpadded (drop i f)) ≡ 0 = ap length (unpadded-end f i h e) in (omega (arith, w.is), w.most)
 
-pub measured-end : (f : List ℕ) (i : ℕ) → Measuring f i → length f ≤ i → (i ≡ length (unpadded f)) × (i ≤ length f)
+pub measured-end : (f : List ℕ) (i : ℕ) → Measuring f i → length f ≤ i → (length f ≡ length (unpadded f)) × (length f ≤ length f)
 measured-end f i w h =
     let p : i ≡ length f = omega (arith, w.most) in
     let q : length (unpadded (drop i f)) ≡ 0 = ap (λ (j : ℕ). length (unpadded (drop j f))) p ∙ ap (λ (l : List ℕ). length (unpadded l)) (drop-length f) in
-    (omega (arith, w.is), w.most)
+    (omega (arith, w.is), omega arith)
 
-pub named-part : (s : List ℕ) (e : ℕ) (f : List ℕ) (r : ℕ) → f ≡ part s (e + 48) 80 → r ≡ length (unpadded f) → take (r - 0) (drop 0 f) ≡ name_of s e
+pub named-part : (s : List ℕ) (e : ℕ) (f : List ℕ) (r : ℕ) → f ≡ part s (e + 48) 80 → r ≡ length (unpadded f) → take r f ≡ name_of s e
 unfolding name_of
 named-part s e f r ef er =
-    let q : r - 0 ≡ length (unpadded f) = omega arith in
-    rw q (take-unpadded f ∙ ap unpadded ef)
+    rw er (take-unpadded f ∙ ap unpadded ef)
 
 -- A SLOT WITH THE NAME
-pub name_free : (s : List ℕ) (e : ℕ) (name : List ℕ) → type_of s e ≡ 0 → false ≡ not (other_than s e name)
+pub name_free : (s : List ℕ) (e : ℕ) (name : List ℕ) (type : ℕ) → type ≡ type_of s e → type ≡ 0 → not (eqb type 0) ≡ not (other_than s e name)
 unfolding other_than
-name_free s e name z = rw (eq-eqb (type_of s e) 0 z)
+name_free s e name type et z = rw (← et, eq-eqb type 0 z)
 
 pub name-held : (s : List ℕ) (e : ℕ) (name f : List ℕ) → (type_of s e ≡ 0 → ⊥) → f ≡ part s (e + 48) 80 → (r : Bool) → r ≡ same (unpadded f) name → r ≡ not (other_than s e name)
 unfolding other_than name_of
@@ -89,8 +89,9 @@ module _ {s ds name : List ℕ} {j k left : ℕ} (w : Seeking s ds name j k left
       not_is t true e = rw e
       not_is t false e = rw e
 
-  pub seeking-more : r ≡ false → Seeking s ds name j (k + 1) (left - 1)
-  seeking-more z = record { sum = omega (arith, w.sum); some = omega arith; is = here ∙ rw (not_is false (other_than s (slot_at ds k) name) (sym z ∙ test-is)) }
+  pub seeking-more : r ≡ false → (rest : ℕ) → rest + 1 ≡ left → Seeking s ds name j (k + 1) rest
+  seeking-more z rest er = let q : rest ≡ left - 1 = omega arith in rw q
+      (record { sum = omega (arith, w.sum); some = omega arith; is = here ∙ rw (not_is false (other_than s (slot_at ds k) name) (sym z ∙ test-is)) })
     where
       not_is : (t u : Bool) → t ≡ not u → u ≡ not t
       not_is t true e = rw e

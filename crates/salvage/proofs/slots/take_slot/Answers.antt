@@ -13,7 +13,7 @@ returns-then-type_at-eq0 c =
     let type_at = c.type_at in
     let a = c.args in
     let p = c.requires in
-    taken_free a.image.now a.marks.now (chain (next a.image.now) a.first a.d) a.n (entry_at a.b a.k) a.k p.2.slot.place (shape-block_count _ _ p.0.shape) (sym type_at.ensures ∙ c.if-type_at-eq0.true)
+    taken_free a.image.now a.marks.now (chain (next a.image.now) a.root.first a.root.d) a.root.n (entry_at a.b a.k) a.k p.2.slot.place (shape-block_count _ _ p.0.shape) (sym type_at.ensures ∙ c.if-type_at-eq0.true)
 
 pub slot_right-requires : goal.slot_right-requires
 slot_right-requires c =
@@ -32,7 +32,7 @@ returns-then-not-slot_right c =
     let a = c.args in
     let p = c.requires in
     let t : slot-right.result ≡ false = not-true _ if2.true-raw in
-    taken-broken a.image.now a.marks.now (chain (next a.image.now) a.first a.d) a.n (entry_at a.b a.k) a.k p.2.slot.place (shape-block_count _ _ p.0.shape) (λ z. if1.false (type_at.ensures ∙ z)) _
+    taken-broken a.image.now a.marks.now (chain (next a.image.now) a.root.first a.root.d) a.root.n (entry_at a.b a.k) a.k p.2.slot.place (shape-block_count _ _ p.0.shape) (λ z. if1.false (type_at.ensures ∙ z)) _
     (sym t ∙ slot-right.ensures) clear-slot.ensures
 
 pub clear_slot-requires-then-not-claim : goal.clear_slot-requires-then-not-claim
@@ -52,7 +52,7 @@ returns-then-not-claim c =
     let a = c.args in
     let p = c.requires in
     let t : slot-right.result ≡ true = not-false _ if2.false-raw in
-    taken-lost a.image.now a.marks.now (chain (next a.image.now) a.first a.d) a.n (entry_at a.b a.k) a.k p.2.slot.place (shape-block_count _ _ p.0.shape) (λ z. if1.false (type_at.ensures ∙ z)) _
+    taken-lost a.image.now a.marks.now (chain (next a.image.now) a.root.first a.root.d) a.root.n (entry_at a.b a.k) a.k p.2.slot.place (shape-block_count _ _ p.0.shape) (λ z. if1.false (type_at.ensures ∙ z)) _
     (sym t ∙ slot-right.ensures) _ (claimed-as claim.ensures number_at.ensures number-at2.ensures (not-true _ if3.true-raw)) clear-slot2.ensures
 
 pub take_file-requires : goal.take_file-requires
@@ -79,5 +79,5 @@ returns c =
     let a = c.args in
     let p = c.requires in
     let t : slot-right.result ≡ true = not-false _ if2.false-raw in
-    taken-file a.image.now a.marks.now (chain (next a.image.now) a.first a.d) a.n (entry_at a.b a.k) a.k p.2.slot.place (shape-block_count _ _ p.0.shape) (λ z. if1.false (type_at.ensures ∙ z)) _
+    taken-file a.image.now a.marks.now (chain (next a.image.now) a.root.first a.root.d) a.root.n (entry_at a.b a.k) a.k p.2.slot.place (shape-block_count _ _ p.0.shape) (λ z. if1.false (type_at.ensures ∙ z)) _
     (sym t ∙ slot-right.ensures) _ _ _ (claimed-as claim.ensures number_at.ensures number-at2.ensures (not-false _ if3.false-raw)) take-file.ensures

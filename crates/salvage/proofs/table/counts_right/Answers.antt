@@ -1,15 +1,9 @@
-use native.Mathlib.Omega.{arith}
 use Rattle.salvage.proofs.Walks.Table.{counts-wrong, counts-are}
 use Rattle.salvage.proofs.table.counts_right.Goals as goal
 
 pub returns-then-header_number-used : goal.returns-then-header_number-used
 returns-then-header_number-used c =
-    let header-number = c.header_number in
-    let p = c.requires in
-    let a = c.args in counts-wrong a.image.now a.n a.used p.0 p.1 _ header-number.ensures c.if-header_number-used.true
+    counts-are c.args.image.now c.args.n c.args.used c.requires.0 c.requires.1 _ c.header_number.ensures c.if-header_number-used.true _ c.header_number-then-header_number-used.ensures
 
-pub returns : goal.returns
-returns c =
-    let header-number = c.header_number in
-    let p = c.requires in
-    let a = c.args in counts-are a.image.now a.n a.used p.0 p.1 _ header-number.ensures (omega arith) _ c.header_number-2.ensures
+pub returns-else-header_number-used : goal.returns-else-header_number-used
+returns-else-header_number-used c = counts-wrong c.args.image.now c.args.n c.args.used c.requires.0 c.requires.1 _ c.header_number.ensures c.if-header_number-used.false

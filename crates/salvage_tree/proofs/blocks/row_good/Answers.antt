@@ -1,28 +1,18 @@
-use native.Mathlib.Omega.{arith}
-use borrow.Author.Tests.{not-true, not-false}
+use Rattle.std.proofs.Common.{◌≡◌, ◌+◌, ◌-◌, arith}
 use Rattle.salvage_tree.proofs.Walks.Blocks.{rowing_start, row-bad, row_more, row-all}
 use Rattle.salvage_tree.proofs.blocks.row_good.Goals as goal
 
-pub loop-left-init : goal.loop-left-init
-loop-left-init c = rowing_start _ _ _ _
-
-pub is_good-requires : goal.is_good-requires
-is_good-requires c = (c.requires.0, c.requires.1)
+pub loop-i-init : goal.loop-i-init
+loop-i-init c =
+    let p : c.args.b + 0 ≡ c.args.b = omega arith in
+    let q : c.args.d - 0 ≡ c.args.d = omega arith in
+    rw (p, q) (rowing_start _ _ _ _)
 
 pub returns-then-not-is_good : goal.returns-then-not-is_good
-returns-then-not-is_good c = row-bad c.loop-left.invariant (omega arith) _ c.is_good.ensures (not-true _ c.if-not-is_good.true-raw)
+returns-then-not-is_good c = row-bad c.loop-i.invariant (omega arith) _ c.is_good.ensures c.if-not-is_good.true
 
-pub overflow_add-x : goal.overflow_add-x
-overflow_add-x c = let g = c.is_good.ensures.below (not-false _ c.if-not-is_good.false-raw) in omega (arith, c.requires.2, g)
-
-pub overflow_sub-left : goal.overflow_sub-left
-overflow_sub-left c = omega arith
-
-pub loop-left-smaller : goal.loop-left-smaller
-loop-left-smaller c = omega arith
-
-pub loop-left-preserved : goal.loop-left-preserved
-loop-left-preserved c = row_more c.loop-left.invariant (omega arith) _ c.is_good.ensures (not-false _ c.if-not-is_good.false-raw)
+pub loop-i-preserved : goal.loop-i-preserved
+loop-i-preserved c = row_more c.loop-i.invariant _ _ (omega arith) (omega arith) _ c.is_good.ensures c.if-not-is_good.false
 
 pub returns : goal.returns
-returns c = row-all c.loop-left.invariant (omega arith)
+returns c = row-all c.loop-i.invariant (omega arith)

@@ -1,10 +1,5 @@
-use Prim.Native.Nat.{◌-◌}
-use Rattle.layout.specs.Limits.{max_directory}
 use Rattle.salvage_tree.proofs.Walks.Blocks.{Running}
 use Rattle.salvage_tree.proofs.blocks.run.Given as goal
 
 abbrev pub invariant-loop-k : goal.invariant-loop-k
 invariant-loop-k l = Running l.image l.n l.b l.marks l.blocks l.k l.c
-
-abbrev pub decreases-loop-k : goal.decreases-loop-k
-decreases-loop-k l = max_directory - l.k

@@ -16,23 +16,11 @@ choose-d-requires c = (c.requires.0.room, ap length c.no_blocks-own.ensures ∙ 
 pub put_hung-requires : goal.put_hung-requires
 put_hung-requires c = (omega (arith, c.requires.0.room.shape, c.requires.4), omega (arith, c.requires.0.room.shape, c.requires.2))
 
-pub offset_bounds-own-z : goal.offset_bounds-own-z
-offset_bounds-own-z c = omega (arith, c.choose-d.ensures.most)
-
-pub slice_bounds-adopt-end : goal.slice_bounds-adopt-end
-slice_bounds-adopt-end c = omega (arith, c.choose-d.ensures.most)
-
 pub overflow_add-t : goal.overflow_add-t
 overflow_add-t c = omega (arith, c.requires.0.room.shape.high, c.requires.1, c.requires.2)
 
 pub adopt-requires : goal.adopt-requires
 adopt-requires c = (ready-again _ _ _ _ _ _ _ _ c.requires.0 (omega arith) refl refl, folder-own _ _ _ _ _ _ _ _ c.requires.0.room.table c.requires.1 c.requires.2 c.requires.3 c.choose-d.ensures, omega (arith, c.requires.1, c.requires.2), c.requires.4)
-
-pub offset_bounds-own-y : goal.offset_bounds-own-y
-offset_bounds-own-y c = omega (arith, c.choose-d.ensures.most)
-
-pub slice_bounds-take_slots-end : goal.slice_bounds-take_slots-end
-slice_bounds-take_slots-end c = omega (arith, c.choose-d.ensures.most)
 
 pub take_slots-requires : goal.take_slots-requires
 take_slots-requires c = (ready-again _ _ _ _ _ _ _ _ c.requires.0 (omega arith) (omega arith) (omega arith), folder-own _ _ _ _ _ _ _ _ c.requires.0.room.table c.requires.1 c.requires.2 c.requires.3 c.choose-d.ensures, omega arith)

@@ -11,12 +11,6 @@ number_at-d-requires c = (omega (arith, c.requires.0.shape, c.requires.2), omega
 pub read_blocks-requires : goal.read_blocks-requires
 read_blocks-requires c = (root-read _ _ _ _ c.requires.0 c.number_at-d.ensures, ap length c.no_blocks-blocks.ensures ∙ length-zeros 64)
 
-pub offset_bounds-blocks-z : goal.offset_bounds-blocks-z
-offset_bounds-blocks-z c = let B = (root-read _ _ _ _ c.requires.0 c.number_at-d.ensures).blocks.few in omega (arith, B)
-
-pub slice_bounds-is_new-end : goal.slice_bounds-is_new-end
-slice_bounds-is_new-end c = let B = (root-read _ _ _ _ c.requires.0 c.number_at-d.ensures).blocks.few in omega (arith, B)
-
 pub overflow_mul-d : goal.overflow_mul-d
 overflow_mul-d c = let B = (root-read _ _ _ _ c.requires.0 c.number_at-d.ensures).blocks.few in omega (arith, B)
 

@@ -4,29 +4,14 @@ use mathlib.Core.Path.{refl}
 use Rattle.salvage_tree.proofs.Walks.Puts.{writing_start, writing-on, writing-end, linked_long}
 use Rattle.salvage_tree.proofs.put.link.Goals as goal
 
-pub bounds-blocks-0 : goal.bounds-blocks-0
-bounds-blocks-0 c = omega (arith, c.requires.1.some)
-
 pub loop-i-init : goal.loop-i-init
 loop-i-init c = writing_start _ _ c.requires.1.some (linked_long _ _ _ c.requires.0 c.requires.1)
-
-pub offset_bounds-blocks-i : goal.offset_bounds-blocks-i
-offset_bounds-blocks-i c = omega (arith, c.requires.1.few)
-
-pub bounds-blocks-i : goal.bounds-blocks-i
-bounds-blocks-i c = omega arith
 
 pub put_value-requires : goal.put_value-requires
 put_value-requires c =
     let g = c.requires.1.below (c.loop-i.i - 1) (omega (arith, c.loop-i.invariant.some, c.loop-i.invariant.most)) in
     let h = c.requires.1.below c.loop-i.i (omega arith) in
     (omega (arith, g, c.loop-i.invariant.here, c.requires.0, c.loop-i.invariant.long, linked_long _ _ _ c.requires.0 c.requires.1), omega (arith, h, c.requires.0.high))
-
-pub overflow_add-i : goal.overflow_add-i
-overflow_add-i c = omega (arith, c.requires.1.few)
-
-pub loop-i-smaller : goal.loop-i-smaller
-loop-i-smaller c = omega arith
 
 pub loop-i-preserved : goal.loop-i-preserved
 loop-i-preserved c = writing-on c.loop-i.invariant (omega arith) _ refl _ (omega arith) c.put_value.ensures
@@ -35,9 +20,6 @@ pub put_value-requires-2 : goal.put_value-requires-2
 put_value-requires-2 c =
     let g = c.requires.1.below (c.loop-i.i - 1) (omega (arith, c.loop-i.invariant.some, c.loop-i.invariant.most)) in
     (omega (arith, g, c.loop-i.invariant.here, c.requires.0, c.loop-i.invariant.long, linked_long _ _ _ c.requires.0 c.requires.1), omega arith)
-
-pub shape_of-image : goal.shape_of-image
-shape_of-image c = omega (arith, c.loop-i.invariant.long, linked_long _ _ _ c.requires.0 c.requires.1)
 
 pub returns : goal.returns
 returns c = writing-end c.loop-i.invariant (omega (arith, c.loop-i.invariant.most)) _ c.put_value-2.ensures

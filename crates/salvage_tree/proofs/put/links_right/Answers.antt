@@ -3,35 +3,14 @@ use Prim.Native.Nat.{◌-◌}
 use Rattle.salvage_tree.proofs.Walks.Puts.{links-start, links-wrong, links-on, links_end}
 use Rattle.salvage_tree.proofs.put.links_right.Goals as goal
 
-pub bounds-blocks-0 : goal.bounds-blocks-0
-bounds-blocks-0 c = omega (arith, c.requires.1.some)
-
 pub loop-i-init : goal.loop-i-init
 loop-i-init c = links-start _ _ c.requires.1.some
 
 pub entry-requires : goal.entry-requires
 entry-requires c = let g = c.requires.1.below (c.loop-i.i - 1) (omega (arith, c.loop-i.invariant.some, c.loop-i.invariant.most)) in omega (arith, g, c.loop-i.invariant.here, c.requires.0)
 
-pub offset_bounds-blocks-i : goal.offset_bounds-blocks-i
-offset_bounds-blocks-i c = omega (arith, c.requires.1.few)
-
-pub bounds-blocks-i : goal.bounds-blocks-i
-bounds-blocks-i c = omega arith
-
 pub returns-then-entry-blocks : goal.returns-then-entry-blocks
 returns-then-entry-blocks c = links-wrong c.loop-i.invariant (omega arith) _ c.entry.ensures c.if-entry-blocks.true
-
-pub offset_bounds-blocks-i-in-loop-i : goal.offset_bounds-blocks-i-in-loop-i
-offset_bounds-blocks-i-in-loop-i c = omega (arith, c.requires.1.few, c.requires.1.some)
-
-pub bounds-blocks-i-in-loop-i : goal.bounds-blocks-i-in-loop-i
-bounds-blocks-i-in-loop-i c = omega arith
-
-pub overflow_add-i : goal.overflow_add-i
-overflow_add-i c = omega (arith, c.requires.1.few)
-
-pub loop-i-smaller : goal.loop-i-smaller
-loop-i-smaller c = omega arith
 
 pub loop-i-preserved : goal.loop-i-preserved
 loop-i-preserved c = links-on c.loop-i.invariant (omega arith) _ c.entry.ensures c.if-entry-blocks.false
