@@ -6,7 +6,7 @@ ghost use Rattle.volume_file.specs.Reasons.{outcome};
 use super::refusals::Refusal;
 
 // The home sectors of a volume file.
-pub fn accepted(file: &[u8]) -> Result<usize, Refusal>
+pub(crate) fn accepted(file: &[u8]) -> Result<usize, Refusal>
     ensures number { outcome result ≡ file_refusal file.now }
     ensures home { IfOk result (λ h. h ≡ home_sectors file.now) }
 {

@@ -142,7 +142,8 @@ fn write_log(file: &mut [u8], home: &Home) -> Result<Prepared, Refusal>
 {
     let h = savable(file, home)?;
     let k = fill_log(file, home, h);
-    volume::number::put32(file, 512 * (2 + h), k as u32);
+    let count = k as u32;
+    volume::number::put32(file, 512 * (2 + h), count);
     Ok(log_places(h, k))
 }
 
@@ -170,7 +171,8 @@ fn committable(file: &[u8]) -> Result<(), Refusal>
     ensures { outcome result ≡ commit_refusal file.now }
 {
     let h = super::header::accepted(file)?;
-    super::log::accepted(file, h, super::log::log_count(file, h))?;
+    let k = super::log::log_count(file, h);
+    super::log::accepted(file, h, k)?;
     if super::log::log_waits(file) {
         return Err(Refusal::LogWaits);
     }

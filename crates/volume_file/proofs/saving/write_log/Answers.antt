@@ -15,8 +15,8 @@ overflow_add-h c = let f = prepare-fill _ _ _ _ _ _ c.in_ok-h.ensures.number ref
 pub overflow_mul-h : goal.overflow_mul-h
 overflow_mul-h c = let f = prepare-fill _ _ _ _ _ _ c.in_ok-h.ensures.number refl c.in_ok-h.ensures.home in omega (arith, f.few)
 
-pub overflow_cast-k : goal.overflow_cast-k
-overflow_cast-k c = let f = prepare-fill _ _ _ _ _ _ c.in_ok-h.ensures.number refl c.in_ok-h.ensures.home in omega (arith, f.few, c.fill_log-k.ensures.few)
+pub overflow_cast-count : goal.overflow_cast-count
+overflow_cast-count c = let f = prepare-fill _ _ _ _ _ _ c.in_ok-h.ensures.number refl c.in_ok-h.ensures.home in omega (arith, f.few, c.fill_log-k.ensures.few)
 
 pub put32-requires : goal.put32-requires
 put32-requires c = omega (arith, prepare-room _ _ _ _ _ _ c.in_ok-h.ensures.number refl c.in_ok-h.ensures.home)
