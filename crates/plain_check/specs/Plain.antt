@@ -1,7 +1,7 @@
 -- THE PLAIN CHECK (02, L12): "It keeps no record of owners: for each block it counts, by walking every chain afresh, how many chains hold it." Stages
 -- 1 to 3 and 7, and the tests of one slot, are the first check's. The rest is here: one walk down the tree with a count of the directories met, and
 -- two questions that are asked by walking the tree again from the root.
-use Rattle.std.specs.Prelude.{ℕ, zero, suc, ◌+◌, ◌-◌, ◌*◌, List, [], ◌∷◌, Bool, true, false, not, ◌&&◌, ◌||◌, cond, length, eqb, leb, ltb}
+use Rattle.std.specs.Prelude.{ℕ, zero, suc, ◌+◌, ◌-◌, ◌*◌, List, [], ◌∷◌, Bool, true, false, not, ◌&&◌, ◌||◌, cond, length, eqb, leb, ltb, Result, Ok, Err}
 use Rattle.layout.specs.Lists.{within, interval, every, same}
 use Rattle.layout.specs.Refusals.{require, first_of}
 use Rattle.layout.specs.Bytes.{part}
@@ -9,6 +9,8 @@ use Rattle.layout.specs.Limits.{max_directory, max_levels}
 use Rattle.layout.specs.Geometry.{block_count, table_blocks, in_volume}
 use Rattle.layout.specs.Table.{next, chain_ok}
 use Rattle.layout.specs.Directory.{slot_at, slots, type_of, first_block, blocks_of, attribute_block_of, attribute_size_of, self_of, parent_of, is_file, is_directory, directory, root_of}
+use Rattle.layout.specs.declared.refusal.Refusal.{Refusal}
+use Rattle.layout.specs.Reasons.{number_of}
 use Rattle.plain_check.specs.declared.check.Question.{Question}
 use Rattle.plain_check.specs.declared.check.Question.TheVariants as question
 use Rattle.layout.specs.Check.{stage1, stage2, stage3, stage7, slot_ok, new_name}
@@ -84,6 +86,11 @@ stop5 = toured 5 0
 
 abbrev pub up_to : ℕ → Tour
 up_to c = toured 0 c
+
+-- the tour that an answer tells: the directories that were met, or the fault
+abbrev pub tour_told : Result ℕ Refusal → Tour
+tour_told (Ok c) = up_to c
+tour_told (Err why) = toured (number_of why) 0
 
 abbrev pub asks : Bool → Tour → Tour → Tour
 asks true stop rest = rest
