@@ -38,6 +38,8 @@ pub fn read_at<'x>(image: &'x [u8], path: &'x [u8], position: usize, buffer: &mu
     }
 }
 
+// This and the next two are functions and not methods: users call them by the names that docs/SURFACE.md lists.
+
 // Opens a reader at the file's start. Nothing is looked up yet, so nothing is refused.
 pub fn open<'a>(image: &'a [u8], path: &'a [u8]) -> Reader<'a>
     ensures { (result.image ≡ image.entry) × (result.path ≡ path.entry) × (result.position ≡ 0) }
