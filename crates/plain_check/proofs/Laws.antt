@@ -1,4 +1,5 @@
 -- THE LAWS of the plain check.
+pub mod Reasons
 pub mod Chains
 pub mod Before
 pub mod Holders

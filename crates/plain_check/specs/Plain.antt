@@ -1,7 +1,7 @@
 -- THE PLAIN CHECK (02, L12): "It keeps no record of owners: for each block it counts, by walking every chain afresh, how many chains hold it." Stages
 -- 1 to 3 and 7, and the tests of one slot, are the first check's. The rest is here: one walk down the tree with a count of the directories met, and
 -- two questions that are asked by walking the tree again from the root.
-use Rattle.std.specs.Prelude.{ℕ, zero, suc, ◌+◌, ◌-◌, ◌*◌, List, [], ◌∷◌, Bool, true, false, not, ◌&&◌, ◌||◌, cond, length, eqb, leb, ltb}
+use Rattle.std.specs.Prelude.{ℕ, zero, suc, ◌+◌, ◌-◌, ◌*◌, List, [], ◌∷◌, Bool, true, false, not, ◌&&◌, ◌||◌, cond, length, eqb, leb, ltb, Result, Ok, Err}
 use Rattle.layout.specs.Lists.{within, interval, every, same}
 use Rattle.layout.specs.Refusals.{require, first_of}
 use Rattle.layout.specs.Bytes.{part}
@@ -9,8 +9,8 @@ use Rattle.layout.specs.Limits.{max_directory, max_levels}
 use Rattle.layout.specs.Geometry.{block_count, table_blocks, in_volume}
 use Rattle.layout.specs.Table.{next, chain_ok}
 use Rattle.layout.specs.Directory.{slot_at, slots, type_of, first_block, blocks_of, attribute_block_of, attribute_size_of, self_of, parent_of, is_file, is_directory, directory, root_of}
-use Rattle.plain_check.specs.declared.check.Question.{Question}
-use Rattle.plain_check.specs.declared.check.Question.TheVariants as question
+use Rattle.layout.specs.declared.refusal.Refusal.{Refusal}
+use Rattle.layout.specs.Reasons.{number_of}
 use Rattle.layout.specs.Check.{stage1, stage2, stage3, stage7, slot_ok, new_name}
 
 -- a test as a number, and the sum of what f gives for the elements of a list
@@ -85,6 +85,11 @@ stop5 = toured 5 0
 abbrev pub up_to : ℕ → Tour
 up_to c = toured 0 c
 
+-- the tour that an answer tells: the directories that were met, or the fault
+abbrev pub tour_told : Result ℕ Refusal → Tour
+tour_told (Ok c) = up_to c
+tour_told (Err why) = toured (number_of why) 0
+
 abbrev pub asks : Bool → Tour → Tour → Tour
 asks true stop rest = rest
 asks false stop rest = stop
@@ -142,17 +147,22 @@ unfoldable pub ask_tree : (ℕ → ℕ → ℕ) → ℕ → List ℕ → ℕ →
 ask_tree ask zero s d = ask_directory ask (λ e. 0) s d
 ask_tree ask (suc left) s d = ask_directory ask (λ e. ask_tree ask left s (first_block s e)) s d
 
--- what is asked of a chain: how many blocks it claims, n + 1 more if it is wrong (not exactly k blocks, all above t and below n, the last with value 1),
+-- what is asked of a chain
+pub data Question : Type 0 where
+  Claims : Question
+  Holds : ℕ → Question
+
+-- how many blocks it claims, n + 1 more if it is wrong (not exactly k blocks, all above t and below n, the last with value 1),
 -- or whether it holds block b
 unfoldable pub answer : Question → List ℕ → ℕ → ℕ → ℕ → ℕ
-answer question.Claims s n first k = k + (n + 1) * one (not (chain_ok (next s) n first k))
-answer (question.Holds b) s n first k = one (holds (next s) b first k)
+answer Claims s n first k = k + (n + 1) * one (not (chain_ok (next s) n first k))
+answer (Holds b) s n first k = one (holds (next s) b first k)
 
 unfoldable pub claims : List ℕ → ℕ
-claims s = ask_tree (answer question.Claims s (block_count s)) max_levels s (root_of s)
+claims s = ask_tree (answer Claims s (block_count s)) max_levels s (root_of s)
 
 unfoldable pub holders : List ℕ → ℕ → ℕ
-holders s b = ask_tree (answer (question.Holds b) s (block_count s)) max_levels s (root_of s)
+holders s b = ask_tree (answer (Holds b) s (block_count s)) max_levels s (root_of s)
 
 -- STAGE 6: every chain is right, and together they claim at most n blocks (so that no walk along all of them takes more than n steps); entries 0 to t
 -- are 1; every other block below n is held by one chain, or by none where its entry is 0; from n on the table's entries are 0

@@ -4,8 +4,7 @@ use Rattle.layout.specs.Lists.{interval, every}
 use Rattle.layout.specs.Limits.{min_blocks, max_blocks, max_directory}
 use Rattle.layout.specs.Table.{next, chain}
 use Rattle.layout.specs.Directory.{slot_at, type_of, first_block, blocks_of, attribute_block_of, attribute_size_of, is_free, is_file, directory}
-use Rattle.plain_check.specs.declared.check.Question.{Question}
-use Rattle.plain_check.specs.Plain.{held_before, answer}
+use Rattle.plain_check.specs.Plain.{Question, held_before, answer}
 
 -- a number of four bytes is below 2³²; no offset that the check reads at is above 2⁴⁴
 abbrev pub word : ℕ
@@ -52,3 +51,12 @@ Upto cap r x = (r ≡ x) ⊎ ((cap < r) × (cap < x))
 -- what the two chains of a file answer together; of any other entry 0
 unfoldable pub file_answer : Question → List ℕ → ℕ → ℕ → ℕ
 file_answer q s n e = cond (is_file (type_of s e)) (answer q s n (first_block s e) (blocks_of s e) + answer q s n (attribute_block_of s e) (attribute_size_of s e)) 0
+
+-- what may be asked of any chain whose numbers have four bytes; no answer is above 2·2³²
+pub record Askable (pre : ℕ → ℕ → Type 0) (post : ℕ → ℕ → ℕ → Type 0) : Type 0 where
+  pub always : (first k : ℕ) → first < word → k < word → pre first k
+  pub few : (first k r : ℕ) → first < word → k < word → post first k r → r ≤ 2 * word
+
+-- it answers as a question does
+abbrev pub Answers : (post : ℕ → ℕ → ℕ → Type 0) → Question → List ℕ → ℕ → Type 0
+Answers post q s n = (first k r : ℕ) → first < word → k < word → post first k r → r ≡ answer q s n first k

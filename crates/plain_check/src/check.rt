@@ -1,6 +1,7 @@
 // The plain check. It keeps no record of owners: for each block it counts, by walking every chain afresh, how many chains hold it.
 // Tests joined by `&` and `|` are all made; one after `&&` is made only where those before it hold.
-ghost use Rattle.std.specs.Prelude.{◌+◌, ◌-◌, ◌*◌, ◌/◌, ◌%◌, ◌≤◌, ◌<◌, true, ◌&&◌, ◌≡◌, length, get_or, eqb, ltb};
+ghost use Rattle.std.specs.Prelude.{ℕ, ◌+◌, ◌-◌, ◌*◌, ◌/◌, ◌%◌, ◌≤◌, ◌<◌, true, ◌&&◌, ◌≡◌, length, get_or, eqb, ltb, IfOk};
+ghost use Rattle.layout.specs.Reasons.{outcome};
 ghost use Rattle.layout.specs.Lists.{interval, every};
 ghost use Rattle.layout.specs.Limits.{max_blocks};
 ghost use Rattle.layout.specs.Bytes.{be32};
@@ -8,9 +9,10 @@ ghost use Rattle.layout.specs.Geometry.{root_block};
 ghost use Rattle.layout.specs.Table.{next, chain, chain_ok};
 ghost use Rattle.layout.specs.Directory.{first_block, blocks_of, name_ok, directory};
 ghost use Rattle.layout.specs.Check.{check, stage1, stage2, stage3, stage7, file_ok, directory_entry_ok, slot_ok};
-ghost use Rattle.plain_check.specs.Plain.{one, holds, plain_directory_ok, plain_child_ok, count, meet, toured, tour_entries, tour_child, ask_tree, answer, counted, plain_stage6};
-ghost use Rattle.plain_check.specs.Walks.{far, word, after, same_field, new_field, new_from, file_answer, Volume, Stands, Upto};
+ghost use Rattle.plain_check.specs.Plain.{Question, Claims, one, holds, plain_directory_ok, plain_child_ok, count, meet, tour_told, tour_entries, tour_child, ask_tree, answer, counted, plain_stage6};
+ghost use Rattle.plain_check.specs.Walks.{far, word, after, same_field, new_field, new_from, file_answer, Askable, Answers, Volume, Stands, Upto};
 
+use layout::refusal::{Refusal, outcome};
 use layout::{directory, limits};
 
 // A byte of the image; past its end all bytes are 0.
@@ -261,93 +263,81 @@ fn new_name(image: &[u8], d: usize, k: usize, e: usize) -> bool
     true
 }
 
-// The fault that was met, 4 or 5, or 0, and how many directories were met.
-#[derive(Drop)]
-struct Visit {
-    fault: u32,
-    met: usize,
-}
-
 // Stages 4 and 5 of the directory at block d, which has met its own stage 4, and of all below it: its end slot, then slot by slot, a child wholly before the next.
-fn tour(image: &[u8], n: usize, levels: usize, d: usize, before: usize) -> Visit
+// Gives how many directories were met.
+fn tour(image: &[u8], n: usize, levels: usize, d: usize, before: usize) -> Result<usize, Refusal>
     requires { (Volume image.now n) × (Stands image.now n d) × (1 ≤ before) × (before ≤ n) }
-    ensures equal { toured result.fault result.met ≡ tour_entries (tour_child levels image.now n d) image.now (directory image.now d) before }
-    ensures bound { (result.fault ≡ 0 → 1 ≤ result.met) × (result.met ≤ n) }
+    ensures equal { tour_told result ≡ tour_entries (tour_child levels image.now n d) image.now (directory image.now d) before }
+    ensures bound { IfOk result (λ met. (1 ≤ met) × (met ≤ n)) }
 {
     let size = number(image, 512 * d + 12);
     if byte(image, 512 * last_block(image, d, size) + 384) != 0xFF {
-        return Visit { fault: 5, met: 0 };
+        return Err(Refusal::BadSlot);
     }
     let mut met = before;
     let mut e = 512 * d;
     for k in 2..4 * size {
         e = after(image, e);
         if !(slot_ok(image, e) & new_name(image, d, k, e)) {
-            return Visit { fault: 5, met: 0 };
+            return Err(Refusal::BadSlot);
         }
         if !directory::is_directory(byte(image, e)) {
             continue;
         }
         if (levels == 0) | !child_ok(image, n, d, e, met) {
-            return Visit { fault: 4, met: 0 };
+            return Err(Refusal::BadSelf);
         }
-        let v = tour(image, n, levels - 1, number(image, e + 4), met + 1);
-        if v.fault != 0 {
-            return v;
-        }
-        met = v.met;
+        met = tour(image, n, levels - 1, number(image, e + 4), met + 1)?;
     }
-    Visit { fault: 0, met }
+    Ok(met)
 }
 
-// What is asked of a chain: how many blocks it claims, or whether it holds a block.
-#[derive(Clone, Copy)]
-enum Question {
-    Claims,
-    Holds(usize),
-}
-
-// What the chain of k blocks from `first` on answers: a wrong one claims more than n.
-fn ask(image: &[u8], n: usize, q: Question, first: usize, k: usize) -> usize
+// How many blocks the chain of k blocks from `first` on claims: a wrong one claims more than n.
+fn claims(image: &[u8], n: usize, first: usize, k: usize) -> usize
     requires { (n ≤ max_blocks) × (first < word) × (k < word) }
-    ensures { (result ≡ answer q image.now n first k) × (result ≤ 2 * word) }
+    ensures { (result ≡ answer Claims image.now n first k) × (result ≤ 2 * word) }
 {
-    match q {
-        Question::Claims => k + (n + 1) * (!chain_ok(image, n, first, k)) as usize,
-        Question::Holds(b) => holds(image, b, first, k),
-    }
+    k + (n + 1) * (!chain_ok(image, n, first, k)) as usize
 }
 
 // What the two chains of the entry at e answer together, if it is a file's.
-fn ask_file(image: &[u8], n: usize, q: Question, e: usize) -> usize
-    requires { (n ≤ max_blocks) × (e ≤ word * 512) }
-    ensures { (result ≡ file_answer q image.now n e) × (result ≤ 4 * word) }
+fn ask_file<F: Fn(usize, usize) -> usize>(image: &[u8], ask: &F, e: usize) -> usize
+    requires { Askable (F.pre ask.now) (F.post ask.now) × (e ≤ word * 512) }
+    ensures equal { (q : Question) (n : ℕ) → Answers (F.post ask.now) q image.now n → result ≡ file_answer q image.now n e }
+    ensures few { result ≤ 4 * word }
 {
     if !directory::is_file(byte(image, e)) {
         return 0;
     }
-    let a = ask(image, n, q, number(image, e + 4), number(image, e + 12));
-    a + ask(image, n, q, number(image, e + 32), number(image, e + 36))
+    let a = ask(number(image, e + 4), number(image, e + 12));
+    a + ask(number(image, e + 32), number(image, e + 36))
 }
 
 // Adds to `before` what all chains of the directory at block d and of those below it answer; above n it stops.
-fn tally(image: &[u8], n: usize, q: Question, levels: usize, d: usize, before: usize) -> usize
-    requires { (n ≤ max_blocks) × (d < word) × (before ≤ 5 * word) }
-    ensures { Upto n result (before + ask_tree (answer q image.now n) levels image.now d) }
+fn tally<F: Fn(usize, usize) -> usize>(
+    image: &[u8],
+    n: usize,
+    ask: &F,
+    levels: usize,
+    d: usize,
+    before: usize,
+) -> usize
+    requires { Askable (F.pre ask.now) (F.post ask.now) × (n ≤ max_blocks) × (d < word) × (before ≤ 5 * word) }
+    ensures { (q : Question) → Answers (F.post ask.now) q image.now n → Upto n result (before + ask_tree (answer q image.now n) levels image.now d) }
 {
     let size = number(image, 512 * d + 12);
-    let mut sum = before + ask(image, n, q, d, size);
+    let mut sum = before + ask(d, size);
     let mut e = 512 * d;
     for k in 2..4 * size {
         if n < sum {
             return sum;
         }
         e = after(image, e);
-        sum = sum + ask_file(image, n, q, e);
+        sum += ask_file(image, ask, e);
         if (levels == 0) | !directory::is_directory(byte(image, e)) {
             continue;
         }
-        sum = tally(image, n, q, levels - 1, number(image, e + 4), sum);
+        sum = tally(image, n, ask, levels - 1, number(image, e + 4), sum);
     }
     sum
 }
@@ -372,7 +362,8 @@ fn all_counted(image: &[u8], n: usize) -> bool
 {
     let root = layout::geometry::root_block(n);
     for b in root..n {
-        let held = tally(image, n, Question::Holds(b), limits::MAX_LEVELS, root, 0);
+        let ask = |first, k| holds(image, b, first, k);
+        let held = tally(image, n, &ask, limits::MAX_LEVELS, root, 0);
         if held != (next(image, b) != 0) as usize {
             return false;
         }
@@ -386,9 +377,10 @@ fn table_ok(image: &[u8], n: usize) -> bool
     ensures { result ≡ plain_stage6 image.now }
 {
     let t = layout::geometry::table_blocks(n);
-    let claims = tally(image, n, Question::Claims, limits::MAX_LEVELS, t + 1, 0);
+    let ask = |first, k| claims(image, n, first, k);
+    let claimed = tally(image, n, &ask, limits::MAX_LEVELS, t + 1, 0);
     let fixed = entries_are(image, 0, t + 1, 1) & entries_are(image, n, 128 * t, 0);
-    (claims <= n) & fixed && all_counted(image, n)
+    (claimed <= n) & fixed && all_counted(image, n)
 }
 
 // Stage 7: the header's counts.
@@ -398,38 +390,42 @@ fn counts_ok(image: &[u8], n: usize) -> bool
 {
     let mut used = 0;
     for b in 0..n {
-        used = used + (next(image, b) != 0) as usize;
+        used += (next(image, b) != 0) as usize;
     }
     (number(image, 20) == used) & (number(image, 24) == n - used)
+}
+
+// The seven stages, one after the other: the first that is not met ends the check.
+fn seven_stages(image: &[u8]) -> Result<(), Refusal>
+    ensures { outcome result ≡ check image.now }
+{
+    let n = image.len() / 512;
+    if !sized(image, n) {
+        return Err(Refusal::BadLength);
+    }
+    if !signed(image) {
+        return Err(Refusal::BadSignature);
+    }
+    if !numbered(image, n) {
+        return Err(Refusal::BadGeometry);
+    }
+    let root = layout::geometry::root_block(n);
+    if !directory_ok(image, n, root, root) {
+        return Err(Refusal::BadSelf);
+    }
+    tour(image, n, limits::MAX_LEVELS, root, 1)?;
+    if !table_ok(image, n) {
+        return Err(Refusal::BadChains);
+    }
+    if !counts_ok(image, n) {
+        return Err(Refusal::BadCounts);
+    }
+    Ok(())
 }
 
 // The plain check: the number of the first stage that is not met, or 0.
 pub fn plain_check(image: &[u8]) -> u32
     ensures { result ≡ check image.now }
 {
-    let n = image.len() / 512;
-    if !sized(image, n) {
-        return 1;
-    }
-    if !signed(image) {
-        return 2;
-    }
-    if !numbered(image, n) {
-        return 3;
-    }
-    let root = layout::geometry::root_block(n);
-    if !directory_ok(image, n, root, root) {
-        return 4;
-    }
-    let v = tour(image, n, limits::MAX_LEVELS, root, 1);
-    if v.fault != 0 {
-        return v.fault;
-    }
-    if !table_ok(image, n) {
-        return 6;
-    }
-    if !counts_ok(image, n) {
-        return 7;
-    }
-    0
+    outcome(seven_stages(image))
 }

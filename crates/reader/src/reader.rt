@@ -27,24 +27,26 @@ pub fn read_at<'x>(image: &'x [u8], path: &'x [u8], position: usize, buffer: &mu
     match layout::reading::read(image, path, position, buffer) {
         Filled::Bytes(count) => Turn {
             number: 0,
-            count: count,
+            count,
             next: position + count,
         },
         Filled::Refused(number) => Turn {
-            number: number,
+            number,
             count: 0,
             next: position,
         },
     }
 }
 
+// This and the next two are functions and not methods: users call them by the names that docs/SURFACE.md lists.
+
 // Opens a reader at the file's start. Nothing is looked up yet, so nothing is refused.
 pub fn open<'a>(image: &'a [u8], path: &'a [u8]) -> Reader<'a>
     ensures { (result.image ≡ image.entry) × (result.path ≡ path.entry) × (result.position ≡ 0) }
 {
     Reader {
-        image: image,
-        path: path,
+        image,
+        path,
         position: 0,
     }
 }
@@ -61,8 +63,7 @@ pub fn read<'s, 'a, 'b>(r: &'s mut Reader<'a>, buffer: &'b mut [u8]) -> Turn
     ensures { (Turned r.old.image.now r.old.path.now r.old.position buffer.old result buffer.new)
         × (r.new ≡ placed r.old result.next) }
 {
-    let position = r.position;
-    let t = read_at(r.image, r.path, position, buffer);
+    let t = read_at(r.image, r.path, r.position, buffer);
     r.position = t.next;
     t
 }

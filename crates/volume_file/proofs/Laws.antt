@@ -1,3 +1,4 @@
+pub mod Reasons
 pub mod Sectors
 pub mod Restored
 pub mod Facts

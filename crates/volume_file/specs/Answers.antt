@@ -1,5 +1,5 @@
 -- What the calls on a volume file answer: a refusal, 0 if there is none, and numbers, which are 0 where it is not. Places are offsets and lengths in bytes.
-use Rattle.std.specs.Prelude.{ℕ, ◌+◌, ◌*◌, ◌&&◌, cond, List, ltb, length}
+use Rattle.std.specs.Prelude.{ℕ, ◌+◌, ◌*◌, ◌&&◌, cond, Option, Some, None, List, ltb, length}
 use Rattle.layout.specs.Refusals.{accept}
 use Rattle.layout.specs.Bytes.{block}
 use Rattle.layout.specs.Looks.{Extent}
@@ -93,3 +93,8 @@ home_extent d j =
     let found : Extent = record { start = 512 * home_at a; size = 512 } in
     let none : Extent = record { start = 0; size = 0 } in
     accept (file_refusal d) (cond (ltb j h && ltb a h) found none) none
+
+-- of the home sector that the log names, if there is one
+abbrev pub home_told : Option ℕ → Extent
+home_told None = record { start = 0; size = 0 }
+home_told (Some a) = record { start = 512 * home_at a; size = 512 }

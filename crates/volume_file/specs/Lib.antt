@@ -1,4 +1,5 @@
 pub mod Refusals
+pub mod Reasons
 pub mod Format
 pub mod Begin
 pub mod Save

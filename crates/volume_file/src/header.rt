@@ -1,16 +1,48 @@
 // The header of a volume file, and its length.
-ghost use Rattle.std.specs.Prelude.{◌*◌, ◌≤◌, ◌≡◌, length, eqb};
-ghost use Rattle.volume_file.specs.Format.{sizes_ok, header_ok, home_sectors, file_sectors, head_refusal};
+ghost use Rattle.std.specs.Prelude.{◌+◌, ◌*◌, ◌≤◌, ◌≡◌, length, eqb, IfOk};
+ghost use Rattle.volume_file.specs.Format.{image_sectors_of, journal_sectors_of, own_sectors_of, sizes_ok, header_ok, home_sectors, number_sectors, file_sectors, head_refusal};
+ghost use Rattle.volume_file.specs.Reasons.{outcome};
 
-use super::refusals;
+use super::refusals::Refusal;
 use layout::bytes::block;
 use layout::number::get32;
 
-// Whether n, m and x are in their ranges.
-pub fn sizes_ok(n: u32, m: u32, x: u32) -> bool
-    ensures { result ≡ sizes_ok n m x }
+// How many sectors the parts of a home have: the image, its journal and the program's own.
+#[derive(Clone, Copy)]
+pub struct Sizes {
+    pub image: u32,
+    pub journal: u32,
+    pub own: u32,
+}
+
+// Those that a header sector tells.
+pub fn told(head: &[u8]) -> Sizes
+    requires { length head.now ≡ 512 }
+    ensures image { result.image ≡ image_sectors_of head.now }
+    ensures journal { result.journal ≡ journal_sectors_of head.now }
+    ensures own { result.own ≡ own_sectors_of head.now }
 {
-    ((3 <= n) & (n <= 65536)) & (((1 <= m) & (m <= 131072)) & (x <= 128))
+    Sizes {
+        image: get32(head, 12),
+        journal: get32(head, 16),
+        own: get32(head, 20),
+    }
+}
+
+impl Sizes {
+    // Whether they are in their ranges.
+    pub fn in_range(self) -> bool
+        ensures { result ≡ sizes_ok self.image self.journal self.own }
+    {
+        (3..=65536).contains(&self.image) && (1..=131072).contains(&self.journal) && self.own <= 128
+    }
+
+    // How many sectors the home has.
+    pub fn home(self) -> usize
+        ensures { result ≡ self.image + self.journal + self.own }
+    {
+        self.image as usize + self.journal as usize + self.own as usize
+    }
 }
 
 // Whether a header sector is right.
@@ -18,13 +50,8 @@ fn header_ok(head: &[u8]) -> bool
     requires { length head.now ≡ 512 }
     ensures { result ≡ header_ok head.now }
 {
-    let a = 0;
-    let e = 12;
-    let signed = layout::bytes::equal(&head[a..e], b"BulgeVol\x00\x01\x00\x00");
-    let sized = sizes_ok(get32(head, 12), get32(head, 16), get32(head, 20));
-    let f = 24;
-    let g = 512;
-    signed & (sized & layout::bytes::all_zero(&head[f..g]))
+    let signed = layout::bytes::equal(&head[..12], b"BulgeVol\x00\x01\x00\x00");
+    signed && told(head).in_range() && layout::bytes::all_zero(&head[24..])
 }
 
 // How many home sectors a file has.
@@ -32,32 +59,39 @@ pub fn home_sectors(file: &[u8]) -> usize
     requires { 512 ≤ length file.now }
     ensures { result ≡ home_sectors file.now }
 {
-    let head = block(file, 0);
-    get32(head, 12) as usize + get32(head, 16) as usize + get32(head, 20) as usize
+    told(block(file, 0)).home()
 }
 
-// Whether a file has the length of its h home sectors.
-pub fn length_ok(file: &[u8], h: usize) -> bool
-    requires { h ≤ 196736 }
-    ensures { result ≡ eqb (length file.now) (512 * file_sectors h) }
+// How many sectors k + 1 numbers of the log take.
+pub fn number_sectors(k: usize) -> usize
+    requires { k ≤ 196736 }
+    ensures { result ≡ number_sectors k }
 {
-    let a = (h + 128) / 128;
-    file.len() == 512 * (2 + h + a + h)
+    (k + 128) / 128
 }
 
-// Why header and length are not those of a volume file; 0 if they are.
-pub fn head_refusal(file: &[u8]) -> u32
-    ensures { result ≡ head_refusal file.now }
+// How many bytes a file of h home sectors has.
+pub fn file_length(h: usize) -> usize
+    requires { h ≤ 196736 }
+    ensures { result ≡ 512 * file_sectors h }
+{
+    512 * (2 + h + number_sectors(h) + h)
+}
+
+// The home sectors of a file with a right header and the length that goes with it.
+pub fn accepted(file: &[u8]) -> Result<usize, Refusal>
+    ensures number { outcome result ≡ head_refusal file.now }
+    ensures home { IfOk result (λ h. h ≡ home_sectors file.now) }
 {
     if file.len() < 1024 {
-        return refusals::TOO_SHORT;
+        return Err(Refusal::TooShort);
     }
     if !header_ok(block(file, 0)) {
-        return refusals::BAD_HEADER;
+        return Err(Refusal::BadHeader);
     }
     let h = home_sectors(file);
-    if !length_ok(file, h) {
-        return refusals::BAD_LENGTH;
+    if file.len() != file_length(h) {
+        return Err(Refusal::BadLength);
     }
-    0
+    Ok(h)
 }

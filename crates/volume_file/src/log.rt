@@ -1,9 +1,10 @@
 // The log of a volume file, and the flag that says that it waits.
-ghost use Rattle.std.specs.Prelude.{◌+◌, ◌*◌, ◌≤◌, ◌≡◌, length};
-ghost use Rattle.volume_file.specs.Format.{home_sectors, address_at, file_sectors, address, waits, log_count, count, rising, log_refusal};
+ghost use Rattle.std.specs.Prelude.{◌+◌, ◌*◌, ◌≤◌, ◌≡◌, cond, Some, None, length};
+ghost use Rattle.volume_file.specs.Format.{home_sectors, address_at, saved_at, file_sectors, address, waits, log_count, rising, log_refusal};
+ghost use Rattle.volume_file.specs.Reasons.{outcome};
 ghost use Rattle.volume_file.specs.Save.{flagged};
 
-use super::refusals;
+use super::refusals::Refusal;
 use layout::number::get32;
 
 // Whether the log waits.
@@ -19,19 +20,31 @@ pub fn log_count(file: &[u8], h: usize) -> usize
     requires { (h ≤ 196736) × (length file.now ≡ 512 * file_sectors h) × (h ≡ home_sectors file.now) }
     ensures { result ≡ log_count file.now }
 {
-    let at = 512 * (2 + h);
-    get32(file, at) as usize
+    get32(file, 512 * (2 + h)) as usize
 }
 
-// How many sectors of the log wait.
-pub fn waiting(file: &[u8], h: usize) -> usize
+// How many sectors of the log wait, if it does.
+pub fn waiting(file: &[u8], h: usize) -> Option<usize>
     requires { (h ≤ 196736) × (length file.now ≡ 512 * file_sectors h) × (h ≡ home_sectors file.now) }
-    ensures { result ≡ count file.now }
+    ensures { result ≡ cond (waits file.now) (Some (log_count file.now)) None }
 {
-    if !log_waits(file) {
-        return 0;
-    }
-    log_count(file, h)
+    log_waits(file).then(|| log_count(file, h))
+}
+
+// Where the j-th address of the log stands.
+pub fn address_at(h: usize, j: usize) -> usize
+    requires { (h ≤ 196736) × (j ≤ 196736) }
+    ensures { result ≡ address_at h j }
+{
+    512 * (2 + h) + 4 + 4 * j
+}
+
+// The sector of the log that is its j-th.
+pub fn saved_at(h: usize, j: usize) -> usize
+    requires { (h ≤ 196736) × (j ≤ 196736) }
+    ensures { result ≡ saved_at h j }
+{
+    2 + h + super::header::number_sectors(h) + j
 }
 
 // The j-th address in the log.
@@ -39,8 +52,7 @@ pub fn address(file: &[u8], h: usize, j: usize) -> usize
     requires { (h ≤ 196736) × (j ≤ 196736) × (address_at h j + 4 ≤ length file.now) }
     ensures { result ≡ address h file.now j }
 {
-    let at = 512 * (2 + h) + 4 + 4 * j;
-    get32(file, at) as usize
+    get32(file, address_at(h, j)) as usize
 }
 
 // Whether the first k addresses rise and are below h, from the last to the first.
@@ -49,10 +61,8 @@ fn addresses_rise(file: &[u8], h: usize, k: usize) -> bool
     ensures { result ≡ rising h file.now h k }
 {
     let mut limit = h;
-    let mut left = k;
-    while 0 < left {
-        left = left - 1;
-        let x = address(file, h, left);
+    for j in (0..k).rev() {
+        let x = address(file, h, j);
         if limit <= x {
             return false;
         }
@@ -61,18 +71,18 @@ fn addresses_rise(file: &[u8], h: usize, k: usize) -> bool
     true
 }
 
-// Why a log of k sectors is none; 0 if it is one.
-pub fn log_refusal(file: &[u8], h: usize, k: usize) -> u32
+// Whether a log may have k sectors.
+pub fn accepted(file: &[u8], h: usize, k: usize) -> Result<(), Refusal>
     requires { (h ≤ 196736) × (length file.now ≡ 512 * file_sectors h) × (h ≡ home_sectors file.now) }
-    ensures { result ≡ log_refusal file.now k }
+    ensures { outcome result ≡ log_refusal file.now k }
 {
     if h < k {
-        return refusals::BAD_COUNT;
+        return Err(Refusal::BadCount);
     }
     if !addresses_rise(file, h, k) {
-        return refusals::BAD_ADDRESS;
+        return Err(Refusal::BadAddress);
     }
-    0
+    Ok(())
 }
 
 // Writes the commit sector.
@@ -81,7 +91,5 @@ pub fn set_flag(file: &mut [u8], b: u8)
     ensures { file.new ≡ flagged file.old b }
 {
     file[512] = b;
-    let a = 513;
-    let e = 1024;
-    layout::bytes::clear(&mut file[a..e]);
+    file[513..1024].fill(0);
 }

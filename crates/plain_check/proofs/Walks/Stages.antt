@@ -17,7 +17,7 @@ use Rattle.layout.specs.Directory.{directory}
 use Rattle.layout.specs.Check.{stage1, stage2, stage3, stage7}
 use Rattle.layout.proofs.Laws.Lists.{interval-next}
 use Rattle.layout.proofs.Laws.Tests.{and_split, first_of-refused}
-use Rattle.plain_check.specs.declared.check.Question.TheVariants as question
+use Rattle.plain_check.specs.Plain.{Claims, Holds}
 use Rattle.plain_check.specs.Plain.{one, plain_directory_ok, toured, tour_entries, tour_child, tour_root, stop_of, ask_tree, answer, claims, holders, counted, plain_stage6, plain_check}
 use Rattle.plain_check.specs.Walks.{Volume, Upto}
 use Rattle.plain_check.proofs.Walks.Tests.{and-false, one-few}
@@ -69,20 +69,20 @@ upto-few n r x (inl e) = let z : r ≡ x = omega arith in rw z
 upto-few n r x (inr w) = rw (lt-leb r n (omega arith), lt-leb x n (omega arith))
 
 module _ (s : List ℕ) (n root : ℕ) (v : Volume s n) (er : root ≡ root_block n) where
-  counted_is : (b held value : ℕ) → Upto n held (0 + ask_tree (answer (question.Holds b) s n) max_levels s root) → value ≡ next s b
+  counted_is : (b held value : ℕ) → Upto n held (0 + ask_tree (answer (Holds b) s n) max_levels s root) → value ≡ next s b
       → eqb held (one (not (eqb value 0))) ≡ counted s b
   unfolding counted holders
   counted_is b held value eh ev =
       rw (volume-count s n v, ← er, ← ev) (upto-same n held _ (one (not (eqb value 0))) (omega (arith, v.low)) (one-few (not (eqb value 0))) eh)
 
-  module _ (b held value : ℕ) (eh : Upto n held (0 + ask_tree (answer (question.Holds b) s n) max_levels s root)) (ev : value ≡ next s b) where
+  module _ (b held value : ℕ) (eh : Upto n held (0 + ask_tree (answer (Holds b) s n) max_levels s root)) (ev : value ≡ next s b) where
     pub counted-not : (held ≡ one (not (eqb value 0)) → ⊥) → false ≡ counted s b
     counted-not h = sym (ne_eqb held (one (not (eqb value 0))) h) ∙ counted_is b held value eh ev
 
     pub counted-so : held ≡ one (not (eqb value 0)) → true ≡ counted s b
     counted-so h = sym (eq-eqb held (one (not (eqb value 0))) h) ∙ counted_is b held value eh ev
 
-  claims-are : (r : ℕ) → Upto n r (0 + ask_tree (answer question.Claims s n) max_levels s root) → leb r n ≡ leb (claims s) n
+  claims-are : (r : ℕ) → Upto n r (0 + ask_tree (answer Claims s n) max_levels s root) → leb r n ≡ leb (claims s) n
   unfolding claims
   claims-are r u = rw (volume-count s n v, ← er) (upto-few n r _ u)
 
@@ -93,7 +93,7 @@ six-order true true false c = sym (and-false c)
 six-order true false p c = refl
 six-order false o p c = refl
 
-pub six-all : (s : List ℕ) (n t : ℕ) → Volume s n → t ≡ table_blocks n → (r : ℕ) → Upto n r (0 + ask_tree (answer question.Claims s n) max_levels s (t + 1))
+pub six-all : (s : List ℕ) (n t : ℕ) → Volume s n → t ≡ table_blocks n → (r : ℕ) → Upto n r (0 + ask_tree (answer Claims s n) max_levels s (t + 1))
     → (ones padded all : Bool) → ones ≡ every (λ b. eqb (next s b) 1) (interval 0 (t + 1 - 0)) → padded ≡ every (λ b. eqb (next s b) 0) (interval n (128 * t - n))
     → all ≡ every (counted s) (interval (root_block n) (n - root_block n)) → ((leb r n && (ones && padded)) && all) ≡ plain_stage6 s
 unfolding plain_stage6

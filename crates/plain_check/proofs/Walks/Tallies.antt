@@ -11,7 +11,7 @@ use Rattle.layout.specs.Lists.{interval}
 use Rattle.layout.specs.Directory.{slot_at, type_of, first_block, blocks_of, is_directory, directory}
 use Rattle.layout.proofs.Laws.Tests.{true-not-false}
 use Rattle.layout.proofs.Laws.Trees.{length-directory}
-use Rattle.plain_check.specs.declared.check.Question.{Question}
+use Rattle.plain_check.specs.Plain.{Question}
 use Rattle.plain_check.specs.Plain.{total, ask_slot, ask_directory, ask_tree, answer}
 use Rattle.plain_check.specs.Walks.{file_answer, Upto}
 use Rattle.plain_check.proofs.Walks.Slots.{slots-none, slots_next, slots-first}

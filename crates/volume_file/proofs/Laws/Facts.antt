@@ -1,7 +1,7 @@
 -- A volume file as plain facts, and its commit sector.
 use Prim.Native.Nat.{ℕ, ◌+◌, ◌*◌, ◌≤◌}
 use mathlib.Core.List.{List, ◌∷◌}
-use mathlib.Core.Bool.{true, false, ◌&&◌}
+use mathlib.Core.Bool.{Bool, true, false, ◌&&◌}
 use mathlib.Core.Logic.{◌≢◌}
 use mathlib.Core.Path.{◌≡◌, refl, sym, ap, ◌∙◌}
 use native.Mathlib.Omega.{arith}
@@ -149,3 +149,9 @@ module _ (d : List ℕ) (b : ℕ) (l : 1024 ≤ length d) where
   pub flagged-waits : waits (flagged d b) ≡ eqb b 1
   unfolding waits flagged
   flagged-waits = ap (λ (x : ℕ). eqb x 1) (splice-first d 512 (flag b) (omega (arith, flag-long b)) (omega (arith, flag-long b)))
+
+-- the tests of a header sector, as the code makes them
+pub header-tests : (head : List ℕ) (n m x : ℕ) (signed sized clean : Bool) → signed ≡ same (take 12 head) file_signature → sized ≡ sizes_ok n m x → n ≡ image_sectors_of head → m ≡ journal_sectors_of head
+    → x ≡ own_sectors_of head → clean ≡ all_zero (part head 24 488) → (signed && (sized && clean)) ≡ header_ok head
+unfolding header_ok
+header-tests head n m x signed sized clean es ez en em ex ec = rw (es, ez, en, em, ex, ec)

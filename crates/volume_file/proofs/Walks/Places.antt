@@ -3,15 +3,18 @@ use Prim.Native.Nat.{ℕ, ◌+◌, ◌*◌, ◌≤◌, ◌<◌}
 use mathlib.Core.List.{List}
 use mathlib.Core.Bool.{Bool, true, false, cond}
 use mathlib.Core.Logic.{◌≢◌}
-use mathlib.Core.Path.{◌≡◌, sym, ◌∙◌}
+use mathlib.Core.Path.{◌≡◌, refl, sym, ◌∙◌}
 use native.Mathlib.Omega.{arith}
 use lib.ListN.{length}
-use borrow.Author.Tests.{lt-ltb, le-ltb}
+use lib.Dec.{ltb}
+use borrow.Author.Tests.{lt-ltb, le-ltb, ltb-true}
+use Rattle.std.specs.Bool.{then_some}
+use Rattle.std.specs.Option.{IfSome}
 use Rattle.layout.specs.Bytes.{block}
 use Rattle.layout.specs.Looks.{Extent}
 use Rattle.layout.proofs.Laws.Tests.{accept-refused}
 use Rattle.volume_file.specs.Format.{image_sectors_of, journal_sectors_of, own_sectors_of, sizes_ok, home_sectors, home_at, address_at, file_sectors, file_size, address, waits, file_refusal}
-use Rattle.volume_file.specs.Answers.{PartsAnswer, parts_of, home_extent}
+use Rattle.volume_file.specs.Answers.{PartsAnswer, parts_of, home_extent, home_told}
 use Rattle.volume_file.proofs.Laws.Facts.{VolumeFile, file-facts, header-sizes, small}
 
 -- how long a file is
@@ -75,11 +78,22 @@ module _ (d : List ℕ) (number : ℕ) (is : number ≡ file_refusal d) where
         pub home-room : address_at h j + 4 ≤ length d
         home-room = omega (arith, given.size, hs)
 
-        module _ (a : ℕ) (is_Address : a ≡ address h d j) where
-          pub home-none : h ≤ a → place 0 0 ≡ home_extent d j
-          unfolding home_extent
-          home-none l = rw (← is, z, ← hs, lt-ltb j h below, ← is_Address, le-ltb a h l)
+        pub home-named : (a : ℕ) → a ≡ address h d j → home_told (then_some (ltb a h) a) ≡ home_extent d j
+        unfolding home_extent
+        home-named a e = rw (← is, z, ← hs, lt-ltb j h below, ← e) (go (ltb a h))
+          where
+            go : (b : Bool) → home_told (then_some b a) ≡ cond b (place (512 * home_at a) 512) (place 0 0)
+            go true = refl
+            go false = refl
 
-          pub home_found : a < h → place (512 * home_at a) 512 ≡ home_extent d j
-          unfolding home_extent
-          home_found l = rw (← is, z, ← hs, lt-ltb j h below, ← is_Address, lt-ltb a h l)
+        pub home_found : (a : ℕ) → a ≡ address h d j → a < h → place (512 * home_at a) 512 ≡ home_extent d j
+        unfolding home_extent
+        home_found a e l = rw (← is, z, ← hs, lt-ltb j h below, ← e, lt-ltb a h l)
+
+-- a number that is told only where it is below h
+pub named-small : (a h n : ℕ) → h ≤ n → IfSome (then_some (ltb a h) a) (λ x. x ≤ n)
+named-small a h n l = go (ltb a h) refl
+  where
+    go : (b : Bool) → ltb a h ≡ b → IfSome (then_some b a) (λ x. x ≤ n)
+    go true e = let m : a < h = ltb-true a h e in omega arith
+    go false e = tt

@@ -1,18 +1,21 @@
 -- The turns of the loops and the exits of the tests, in plain terms.
 use Prim.Native.Nat.{ℕ, zero, suc, ◌+◌, ◌-◌, ◌*◌, ◌≤◌, ◌<◌}
-use mathlib.Core.List.{List, [], ◌∷◌, ◌++◌}
-use mathlib.Core.Bool.{Bool, true, false, not}
+use mathlib.Core.List.{List, ◌++◌}
+use mathlib.Core.Bool.{Bool, true, false, not, cond}
+use Rattle.std.specs.Prelude.{Some, None}
+use Rattle.std.proofs.Common.{append_assoc}
 use mathlib.Core.Logic.{◌≢◌}
 use mathlib.Core.Path.{◌≡◌, refl, sym, ap, ◌∙◌}
 use native.Mathlib.Omega.{arith}
 use native.Mathlib.Numerals.{add-one}
 use lib.Dec.{eqb}
-use lib.ListN.{length, get_or, set, take, drop, replicate, length-drop, length-set}
-use lib.Seq.{take-suc, get_or-drop, length-take-le}
+use lib.ListN.{length, set, take, drop, replicate, length-set}
+use lib.Seq.{drop-drop}
 use borrow.Author.Tests.{not-true, not-false, lt-ltb, le-ltb, lt-leb, le-leb}
+use Rattle.std.specs.List.{copy_within}
 use Rattle.layout.specs.Bytes.{zeros, part, block, splice}
 use Rattle.layout.proofs.Laws.Tests.{accept-refused, first_of-refused}
-use Rattle.layout.proofs.Laws.Bytes.{length-splice, length-zeros, get_d-splice-after, splice-append, splice-nil, splice-cons, lent-zeros}
+use Rattle.layout.proofs.Laws.Bytes.{length_part, length-zeros, splice-cons, lent-zeros}
 use Rattle.volume_file.specs.Format.{header_ok, home_sectors, home_at, saved_at, file_sectors, address, waits, log_count, count, rising, head_refusal, log_refusal, file_refusal}
 use Rattle.volume_file.specs.Save.{flagged, restored, replayed, recovered, after_recover}
 use Rattle.volume_file.specs.Answers.{recover_answered, recover_answer}
@@ -38,23 +41,12 @@ unfolding rising
 rising-end h d limit zero l = refl
 rising-end h d limit (suc left) l = absurd (omega arith)
 
--- a sector copied down, byte by byte
-set-splice : (s : List ℕ) (at v : ℕ) → at < length s → set s at v ≡ splice s at (v ∷ [])
-set-splice s at v l = sym (splice-cons s at v [] (omega arith) ∙ splice-nil (set s at v) (at + 1))
-
-pub copy_step : (d : List ℕ) (from to i : ℕ) → to + 512 ≤ from → from + 512 ≤ length d → i < 512 → (t : List ℕ) → t ≡ splice d to (take i (drop from d))
-    → set t (to + i) (get_or t (from + i) 0) ≡ splice d to (take (i + 1) (drop from d))
-copy_step d from to i h g l t e =
-    let p : List ℕ = take i (drop from d) in
-    let lp : length p ≡ i = length-take-le i (drop from d) (omega (arith, length-drop from d)) in
-    let f : to + length p ≤ length d = omega arith in
-    let ls : length (splice d to p) ≡ length d = length-splice d to p f in
-    let r : get_or (splice d to p) (from + i) 0 ≡ get_or (drop from d) i 0 = get_d-splice-after d to p f (from + i) (omega arith) ∙ sym (get_or-drop from d i 0) in
-    let q : to + i ≡ to + length p = omega arith in
-    rw (e, r, q) (set-splice (splice d to p) (to + length p) (get_or (drop from d) i 0) (omega arith)
-    ∙ splice-append d to p (get_or (drop from d) i 0 ∷ []) (omega arith)
-    ∙ ap (splice d to) (sym (take-suc (drop from d) i 0 (omega (arith, length-drop from d))))
-    ∙ ap (λ (k : ℕ). splice d to (take k (drop from d))) (sym (add-one i)))
+-- a sector copied to another
+pub copied : (d : List ℕ) (from to e : ℕ) → e ≡ from + 512 → from + 512 ≤ length d → copy_within d from e to ≡ splice d to (part d from 512)
+unfolding splice
+copied d from to e q l =
+    let n : e - from ≡ 512 = omega arith in
+    rw (n, length_part d from 512 l, drop-drop 512 to d, append_assoc)
 
 -- the commit sector, its first byte and then its zeros
 pub flagged-made : (d t ys : List ℕ) (b n : ℕ) → 1024 ≤ length d → t ≡ set d 512 b → ys ≡ replicate (length (part t 513 n)) 0 → n ≡ 511
@@ -64,13 +56,21 @@ flagged-made d t ys b n l e y m =
     let lt : length t ≡ length d = ap length e ∙ length-set d 512 b in
     lent-zeros t 513 511 n ys y m (omega arith) ∙ rw e (sym (splice-cons d 512 b (zeros 511) (omega (arith, length-zeros 511))))
 
--- how many wait
-pub waiting_none : (d : List ℕ) → waits d ≡ false → 0 ≡ count d
-waiting_none d e = sym (count_none d e)
-
-pub waiting-some : (d : List ℕ) (r : ℕ) → waits d ≡ true → r ≡ log_count d → r ≡ count d
+-- how many wait, if any do
+pub waiting-some : (d : List ℕ) (k : ℕ) → Some k ≡ cond (waits d) (Some (log_count d)) None → (waits d ≡ true) × (k ≡ count d)
 unfolding count
-waiting-some d r e q = q ∙ rw e
+waiting-some d k e = go (waits d) e
+  where
+    go : (w : Bool) → Some k ≡ cond w (Some (log_count d)) None → (w ≡ true) × (k ≡ cond w (log_count d) 0)
+    go true e = (refl, cc)
+    go false e = cc
+
+pub waiting_none : (d : List ℕ) → None ≡ cond (waits d) (Some (log_count d)) None → waits d ≡ false
+waiting_none d e = go (waits d) e
+  where
+    go : (w : Bool) → None ≡ cond w (Some (log_count d)) None → w ≡ false
+    go true e = cc
+    go false e = refl
 
 -- the tests of header and length, in order
 module _ (d : List ℕ) where
@@ -122,6 +122,10 @@ module _ (d : List ℕ) (number : ℕ) (is : number ≡ head_refusal d) where
 
     pub head-sized : (h : ℕ) → h ≡ home_sectors d → (h ≤ 196736) × (length d ≡ 512 * file_sectors h) × (h ≡ home_sectors d)
     head-sized h hs = rw hs (header-small d head-given.header, head-given.size, refl)
+
+    pub file-quiet : waits d ≡ false → 0 ≡ file_refusal d
+    unfolding file_refusal log_refusal rising
+    file-quiet w = rw (← is, z, count_none d w, le-leb 0 (home_sectors d) (omega arith))
 
     pub file-rest : (k r : ℕ) → k ≡ count d → r ≡ log_refusal d k → r ≡ file_refusal d
     unfolding file_refusal

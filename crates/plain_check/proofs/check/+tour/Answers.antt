@@ -9,6 +9,8 @@ use Rattle.plain_check.proofs.Walks.Slots.{place-first, place-next}
 use Rattle.plain_check.proofs.Walks.Tallies.{goes_down}
 use Rattle.plain_check.proofs.Walks.Tours.{stands-first, end-slot, slot-inside, slot-tests, right-more, tour-unended, tour-slots, slots_end, slots-bad, slots-other, slots-stop, slots-down, child-bad, child-down, child-stands, child-fewer}
 use Prim.Native.Nat.{ℕ, ◌<◌}
+use Rattle.std.proofs.lemmas.Result.{err_from_is_err_and}
+use Rattle.plain_check.proofs.Laws.Reasons.{some_number}
 use Rattle.plain_check.proofs.check.+tour.Goals as goal
 
 pub overflow_mul-d : goal.overflow_mul-d
@@ -30,7 +32,7 @@ pub overflow_add-last_block : goal.overflow_add-last_block
 overflow_add-last_block t c = omega (arith, c.last_block.ensures.1)
 
 pub returns-then-byte : goal.returns-then-byte
-returns-then-byte t c = record { equal = tour-unended _ _ _ _ _ _ (end-slot _ _ _ c.requires.1 _ _ c.number-size.ensures.0 c.last_block.ensures.0) c.byte.ensures.0 c.if-byte.true; bound = (λ z. omega arith, omega arith) }
+returns-then-byte t c = record { equal = tour-unended _ _ _ _ _ _ (end-slot _ _ _ c.requires.1 _ _ c.number-size.ensures.0 c.last_block.ensures.0) c.byte.ensures.0 c.if-byte.true; bound = tt }
 
 pub overflow_mul-e : goal.overflow_mul-e
 overflow_mul-e t c = omega (arith, stands-first _ _ _ c.requires.1, c.requires.0)
@@ -74,7 +76,7 @@ returns-then-not-slot_ok-new_name t c = let i = c.loop-k.invariant in
     let S = c.requires.1 in
     let h : c.loop-k.k < 4 * blocks_of c.args.image.now (512 * c.args.d) = omega (arith, c.loop-k.invariant.whole) in
     let at = (place-next _ _ _ (c.loop-k.k - 2) (c.loop-k.k - 1) _ c.loop-k.invariant.place (omega (arith, c.loop-k.invariant.low)) c.after-e.ensures.0 c.after-e.ensures.1 c.after-e.ensures.2).here (omega (arith, h)) in
-    let t : (c.slot_ok.result && c.new_name.result) ≡ false = c.if-not-slot_ok-new_name.true in record { equal = sym (i.equal ∙ slots-bad _ _ _ _ c.loop-k.k (4 * c.number-size.result) i.low (omega arith) _ at (sym t ∙ slot-tests _ _ _ c.loop-k.k _ v S i.low h at i.right _ _ c.slot_ok.ensures c.new_name.ensures)); bound = (λ z. omega arith, omega arith) }
+    let t : (c.slot_ok.result && c.new_name.result) ≡ false = c.if-not-slot_ok-new_name.true in record { equal = sym (i.equal ∙ slots-bad _ _ _ _ c.loop-k.k (4 * c.number-size.result) i.low (omega arith) _ at (sym t ∙ slot-tests _ _ _ c.loop-k.k _ v S i.low h at i.right _ _ c.slot_ok.ensures c.new_name.ensures)); bound = tt }
 
 pub overflow_step-k : goal.overflow_step-k
 overflow_step-k t c = omega arith
@@ -122,7 +124,7 @@ returns-then-levels-child_ok t c = let i = c.loop-k.invariant in
     let t : (c.slot_ok.result && c.new_name.result) ≡ true = c.if-not-slot_ok-new_name.false in
     let ok = sym c.slot_ok.ensures ∙ (and_split c.slot_ok.result c.new_name.result t).0 in
     let test = sym t ∙ slot-tests _ _ _ c.loop-k.k _ v S i.low h at i.right _ _ c.slot_ok.ensures c.new_name.ensures in
-    let u = c.if-not-is_directory.false in record { equal = sym (i.equal ∙ slots-stop _ _ _ _ c.loop-k.k (4 * c.number-size.result) i.low (omega arith) _ at test _ c.byte-in-loop-k.ensures.0 (sym u ∙ c.is_directory.ensures) 4 0 (child-bad _ _ _ _ _ c.args.levels c.child_ok.result c.child_ok.ensures c.if-levels-child_ok.true) (λ z. omega arith)); bound = (λ z. omega arith, omega arith) }
+    let u = c.if-not-is_directory.false in record { equal = sym (i.equal ∙ slots-stop _ _ _ _ c.loop-k.k (4 * c.number-size.result) i.low (omega arith) _ at test _ c.byte-in-loop-k.ensures.0 (sym u ∙ c.is_directory.ensures) 4 0 (child-bad _ _ _ _ _ c.args.levels c.child_ok.result c.child_ok.ensures c.if-levels-child_ok.true) (λ z. omega arith)); bound = tt }
 
 pub overflow_sub-levels : goal.overflow_sub-levels
 overflow_sub-levels t c = omega (arith, (goes_down c.args.levels c.child_ok.result c.if-levels-child_ok.false).0)
@@ -136,13 +138,13 @@ number-requires t c = omega (arith, c.after-e.ensures.1)
 pub overflow_add-met : goal.overflow_add-met
 overflow_add-met t c = omega (arith, c.loop-k.invariant.most, c.requires.0)
 
-pub tour-v-requires : goal.tour-v-requires
-tour-v-requires t c =
+pub tour-requires : goal.tour-requires
+tour-requires t c =
     let g = goes_down c.args.levels c.child_ok.result c.if-levels-child_ok.false in
     (omega (arith, g.0), (c.requires.0, child-stands _ _ _ _ _ (sym g.1 ∙ c.child_ok.ensures) _ c.number.ensures.0, omega arith, omega (arith, child-fewer _ _ _ _ _ (sym g.1 ∙ c.child_ok.ensures))))
 
-pub returns-then-v-ne0 : goal.returns-then-v-ne0
-returns-then-v-ne0 t c = let i = c.loop-k.invariant in
+pub returns-in_err-met : goal.returns-in_err-met
+returns-in_err-met t c = let i = c.loop-k.invariant in
     let v = c.requires.0 in
     let S = c.requires.1 in
     let h : c.loop-k.k < 4 * blocks_of c.args.image.now (512 * c.args.d) = omega (arith, c.loop-k.invariant.whole) in
@@ -151,7 +153,9 @@ returns-then-v-ne0 t c = let i = c.loop-k.invariant in
     let ok = sym c.slot_ok.ensures ∙ (and_split c.slot_ok.result c.new_name.result t).0 in
     let test = sym t ∙ slot-tests _ _ _ c.loop-k.k _ v S i.low h at i.right _ _ c.slot_ok.ensures c.new_name.ensures in
     let u = c.if-not-is_directory.false in
-    let g = goes_down c.args.levels c.child_ok.result c.if-levels-child_ok.false in record { equal = sym (i.equal ∙ slots-stop _ _ _ _ c.loop-k.k (4 * c.number-size.result) i.low (omega arith) _ at test _ c.byte-in-loop-k.ensures.0 (sym u ∙ c.is_directory.ensures) _ _ (c.tour-v.ensures.equal ∙ child-down _ _ _ _ _ _ g.0 (sym g.1 ∙ c.child_ok.ensures) _ c.number.ensures.0) c.if-v-ne0.true); bound = c.tour-v.ensures.bound }
+    let g = goes_down c.args.levels c.child_ok.result c.if-levels-child_ok.false in
+    let p = err_from_is_err_and c.from_residual.result c.from_residual.ensures.1 in
+    rw (p.1, p.2) (record { equal = sym (i.equal ∙ slots-stop _ _ _ _ c.loop-k.k (4 * c.number-size.result) i.low (omega arith) _ at test _ c.byte-in-loop-k.ensures.0 (sym u ∙ c.is_directory.ensures) _ _ (c.in_err-met.ensures.equal ∙ child-down _ _ _ _ _ _ g.0 (sym g.1 ∙ c.child_ok.ensures) _ c.number.ensures.0) (some_number _)); bound = tt })
 
 pub overflow_step-k-in-loop-k : goal.overflow_step-k-in-loop-k
 overflow_step-k-in-loop-k t c = omega arith
@@ -177,10 +181,10 @@ loop-k-preserved t c =
       whole = i.whole;
       place = place-next _ _ _ (c.loop-k.k - 2) (c.loop-k.k + 1 - 2) _ c.loop-k.invariant.place (omega (arith, c.loop-k.invariant.low)) c.after-e.ensures.0 c.after-e.ensures.1 c.after-e.ensures.2;
       right = right-more _ _ _ c.loop-k.k _ v S i.low h at i.right ok;
-      some = c.tour-v.ensures.bound.0 c.if-v-ne0.false;
-      most = c.tour-v.ensures.bound.1;
-      equal = i.equal ∙ slots-down _ _ _ _ c.loop-k.k (4 * c.number-size.result) i.low (omega arith) _ at test _ c.byte-in-loop-k.ensures.0 (sym u ∙ c.is_directory.ensures) _ _ (c.tour-v.ensures.equal ∙ child-down _ _ _ _ _ _ g.0 (sym g.1 ∙ c.child_ok.ensures) _ c.number.ensures.0) c.if-v-ne0.false;
+      some = c.in_ok-met.ensures.bound.0;
+      most = c.in_ok-met.ensures.bound.1;
+      equal = i.equal ∙ slots-down _ _ _ _ c.loop-k.k (4 * c.number-size.result) i.low (omega arith) _ at test _ c.byte-in-loop-k.ensures.0 (sym u ∙ c.is_directory.ensures) _ _ (c.in_ok-met.ensures.equal ∙ child-down _ _ _ _ _ _ g.0 (sym g.1 ∙ c.child_ok.ensures) _ c.number.ensures.0) refl;
     }
 
 pub returns : goal.returns
-returns t c = record { equal = sym (c.loop-k.invariant.equal ∙ slots_end _ _ _ _ c.loop-k.k (4 * c.number-size.result) (omega arith)); bound = (λ z. c.loop-k.invariant.some, c.loop-k.invariant.most) }
+returns t c = record { equal = sym (c.loop-k.invariant.equal ∙ slots_end _ _ _ _ c.loop-k.k (4 * c.number-size.result) (omega arith)); bound = (c.loop-k.invariant.some, c.loop-k.invariant.most) }

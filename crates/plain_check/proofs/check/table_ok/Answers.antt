@@ -1,5 +1,6 @@
 use mathlib.Core.Path.{refl, ◌∙◌}
-use native.Mathlib.Omega.{arith}
+use Rattle.std.proofs.Common.{rules, arith}
+use Rattle.plain_check.specs.Plain.{Claims}
 use Rattle.plain_check.proofs.Walks.Tests.{taken, left}
 use Rattle.plain_check.proofs.Walks.Stages.{six-all}
 use Rattle.plain_check.proofs.check.table_ok.Goals as goal
@@ -9,9 +10,6 @@ table_blocks-t-requires c = c.requires.high
 
 pub overflow_add-t : goal.overflow_add-t
 overflow_add-t c = omega (arith, c.table_blocks-t.ensures, c.requires.high)
-
-pub tally-claims-requires : goal.tally-claims-requires
-tally-claims-requires c = (c.requires.high, omega (arith, c.table_blocks-t.ensures, c.requires.high), omega arith)
 
 pub overflow_add-t-2 : goal.overflow_add-t-2
 overflow_add-t-2 c = omega (arith, c.table_blocks-t.ensures, c.requires.high)
@@ -28,8 +26,8 @@ entries_are-requires-2 c = omega (arith, c.table_blocks-t.ensures, c.requires.hi
 pub all_counted-requires : goal.all_counted-requires
 all_counted-requires c = c.requires
 
-pub returns-then-claims-n : goal.returns-then-claims-n
-returns-then-claims-n c = taken _ _ _ (six-all c.args.image.now c.args.n _ c.requires c.table_blocks-t.ensures _ c.tally-claims.ensures _ _ _ c.entries_are.ensures c.entries_are-2.ensures c.all_counted.ensures) c.if-claims-n.true
+pub returns-then-claimed-n : goal.returns-then-claimed-n
+returns-then-claimed-n c = taken _ _ _ (six-all c.args.image.now c.args.n _ c.requires c.table_blocks-t.ensures _ (c.tally-claimed.ensures Claims (λ first k r h l p. search rules)) _ _ _ c.entries_are.ensures c.entries_are-2.ensures c.all_counted.ensures) c.if-claimed-n.true
 
-pub returns-else-claims-n : goal.returns-else-claims-n
-returns-else-claims-n c = c.if-claims-n.false ∙ left _ _ _ (six-all c.args.image.now c.args.n _ c.requires c.table_blocks-t.ensures _ c.tally-claims.ensures _ _ _ c.entries_are.ensures c.entries_are-2.ensures refl) c.if-claims-n.false
+pub returns-else-claimed-n : goal.returns-else-claimed-n
+returns-else-claimed-n c = c.if-claimed-n.false ∙ left _ _ _ (six-all c.args.image.now c.args.n _ c.requires c.table_blocks-t.ensures _ (c.tally-claimed.ensures Claims (λ first k r h l p. search rules)) _ _ _ c.entries_are.ensures c.entries_are-2.ensures refl) c.if-claimed-n.false

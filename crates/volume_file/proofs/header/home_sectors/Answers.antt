@@ -3,4 +3,4 @@ use Rattle.volume_file.proofs.header.home_sectors.Goals as goal
 
 pub returns : goal.returns
 unfolding home_sectors
-returns c = rw (c.get32.ensures, c.get32-2.ensures, c.get32-3.ensures, c.block-head.ensures.bytes)
+returns c = rw (c.home.ensures, c.told.ensures.image, c.told.ensures.journal, c.told.ensures.own, c.block.ensures.bytes)

@@ -3,4 +3,4 @@ use Rattle.volume_file.proofs.log.address.Goals as goal
 
 pub returns : goal.returns
 unfolding address
-returns c = c.get32.ensures
+returns c = rw (c.get32.ensures, c.address_at.ensures)

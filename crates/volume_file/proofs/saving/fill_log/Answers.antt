@@ -1,7 +1,5 @@
-use mathlib.Core.Path.{◌∙◌}
-use native.Mathlib.Omega.{arith}
+use Rattle.std.proofs.Common.{sym, ◌∙◌, arith}
 use Rattle.volume_file.proofs.Walks.Logging.{together-long, log-start, log-test, log-skip, log-room, log-take, log-count, log-few, log-end}
-use Rattle.volume_file.proofs.Walks.Turns.{test-true, test-false}
 use Rattle.volume_file.proofs.saving.fill_log.Goals as goal
 
 pub loop-i-init : goal.loop-i-init
@@ -10,29 +8,20 @@ loop-i-init c = log-start _ _ _
 pub changed-requires : goal.changed-requires
 changed-requires c = (c.requires.0, omega arith, c.loop-i.invariant.long ∙ c.requires.1, c.requires.2)
 
-pub overflow_step-i : goal.overflow_step-i
-overflow_step-i c = omega arith
-
-pub loop-i-smaller-then-not-changed : goal.loop-i-smaller-then-not-changed
-loop-i-smaller-then-not-changed c = omega arith
-
 pub loop-i-preserved-then-not-changed : goal.loop-i-preserved-then-not-changed
 loop-i-preserved-then-not-changed c =
     let p = c.requires in
     let l = c.loop-i in
     let f = together-long _ _ _ _ p.0 in
-    let t = test-false _ _ c.if-not-changed.true-raw (log-test _ _ _ _ _ _ l.invariant (omega arith) p.1 f _ c.changed.ensures) in
+    let t = sym (log-test _ _ _ _ _ _ l.invariant (omega arith) p.1 f _ c.changed.ensures) ∙ c.if-not-changed.true in
     log-skip _ _ _ _ _ _ l.invariant (omega arith) p.1 f t
-
-pub sector_of-requires : goal.sector_of-requires
-sector_of-requires c = (c.requires.0, omega arith)
 
 pub log_one-requires : goal.log_one-requires
 log_one-requires c =
     let p = c.requires in
     let l = c.loop-i in
     let f = together-long _ _ _ _ p.0 in
-    let t = test-true _ _ c.if-not-changed.false-raw (log-test _ _ _ _ _ _ l.invariant (omega arith) p.1 f _ c.changed.ensures) in
+    let t = sym (log-test _ _ _ _ _ _ l.invariant (omega arith) p.1 f _ c.changed.ensures) ∙ c.if-not-changed.false in
     (c.sector_of.ensures.size, log-room _ _ _ _ _ _ l.invariant (omega arith) p.1 f t, omega arith, l.invariant.long ∙ p.1, p.2)
 
 pub overflow_add-k : goal.overflow_add-k
@@ -40,25 +29,16 @@ overflow_add-k c =
     let p = c.requires in
     let l = c.loop-i in
     let f = together-long _ _ _ _ p.0 in
-    let t = test-true _ _ c.if-not-changed.false-raw (log-test _ _ _ _ _ _ l.invariant (omega arith) p.1 f _ c.changed.ensures) in
+    let t = sym (log-test _ _ _ _ _ _ l.invariant (omega arith) p.1 f _ c.changed.ensures) ∙ c.if-not-changed.false in
     omega (arith, log-room _ _ _ _ _ _ l.invariant (omega arith) p.1 f t)
-
-pub overflow_step-i-in-loop-i : goal.overflow_step-i-in-loop-i
-overflow_step-i-in-loop-i c = omega arith
-
-pub loop-i-smaller : goal.loop-i-smaller
-loop-i-smaller c = omega arith
 
 pub loop-i-preserved : goal.loop-i-preserved
 loop-i-preserved c =
     let p = c.requires in
     let l = c.loop-i in
     let f = together-long _ _ _ _ p.0 in
-    let t = test-true _ _ c.if-not-changed.false-raw (log-test _ _ _ _ _ _ l.invariant (omega arith) p.1 f _ c.changed.ensures) in
+    let t = sym (log-test _ _ _ _ _ _ l.invariant (omega arith) p.1 f _ c.changed.ensures) ∙ c.if-not-changed.false in
     log-take _ _ _ _ _ _ l.invariant (omega arith) p.1 f t _ _ c.sector_of.ensures.bytes c.log_one.ensures
-
-pub shape_of-file : goal.shape_of-file
-shape_of-file c = c.loop-i.invariant.long
 
 pub returns : goal.returns
 returns c =
