@@ -66,7 +66,7 @@ fn follows(last: u32, number: u32) -> bool
     number != 0 && (last == 0 || number - 1 == last)
 }
 
-// The form of a file that has these records.
+// The form of a file that has these records. Each record says how long it is, so the offset moves on by that and no `for` counts it.
 fn scan(records: &[u8]) -> Option<Form>
     requires { length records.now ≤ max_form }
     ensures { MatchOption result (numbered (records_in max_revisions records.now) ≡ broken) (λ f. Counted records.now true f.used f.count f.last f.oldest) }
@@ -108,7 +108,7 @@ pub fn parse(room: &[u8], size: usize) -> Option<Form>
     scan(&room[5..used])
 }
 
-// The data of revision x among some records, if it stands there.
+// The data of revision x among some records, if it stands there. The offset moves on as in `scan`.
 fn find_record(records: &[u8], x: u32) -> Option<&[u8]>
     requires { records_in max_revisions records.now ≡ held (held_by records.now) }
     ensures { MatchOption result (stands x (held_by records.now) ≡ false) (λ bytes. (stands x (held_by records.now) ≡ true) × (bytes.now ≡ data_of x (held_by records.now)) × (length bytes.now ≤ max_setting)) }

@@ -22,7 +22,8 @@ fn zero_in_block(image: &[u8], b: usize, o: usize, m: usize) -> bool
     layout::bytes::all_zero(&block[o..o + m])
 }
 
-// Whether the `count` bytes from `offset` on of the chain of k blocks from `first` on are all 0.
+// Whether the `count` bytes from `offset` on of the chain of k blocks from `first` on are all 0. Each block names the next, so no `for` goes over them; `left`
+// counts those that are left, by which the loop ends.
 fn zero_along(image: &[u8], n: usize, k: usize, first: usize, offset: usize, count: usize) -> bool
     requires { (ChainBelow image.now n first k) × (offset + count ≤ 512 * k) }
     ensures { result ≡ all_zero (part (joined (block image.now) (chain (next image.now) first k)) offset count) }

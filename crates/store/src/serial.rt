@@ -1,5 +1,5 @@
 // Serial numbers, and their paths in a directory.
-ghost use Rattle.std.specs.Prelude.{◌≡◌, ◌≤◌, length, take};
+ghost use Rattle.std.specs.Prelude.{◌≡◌, ◌++◌, ◌-◌, ◌≤◌, length, take};
 ghost use Rattle.layout.specs.Bytes.{zeros};
 ghost use Rattle.layout.specs.Directory.{is_file};
 ghost use Rattle.layout.specs.Check.{check};
@@ -83,11 +83,12 @@ fn no_path() -> [u8; MAX_PATH]
     [0; MAX_PATH]
 }
 
-// The path of a serial number in a directory.
+// The path of a serial number in a directory, and zeros behind it.
 fn path_of(directory: &[u8], serial: &[u8]) -> Path
     requires { Addressed directory.now serial.now }
     ensures path { take result.length result.bytes ≡ path_of directory.now serial.now }
     ensures inside { result.length ≤ 665 }
+    ensures bytes { result.bytes ≡ path_of directory.now serial.now ++ zeros (665 - length (path_of directory.now serial.now)) }
 {
     let k = front_length(directory);
     let mut bytes = no_path();

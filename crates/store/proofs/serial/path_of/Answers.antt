@@ -28,3 +28,6 @@ returns-clause-path c =
 
 pub returns-clause-inside : goal.returns-clause-inside
 returns-clause-inside c = let s = path-short _ _ c.requires in omega (arith, c.front_length-k.ensures)
+
+pub returns-clause-bytes : goal.returns-clause-bytes
+returns-clause-bytes c = path-stored _ _ c.requires _ c.no_path-bytes.result c.copy_part.new.dst _ c.front_length-k.ensures.0 c.no_path-bytes.ensures c.copy_part.ensures c.copy_part-2.ensures
