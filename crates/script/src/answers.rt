@@ -17,19 +17,23 @@ pub struct Numbers {
     pub fourth: u32,
 }
 
+// Four zeros: an answer names the numbers that it has.
+pub const NO_NUMBERS: Numbers = Numbers {
+    first: 0,
+    second: 0,
+    third: 0,
+    fourth: 0,
+};
+
 // Writes the numbers over the first 16 bytes.
 pub fn put_numbers(part: &mut [u8], n: Numbers)
     requires { 16 ≤ length part.old }
     ensures { part.new ≡ splice part.old 0 (numbers n.first n.second n.third n.fourth) }
 {
-    let first = n.first;
-    let second = n.second;
-    let third = n.third;
-    let fourth = n.fourth;
-    volume::number::put32(part, 0, first);
-    volume::number::put32(part, 4, second);
-    volume::number::put32(part, 8, third);
-    volume::number::put32(part, 12, fourth);
+    volume::number::put32(part, 0, n.first);
+    volume::number::put32(part, 4, n.second);
+    volume::number::put32(part, 8, n.third);
+    volume::number::put32(part, 12, n.fourth);
 }
 
 // The numbers of a look-up's answer.
@@ -45,9 +49,7 @@ fn found_numbers(f: layout::reading::Found) -> Numbers
         },
         layout::reading::Found::Refused(number) => Numbers {
             first: number,
-            second: 0,
-            third: 0,
-            fourth: 0,
+            ..NO_NUMBERS
         },
     }
 }
@@ -62,9 +64,7 @@ pub fn check(image: &[u8], part: &mut [u8])
         part,
         Numbers {
             first: number,
-            second: 0,
-            third: 0,
-            fourth: 0,
+            ..NO_NUMBERS
         },
     );
 }
@@ -88,14 +88,11 @@ fn filled_numbers(f: layout::reading::Filled) -> Numbers
         layout::reading::Filled::Bytes(count) => Numbers {
             first: 0,
             second: count as u32,
-            third: 0,
-            fourth: 0,
+            ..NO_NUMBERS
         },
         layout::reading::Filled::Refused(number) => Numbers {
             first: number,
-            second: 0,
-            third: 0,
-            fourth: 0,
+            ..NO_NUMBERS
         },
     }
 }
@@ -120,9 +117,8 @@ pub fn read(script: &[u8], at: usize, image: &[u8], part: &mut [u8])
     requires { (Fits script.now at) × (length part.old ≡ 16 + data_length script.now at) }
     ensures { part.new ≡ encoded (filled (filled_at image.now script.now at)) }
 {
-    let a = 16;
     let e = 16 + get32(script, at + 29) as usize;
-    let f = read_into(script, at, image, &mut part[a..e]);
+    let f = read_into(script, at, image, &mut part[16..e]);
     put_numbers(part, filled_numbers(f));
 }
 
@@ -137,15 +133,12 @@ fn put_shown(bytes: &[u8], start: u32, part: &mut [u8])
         Numbers {
             first: start,
             second: size as u32,
-            third: 0,
-            fourth: 0,
+            ..NO_NUMBERS
         },
     );
-    let a = 16;
     let e = 16 + size;
-    let f = 528;
-    layout::bytes::copy(bytes, &mut part[a..e]);
-    layout::bytes::clear(&mut part[e..f]);
+    layout::bytes::copy(bytes, &mut part[16..e]);
+    layout::bytes::clear(&mut part[e..528]);
 }
 
 // Look in place as the item at `at` asks, with its answer.

@@ -42,39 +42,24 @@ fn item_ok(script: &[u8], at: usize) -> bool
     ensures { result ≡ item_ok script.now at }
 {
     let left = script.len() - at;
-    if left < 33 {
+    if left < 33 || left < item_size(script, at) {
         return false;
     }
-    if left < item_size(script, at) {
-        return false;
-    }
-    if script[at] < 1 {
-        return false;
-    }
-    script[at] <= 28
+    matches!(script[at], 1..=28)
 }
 
 // Whether an op fills a buffer: read, and read attributes.
 pub fn fills(op: u8) -> bool
     ensures { result ≡ fills op }
 {
-    if op == 13 {
-        return true;
-    }
-    op == 3
+    matches!(op, 3 | 13)
 }
 
 // Whether an op is a look from 16 on: all to 23 but the two puts.
 pub fn shows(op: u8) -> bool
     ensures { result ≡ shows op }
 {
-    if op == 18 {
-        return false;
-    }
-    if op == 21 {
-        return false;
-    }
-    layout::directory::is_within(op, 16, 23)
+    matches!(op, 16 | 17 | 19 | 20 | 22 | 23)
 }
 
 // The length of the answer to the item at `at`, which is no look from op 16 on.
@@ -95,13 +80,11 @@ fn plain_size(script: &[u8], at: usize) -> usize
 fn head_size(op: u8) -> usize
     ensures { result ≡ head_size op }
 {
-    if op == 16 {
-        return 32;
+    match op {
+        16 => 32,
+        17 => 64,
+        _ => 16,
     }
-    if op == 17 {
-        return 64;
-    }
-    16
 }
 
 // The length of the answer to the item at `at`.
@@ -124,7 +107,7 @@ pub fn well_formed(script: &[u8]) -> bool
         if !item_ok(script, at) {
             return false;
         }
-        at = at + item_size(script, at);
+        at += item_size(script, at);
     }
     true
 }
@@ -141,8 +124,8 @@ pub fn answers_fit(script: &[u8], room: usize) -> bool
         if left < size {
             return false;
         }
-        left = left - size;
-        at = at + item_size(script, at);
+        left -= size;
+        at += item_size(script, at);
     }
     true
 }

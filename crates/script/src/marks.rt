@@ -5,7 +5,7 @@ ghost use Rattle.back.specs.Marks.{info, journal_info};
 ghost use Rattle.script.specs.Script.{Fits, op_at, item_call};
 ghost use Rattle.script.specs.Walks.Scripts.{ItemDone};
 
-use super::answers::Numbers;
+use super::answers::{NO_NUMBERS, Numbers};
 
 // Journal info, a look.
 fn tell(image: &[u8], journal: &[u8]) -> Numbers
@@ -36,8 +36,7 @@ pub fn make(script: &[u8], at: usize, image: &mut [u8], journal: &mut [u8], part
         Numbers {
             first: b.number,
             second: b.done,
-            third: 0,
-            fourth: 0,
+            ..NO_NUMBERS
         },
     );
 }

@@ -6,15 +6,14 @@ ghost use Rattle.layout.specs.Answers.{volume_answer, entry_answer};
 ghost use Rattle.journal.specs.Run.{look, look_answer, described, entered};
 ghost use Rattle.script.specs.Script.{Fits, name_at, data_at, data_length, numbers, volume_head, entry_head, show_at, encoded, answer_size};
 
-use super::answers::Numbers;
+use super::answers::{NO_NUMBERS, Numbers};
 
 // Writes four numbers over the 16 bytes at `at`.
 fn put_group(head: &mut [u8], at: usize, n: Numbers)
     requires { at + 16 ≤ length head.old }
     ensures { head.new ≡ splice head.old at (numbers n.first n.second n.third n.fourth) }
 {
-    let e = at + 16;
-    super::answers::put_numbers(&mut head[at..e], n);
+    super::answers::put_numbers(&mut head[at..at + 16], n);
 }
 
 // Writes the volume's numbers.
@@ -30,9 +29,7 @@ fn put_volume(head: &mut [u8], v: layout::overview::VolumeInfo)
     };
     let second = Numbers {
         first: v.root_blocks,
-        second: 0,
-        third: 0,
-        fourth: 0,
+        ..NO_NUMBERS
     };
     put_group(head, 0, first);
     put_group(head, 16, second);
@@ -42,13 +39,13 @@ fn put_volume(head: &mut [u8], v: layout::overview::VolumeInfo)
 fn high(time: u64) -> u32
     ensures { result ≡ time / 0x100000000 }
 {
-    (time / 4294967296) as u32
+    (time / 0x1_0000_0000) as u32
 }
 
 fn low(time: u64) -> u32
     ensures { result ≡ time % 0x100000000 }
 {
-    (time % 4294967296) as u32
+    (time % 0x1_0000_0000) as u32
 }
 
 // The four groups of an entry's numbers.
@@ -77,13 +74,11 @@ fn chains(e: layout::overview::EntryInfo) -> Numbers
 fn times(e: layout::overview::EntryInfo) -> Numbers
     ensures { (result.first ≡ e.created / 0x100000000) × (result.second ≡ e.created % 0x100000000) × (result.third ≡ e.modified / 0x100000000) × (result.fourth ≡ e.modified % 0x100000000) }
 {
-    let created = e.created;
-    let modified = e.modified;
     Numbers {
-        first: high(created),
-        second: low(created),
-        third: high(modified),
-        fourth: low(modified),
+        first: high(e.created),
+        second: low(e.created),
+        third: high(e.modified),
+        fourth: low(e.modified),
     }
 }
 
@@ -91,10 +86,10 @@ fn owners(e: layout::overview::EntryInfo) -> Numbers
     ensures { (result.first ≡ e.ty) × (result.second ≡ e.user) × (result.third ≡ e.group) × (result.fourth ≡ e.permissions) }
 {
     Numbers {
-        first: e.ty as u32,
-        second: e.user as u32,
-        third: e.group as u32,
-        fourth: e.permissions as u32,
+        first: u32::from(e.ty),
+        second: u32::from(e.user),
+        third: u32::from(e.group),
+        fourth: u32::from(e.permissions),
     }
 }
 
@@ -144,11 +139,9 @@ fn info(script: &[u8], at: usize, image: &[u8], part: &mut [u8])
     requires { (Fits script.now at) × (length part.old ≡ 32 + data_length script.now at) }
     ensures { part.new ≡ encoded (described (volume_info image.now (data_at script.now at))) }
 {
-    let z = 0;
-    let a = 32;
     let e = part.len();
-    let v = volume_into(script, at, image, &mut part[a..e]);
-    put_volume(&mut part[z..a], v);
+    let v = volume_into(script, at, image, &mut part[32..e]);
+    put_volume(&mut part[0..32], v);
 }
 
 // An entry, with its answer.
@@ -156,11 +149,9 @@ fn entry(script: &[u8], at: usize, image: &[u8], part: &mut [u8])
     requires { (Fits script.now at) × (length part.old ≡ 64 + data_length script.now at) }
     ensures { part.new ≡ encoded (entered (next_entry image.now (name_at script.now at) (be64 script.now (at + 9)) (data_at script.now at))) }
 {
-    let z = 0;
-    let a = 64;
     let e = part.len();
-    let v = entry_into(script, at, image, &mut part[a..e]);
-    put_entry(&mut part[z..a], v);
+    let v = entry_into(script, at, image, &mut part[64..e]);
+    put_entry(&mut part[0..64], v);
 }
 
 // Make the look of the item at `at`, whose op is 16 or more.

@@ -11,7 +11,7 @@ ghost use Rattle.store.specs.Change.{create, create_directory};
 ghost use Rattle.script.specs.Script.{numbers, Fits, name_at, data_at, op_at, shows, put_at, renew_at, change_at, call_at, item_call, encoded, encoded_item, item_ok, items_from, calls_of, answers_size, leaves, outcome, replay_outcome, JustStarted};
 ghost use Rattle.script.specs.Walks.Scripts.{looks, Item, Whole, CallDone, ItemDone};
 
-use super::answers::Numbers;
+use super::answers::{NO_NUMBERS, Numbers};
 use super::items::{data_of, name_of};
 use layout::number::get64;
 use store::change::Change;
@@ -31,9 +31,7 @@ fn changed_numbers(c: journal::calls::Changed) -> Numbers
         },
         journal::calls::Changed::Refused(number) => Numbers {
             first: number,
-            second: 0,
-            third: 0,
-            fourth: 0,
+            ..NO_NUMBERS
         },
     }
 }
@@ -51,10 +49,24 @@ fn undone_numbers(u: journal::calls::Undone) -> Numbers
         },
         journal::calls::Undone::Refused(number) => Numbers {
             first: number,
-            second: 0,
-            third: 0,
-            fourth: 0,
+            ..NO_NUMBERS
         },
+    }
+}
+
+// What the item at `at` gives for the file or the directory that it asks to create.
+fn given_of(script: &[u8], at: usize, time: u64) -> Given
+    requires { Fits script.now at }
+    ensures bytes { (result.kind ≡ get_or script.now (at + 1) 0) × (result.user ≡ get_or script.now (at + 2) 0) × (result.group ≡ get_or script.now (at + 3) 0) × (result.permissions ≡ get_or script.now (at + 4) 0) }
+    ensures numbers { (result.flags ≡ be32 script.now (at + 5)) × (result.time ≡ time) }
+{
+    Given {
+        kind: script[at + 1],
+        user: script[at + 2],
+        group: script[at + 3],
+        permissions: script[at + 4],
+        flags: layout::number::get32(script, at + 5),
+        time,
     }
 }
 
@@ -64,15 +76,7 @@ fn file_of(script: &[u8], at: usize, time: u64) -> Change
     ensures { asked result (name_at script.now at) (data_at script.now at)
         ≡ create (name_at script.now at) (get_or script.now (at + 1) 0) (get_or script.now (at + 2) 0) (get_or script.now (at + 3) 0) (get_or script.now (at + 4) 0) (be32 script.now (at + 5)) time }
 {
-    let given = Given {
-        kind: script[at + 1],
-        user: script[at + 2],
-        group: script[at + 3],
-        permissions: script[at + 4],
-        flags: layout::number::get32(script, at + 5),
-        time: time,
-    };
-    Change::Volume(VolumeChange::Create(given))
+    Change::Volume(VolumeChange::Create(given_of(script, at, time)))
 }
 
 // The directory that the item at `at` asks to create.
@@ -81,16 +85,8 @@ fn directory_of(script: &[u8], at: usize, time: u64) -> Change
     ensures { asked result (name_at script.now at) (data_at script.now at)
         ≡ create_directory (name_at script.now at) (get_or script.now (at + 1) 0) (get_or script.now (at + 2) 0) (get_or script.now (at + 3) 0) (get_or script.now (at + 4) 0) (be32 script.now (at + 5)) time (be32 script.now (at + 13)) }
 {
-    let given = Given {
-        kind: script[at + 1],
-        user: script[at + 2],
-        group: script[at + 3],
-        permissions: script[at + 4],
-        flags: layout::number::get32(script, at + 5),
-        time: time,
-    };
     Change::Volume(VolumeChange::CreateDirectory {
-        given: given,
+        given: given_of(script, at, time),
         blocks: layout::number::get32(script, at + 13),
     })
 }
@@ -105,11 +101,11 @@ fn renew_of(script: &[u8], at: usize) -> Change
     if op == 24 {
         return Change::Volume(VolumeChange::Shorten {
             size: get64(script, at + 9) as usize,
-            time: time,
+            time,
         });
     }
     if op == 25 {
-        return Change::Volume(VolumeChange::Replace { time: time });
+        return Change::Volume(VolumeChange::Replace { time });
     }
     if op == 26 {
         return Change::Volume(VolumeChange::Move);
@@ -130,7 +126,7 @@ fn change_of(script: &[u8], at: usize) -> Change
     if op == 6 {
         return Change::Volume(VolumeChange::Write {
             offset: get64(script, at + 9) as usize,
-            time: time,
+            time,
         });
     }
     if op == 9 {
@@ -149,7 +145,7 @@ fn change_of(script: &[u8], at: usize) -> Change
         return Change::Volume(VolumeChange::ClearFlags);
     }
     if op == 18 {
-        return Change::Put { time: time };
+        return Change::Put { time };
     }
     renew_of(script, at)
 }
@@ -220,10 +216,7 @@ fn change(script: &[u8], at: usize, image: &mut [u8], journal: &mut [u8], part: 
 fn is_look(op: u8) -> bool
     ensures { result ≡ looks op }
 {
-    if op == 13 {
-        return true;
-    }
-    op <= 4
+    op <= 4 || op == 13
 }
 
 // Make the call of the item at `at`, which is no list and no call on marks.
@@ -250,8 +243,7 @@ fn make_list(script: &[u8], at: usize, image: &mut [u8], journal: &mut [u8], par
         Numbers {
             first: w.number,
             second: w.done,
-            third: 0,
-            fourth: 0,
+            ..NO_NUMBERS
         },
     );
 }
@@ -295,7 +287,7 @@ fn execute(script: &[u8], image: &mut [u8], journal: &mut [u8], out: &mut [u8])
         let size = super::items::item_size(script, at);
         let r = q + super::items::answer_size(script, at);
         make(script, at, image, journal, &mut out[q..r]);
-        at = at + size;
+        at += size;
         q = r;
     }
 }

@@ -15,7 +15,7 @@ fn directory_length(script: &[u8], at: usize) -> usize
 {
     let name = get32(script, at + 25) as usize;
     let told = get32(script, at + 5) as usize;
-    layout::content::least(told, name)
+    told.min(name)
 }
 
 // The directory of the item at `at`.
@@ -90,9 +90,7 @@ pub fn get(script: &[u8], at: usize, image: &[u8], part: &mut [u8])
     requires { (Fits script.now at) × (length part.old ≡ 16 + data_length script.now at) }
     ensures { part.new ≡ encoded (look_answer image.now (get_at script.now at)) }
 {
-    let a = 16;
-    let e = part.len();
-    let g = get_into(script, at, image, &mut part[a..e]);
+    let g = get_into(script, at, image, &mut part[16..]);
     super::answers::put_numbers(
         part,
         Numbers {

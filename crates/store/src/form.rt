@@ -1,8 +1,10 @@
 // The form of a file of the store, in a room that has the file's first bytes.
-ghost use Rattle.std.specs.Prelude.{◌+◌, ◌-◌, ◌≤◌, ◌<◌, ◌≡◌, true, false, ◌∷◌, length};
+ghost use Rattle.std.specs.Prelude.{◌+◌, ◌-◌, ◌≤◌, ◌<◌, ◌≡◌, ◌≢◌, true, false, ◌∷◌, length, MatchOption, IfSome};
 ghost use Rattle.layout.specs.Bytes.{be32, bytes4, zeros, part, splice};
-ghost use Rattle.store.specs.Settings.{max_setting, max_revisions, max_number, record_bytes, whole_file, encoded, held, records_in, added};
-ghost use Rattle.store.specs.Walks.Forms.{max_form, length_at, follows_on, held_by, in_room, form_in, Counted, Summary, Parsed, dropped_by, length_after, revision, Placed};
+ghost use Rattle.store.specs.Settings.{max_setting, max_revisions, max_number, record_bytes, whole_file, encoded, broken, held, records_in, numbered, added};
+ghost use Rattle.store.specs.Get.{stands, data_of};
+ghost use Rattle.store.specs.Walks.Loads.{Loaded};
+ghost use Rattle.store.specs.Walks.Forms.{max_form, length_at, follows_on, held_by, in_room, form_in, Counted, Summary, dropped_by, length_after, revision};
 
 use layout::number::get32;
 use volume::number::put32;
@@ -23,36 +25,21 @@ pub fn empty_room() -> [u8; MAX_FORM]
     [0u8; MAX_FORM]
 }
 
-// Whether a file is of the form, its used length, how many revisions it has, the number of the latest and the length of the oldest record.
+// Of a file of the form: its used length, how many revisions it has, the number of the latest, 0 if there is none, and the length of the oldest record.
 #[derive(Clone, Copy)]
 #[derive(Drop)]
 pub struct Form {
-    pub ok: bool,
     pub used: usize,
     pub count: usize,
     pub last: u32,
     pub oldest: usize,
 }
 
-// A file that is not of the form.
-pub fn not_of_form() -> Form
-    ensures { result.ok ≡ false }
-{
-    Form {
-        ok: false,
-        used: 0,
-        count: 0,
-        last: 0,
-        oldest: 0,
-    }
-}
-
 // The form before the first revision.
 pub fn no_records() -> Form
-    ensures { (result.ok ≡ true) × (result.used ≡ 5) × (result.count ≡ 0) × (result.last ≡ 0) × (result.oldest ≡ 0) }
+    ensures { (result.used ≡ 5) × (result.count ≡ 0) × (result.last ≡ 0) × (result.oldest ≡ 0) }
 {
     Form {
-        ok: true,
         used: 5,
         count: 0,
         last: 0,
@@ -60,144 +47,90 @@ pub fn no_records() -> Form
     }
 }
 
-// A byte as a number.
-fn wide(x: u8) -> usize
-    ensures { (result ≡ x) × (result < 256) }
-{
-    x as usize
-}
-
-// The length of the record at `at`, or 0 if none stands there.
-fn record_length(records: &[u8], at: usize) -> usize
+// The length of the record at `at`, if one stands there.
+fn record_length(records: &[u8], at: usize) -> Option<usize>
     requires { at < length records.now }
-    ensures { result ≡ length_at records.now at }
+    ensures { MatchOption result (length_at records.now at ≡ 0) (λ size. (size ≡ length_at records.now at) × (size ≢ 0)) }
 {
-    let size = wide(records[at]);
-    if MAX_SETTING < size {
-        return 0;
+    let size = usize::from(records[at]);
+    if MAX_SETTING < size || records.len() - at < 5 + size {
+        return None;
     }
-    if records.len() - at < 5 + size {
-        return 0;
-    }
-    5 + size
+    Some(5 + size)
 }
 
 // Whether a number may follow the last one, 0 if there is none.
 fn follows(last: u32, number: u32) -> bool
     ensures { result ≡ follows_on last number }
 {
-    if last == 0 {
-        return 0 < number;
-    }
-    if number == 0 {
-        return false;
-    }
-    number - 1 == last
+    number != 0 && (last == 0 || number - 1 == last)
 }
 
-// The form of a file that has these records.
-fn scan(records: &[u8]) -> Form
+// The form of a file that has these records. Each record says how long it is, so the offset moves on by that and no `for` counts it.
+fn scan(records: &[u8]) -> Option<Form>
     requires { length records.now ≤ max_form }
-    ensures { Counted records.now result.ok result.used result.count result.last result.oldest }
+    ensures { MatchOption result (numbered (records_in max_revisions records.now) ≡ broken) (λ f. Counted records.now true f.used f.count f.last f.oldest) }
 {
     let mut at = 0;
     let mut count = 0;
     let mut last = 0;
     while at < records.len() {
-        let size = record_length(records, at);
-        if size == 0 {
-            return not_of_form();
-        }
+        let size = record_length(records, at)?;
         let number = get32(records, at + 1);
-        if !follows(last, number) {
-            return not_of_form();
+        if !follows(last, number) || count == MAX_REVISIONS {
+            return None;
         }
-        if count == MAX_REVISIONS {
-            return not_of_form();
-        }
-        count = count + 1;
+        count += 1;
         last = number;
-        at = at + size;
+        at += size;
     }
     if count == 0 {
-        return not_of_form();
+        return None;
     }
-    Form {
-        ok: true,
+    Some(Form {
         used: 5 + records.len(),
-        count: count,
-        last: last,
-        oldest: 5 + wide(records[0]),
-    }
+        count,
+        last,
+        oldest: 5 + usize::from(records[0]),
+    })
 }
 
 // The form of a file of `size` bytes, but for the zeros behind the records.
-pub fn parse(room: &[u8], size: usize) -> Form
+pub fn parse(room: &[u8], size: usize) -> Option<Form>
     requires { length room.now ≡ max_form }
-    ensures form { Parsed (form_in room.now size) room.now result.ok result.used result.count result.last result.oldest }
-    ensures used { result.ok ≡ true → result.used ≡ be32 room.now 1 }
+    ensures form { Loaded (form_in room.now size) room.now result }
+    ensures used { IfSome result (λ f. f.used ≡ be32 room.now 1) }
 {
-    if room[0] != 1 {
-        return not_of_form();
-    }
     let used = get32(room, 1) as usize;
-    if used < 5 {
-        return not_of_form();
+    if room[0] != 1 || used < 5 || size < used || MAX_FORM < used {
+        return None;
     }
-    if size < used {
-        return not_of_form();
-    }
-    if MAX_FORM < used {
-        return not_of_form();
-    }
-    let a = 5;
-    scan(&room[a..used])
+    scan(&room[5..used])
 }
 
-// Where a revision's data stands: its offset in a room and its length.
-#[derive(Drop)]
-pub struct Place {
-    pub found: bool,
-    pub at: usize,
-    pub size: usize,
-}
-
-// Where the data of revision x stands among some records.
-fn find_record(records: &[u8], x: u32) -> Place
+// The data of revision x among some records, if it stands there. The offset moves on as in `scan`.
+fn find_record(records: &[u8], x: u32) -> Option<&[u8]>
     requires { records_in max_revisions records.now ≡ held (held_by records.now) }
-    ensures { Placed (held_by records.now) records.now x result.found result.at result.size }
+    ensures { MatchOption result (stands x (held_by records.now) ≡ false) (λ bytes. (stands x (held_by records.now) ≡ true) × (bytes.now ≡ data_of x (held_by records.now)) × (length bytes.now ≤ max_setting)) }
 {
     let mut at = 0;
     while at < records.len() {
-        let size = wide(records[at]);
+        let start = at + 5;
+        let end = start + usize::from(records[at]);
         if get32(records, at + 1) == x {
-            return Place {
-                found: true,
-                at: at + 5,
-                size: size,
-            };
+            return Some(&records[start..end]);
         }
-        at = at + 5 + size;
+        at = end;
     }
-    Place {
-        found: false,
-        at: 0,
-        size: 0,
-    }
+    None
 }
 
-// Where the data of revision x stands in a room.
-pub fn find(room: &[u8], used: usize, x: u32) -> Place
+// The data of revision x in a room, if it stands there.
+pub fn find(room: &[u8], used: usize, x: u32) -> Option<&[u8]>
     requires { (5 ≤ used) × (used ≤ length room.now) × (records_in max_revisions (part room.now 5 (used - 5)) ≡ held (in_room room.now used)) }
-    ensures { Placed (in_room room.now used) room.now x result.found result.at result.size }
+    ensures { MatchOption result (stands x (in_room room.now used) ≡ false) (λ bytes. (stands x (in_room room.now used) ≡ true) × (bytes.now ≡ data_of x (in_room room.now used)) × (length bytes.now ≤ max_setting)) }
 {
-    let a = 5;
-    let p = find_record(&room[a..used], x);
-    Place {
-        found: p.found,
-        at: p.at + 5,
-        size: p.size,
-    }
+    find_record(&room[5..used], x)
 }
 
 // The length of the records that a further revision drops.
@@ -205,9 +138,10 @@ fn dropped(form: Form) -> usize
     ensures { result ≡ dropped_by form.count form.oldest }
 {
     if form.count < MAX_REVISIONS {
-        return 0;
+        0
+    } else {
+        form.oldest
     }
-    form.oldest
 }
 
 // The used length with a revision of `size` bytes more.
@@ -224,8 +158,7 @@ fn put_start(room: &mut [u8], at: usize, first: u8, number: u32)
     ensures { room.new ≡ splice room.old at (first ∷ bytes4 number) }
 {
     room[at] = first;
-    let a = at + 1;
-    put32(room, a, number);
+    put32(room, at + 1, number);
 }
 
 // Writes a record.
@@ -234,8 +167,7 @@ fn put_record(room: &mut [u8], at: usize, number: u32, bytes: &[u8])
     ensures { room.new ≡ splice room.old at (record_bytes (revision number bytes.now)) }
 {
     put_start(room, at, bytes.len() as u8, number);
-    let a = at + 5;
-    layout::bytes::copy_part(bytes, 0, room, a, bytes.len());
+    layout::bytes::copy_part(bytes, 0, room, at + 5, bytes.len());
 }
 
 // Sets all bytes from `at` on to 0.
@@ -243,8 +175,7 @@ fn clear_from(room: &mut [u8], at: usize)
     requires { at ≤ length room.old }
     ensures { room.new ≡ splice room.old at (zeros (length room.old - at)) }
 {
-    let e = room.len();
-    layout::bytes::clear(&mut room[at..e]);
+    room[at..].fill(0);
 }
 
 // The file with a revision more: the records with it, the oldest dropped where 16 stand, and zeros to the end of the new room. Gives the new used length.

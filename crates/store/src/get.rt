@@ -1,10 +1,11 @@
 // Get: the data of a revision of a serial number, from any image.
-ghost use Rattle.std.specs.Prelude.{◌*◌, ◌≤◌, ◌≡◌, cond, length};
+ghost use Rattle.std.specs.Prelude.{◌*◌, ◌≤◌, ◌≡◌, length};
 ghost use Rattle.layout.specs.Geometry.{block_count};
 ghost use Rattle.layout.specs.Walks.Shapes.{ChainBelow};
 ghost use Rattle.store.specs.Settings.{max_setting, revisions};
 ghost use Rattle.store.specs.Get.{the_latest, the_number, got_answer, get_in, get};
-ghost use Rattle.store.specs.Walks.Forms.{max_form, bytes_of, which, sought};
+ghost use Rattle.store.specs.Walks.Loads.{asked_revision};
+ghost use Rattle.store.specs.Walks.Forms.{max_form, bytes_of, sought};
 
 use super::form::MAX_SETTING;
 use layout::file::File;
@@ -23,66 +24,49 @@ fn refused(number: u32) -> Got
     ensures { (result.number ≡ number) × (result.revision ≡ 0) × (result.length ≡ 0) }
 {
     Got {
-        number: number,
+        number,
         revision: 0,
         length: 0,
     }
 }
 
-// The number of the revision asked for: the last one, or the one named.
-fn wanted_number(newest: bool, last: u32, revision: u32) -> u32
-    ensures { result ≡ cond newest last revision }
-{
-    if newest {
-        return last;
-    }
-    revision
-}
-
-// Get from the file that was found, with a room for its first bytes.
+// Get of a revision, or of the latest, from the file that was found, with a room for its first bytes.
 fn get_from(
     image: &[u8],
     found: File,
-    newest: bool,
-    revision: u32,
+    revision: Option<u32>,
     buffer: &mut [u8],
     room: &mut [u8],
 ) -> Got
     requires { (ChainBelow image.now (block_count image.now) found.first found.blocks) × (found.size ≤ 512 * found.blocks)
         × (length room.old ≡ max_form) × (max_setting ≤ length buffer.old) }
     ensures { got_answer result.number result.revision result.length buffer.new
-        ≡ sought (revisions (bytes_of image.now found.first found.size found.blocks)) (which newest revision) buffer.old }
+        ≡ sought (revisions (bytes_of image.now found.first found.size found.blocks)) (asked_revision revision) buffer.old }
 {
-    let form = super::load::load(image, found, room);
-    if !form.ok {
+    let Some(form) = super::load::load(image, found, room) else {
         return refused(24);
-    }
-    let x = wanted_number(newest, form.last, revision);
-    let used = form.used;
-    let p = super::form::find(room, used, x);
-    if !p.found {
+    };
+    let x = revision.unwrap_or(form.last);
+    let Some(bytes) = super::form::find(room, form.used, x) else {
         return refused(23);
-    }
-    let at = p.at;
-    let size = p.size;
-    layout::bytes::copy_part(room, at, buffer, 0, size);
+    };
+    buffer[..bytes.len()].copy_from_slice(bytes);
     Got {
         number: 0,
         revision: x,
-        length: size as u32,
+        length: bytes.len() as u32,
     }
 }
 
-// Get of the last revision or of the one named.
+// Get of a revision, or of the latest.
 fn get_either(
     image: &[u8],
     directory: &[u8],
     serial: &[u8],
-    newest: bool,
-    revision: u32,
+    revision: Option<u32>,
     buffer: &mut [u8],
 ) -> Got
-    ensures { got_answer result.number result.revision result.length buffer.new ≡ get_in image.now directory.now serial.now (which newest revision) buffer.old }
+    ensures { got_answer result.number result.revision result.length buffer.new ≡ get_in image.now directory.now serial.now (asked_revision revision) buffer.old }
 {
     let refusal = layout::check::check(image);
     if refusal != 0 {
@@ -97,7 +81,7 @@ fn get_either(
         return refused(10);
     }
     let mut room = super::form::empty_room();
-    get_from(image, found, newest, revision, buffer, &mut room)
+    get_from(image, found, revision, buffer, &mut room)
 }
 
 // Get from a directory: fills the first bytes of the buffer with the data of a revision.
@@ -110,14 +94,14 @@ pub fn get_in(
 ) -> Got
     ensures { got_answer result.number result.revision result.length buffer.new ≡ get_in image.now directory.now serial.now (the_number revision) buffer.old }
 {
-    get_either(image, directory, serial, false, revision, buffer)
+    get_either(image, directory, serial, Some(revision), buffer)
 }
 
 // The same with the latest revision.
 pub fn get_latest_in(image: &[u8], directory: &[u8], serial: &[u8], buffer: &mut [u8]) -> Got
     ensures { got_answer result.number result.revision result.length buffer.new ≡ get_in image.now directory.now serial.now the_latest buffer.old }
 {
-    get_either(image, directory, serial, true, 0, buffer)
+    get_either(image, directory, serial, None, buffer)
 }
 
 // Get from the root.

@@ -7,9 +7,11 @@ ghost use Rattle.layout.specs.Table.{next, chain};
 ghost use Rattle.layout.specs.Walks.Entries.{all_zero};
 ghost use Rattle.layout.specs.Walks.Shapes.{ChainBelow};
 ghost use Rattle.store.specs.Settings.{revisions};
-ghost use Rattle.store.specs.Walks.Forms.{max_form, bytes_of, Parsed};
+ghost use Rattle.store.specs.Walks.Loads.{Loaded};
+ghost use Rattle.store.specs.Walks.Forms.{max_form, bytes_of};
 
 use super::form::{Form, MAX_FORM};
+use layout::file::File;
 
 // Whether the m bytes from o on of block b are all 0.
 fn zero_in_block(image: &[u8], b: usize, o: usize, m: usize) -> bool
@@ -17,11 +19,11 @@ fn zero_in_block(image: &[u8], b: usize, o: usize, m: usize) -> bool
     ensures { result ≡ all_zero (part image.now (512 * b + o) m) }
 {
     let block = layout::bytes::block(image, b);
-    let e = o + m;
-    layout::bytes::all_zero(&block[o..e])
+    layout::bytes::all_zero(&block[o..o + m])
 }
 
-// Whether the `count` bytes from `offset` on of the chain of k blocks from `first` on are all 0.
+// Whether the `count` bytes from `offset` on of the chain of k blocks from `first` on are all 0. Each block names the next, so no `for` goes over them; `left`
+// counts those that are left, by which the loop ends.
 fn zero_along(image: &[u8], n: usize, k: usize, first: usize, offset: usize, count: usize) -> bool
     requires { (ChainBelow image.now n first k) × (offset + count ≤ 512 * k) }
     ensures { result ≡ all_zero (part (joined (block image.now) (chain (next image.now) first k)) offset count) }
@@ -32,42 +34,40 @@ fn zero_along(image: &[u8], n: usize, k: usize, first: usize, offset: usize, cou
     let mut rest = count;
     while 0 < rest {
         if 512 <= o {
-            o = o - 512;
+            o -= 512;
             b = layout::table::entry(image, b);
-            left = left - 1;
+            left -= 1;
             continue;
         }
-        let m = layout::content::least(512 - o, rest);
+        let m = (512 - o).min(rest);
         if !zero_in_block(image, b, o, m) {
             return false;
         }
-        rest = rest - m;
+        rest -= m;
         o = 0;
         b = layout::table::entry(image, b);
-        left = left - 1;
+        left -= 1;
     }
     true
 }
 
-// Reads the first bytes of a file into the room, and tells its form, with the zeros to the file's end.
-pub fn load(image: &[u8], found: layout::file::File, room: &mut [u8]) -> Form
+// Reads the first bytes of a file into the room, and tells its form if it is of the form, with the zeros to the file's end.
+pub fn load(image: &[u8], found: File, room: &mut [u8]) -> Option<Form>
     requires { (ChainBelow image.now (block_count image.now) found.first found.blocks) × (found.size ≤ 512 * found.blocks) × (length room.old ≡ max_form) }
-    ensures { Parsed (revisions (bytes_of image.now found.first found.size found.blocks)) room.new result.ok result.used result.count result.last result.oldest }
+    ensures { Loaded (revisions (bytes_of image.now found.first found.size found.blocks)) room.new result }
 {
-    let first = found.first;
-    let size = found.size;
-    let blocks = found.blocks;
+    let File {
+        first,
+        size,
+        blocks,
+        ..
+    } = found;
     let n = image.len() / 512;
-    let a = 0;
-    let m = layout::content::least(MAX_FORM, size);
-    layout::content::read_chain(image, n, blocks, first, 0, &mut room[a..m]);
-    let form = super::form::parse(room, size);
-    if !form.ok {
-        return super::form::not_of_form();
+    let m = MAX_FORM.min(size);
+    layout::content::read_chain(image, n, blocks, first, 0, &mut room[..m]);
+    let form = super::form::parse(room, size)?;
+    if !zero_along(image, n, blocks, first, form.used, size - form.used) {
+        return None;
     }
-    let used = form.used;
-    if !zero_along(image, n, blocks, first, used, size - used) {
-        return super::form::not_of_form();
-    }
-    form
+    Some(form)
 }

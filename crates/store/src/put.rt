@@ -1,5 +1,5 @@
 // Put, on an image that the caller has checked. Its three functions, as those of the volume's changes, are given the whole put: directory, serial number, data and time.
-ghost use Rattle.std.specs.Prelude.{◌≡◌, [], suc, ◌+◌, ◌≤◌, max, length};
+ghost use Rattle.std.specs.Prelude.{◌≡◌, [], suc, ◌+◌, ◌≤◌, length};
 ghost use Rattle.layout.specs.Geometry.{block_count};
 ghost use Rattle.layout.specs.Check.{check};
 ghost use Rattle.layout.specs.Paths.{file_refusal};
@@ -17,13 +17,6 @@ ghost use Rattle.store.specs.Walks.Puts.{held_at, rewritten_at, more_refusal, fi
 use super::form::MAX_SETTING;
 use layout::file::File;
 
-// The larger of two numbers.
-fn larger(a: usize, b: usize) -> usize
-    ensures { result ≡ max a b }
-{
-    if a < b { b } else { a }
-}
-
 // What is found out of a file before a put: the refusal, or 0, and its size with the new revision.
 #[derive(Drop)]
 struct Weight {
@@ -35,10 +28,7 @@ struct Weight {
 fn no_size(number: u32) -> Weight
     ensures { result.number ≡ number }
 {
-    Weight {
-        number: number,
-        size: 0,
-    }
+    Weight { number, size: 0 }
 }
 
 // What is found out of a file, with a room for its first bytes: 24 if it is not of the form, 25 if the revision number is used up, or 0.
@@ -46,17 +36,16 @@ fn weigh_in(image: &[u8], found: File, bytes: &[u8], room: &mut [u8]) -> Weight
     requires { (check image.now ≡ 0) × (Standing image.now (file_refusal image.now) found.slot found.block found.first found.size found.blocks) × (length bytes.now ≤ max_setting) × (length room.old ≡ max_form) }
     ensures { Weighed image.now (entry_at found.block found.slot) bytes.now result.number result.size }
 {
-    let form = super::load::load(image, found, room);
-    if !form.ok {
+    let Some(form) = super::load::load(image, found, room) else {
         return no_size(24);
-    }
-    if form.last == 0xFFFFFFFF {
+    };
+    if form.last == u32::MAX {
         return no_size(25);
     }
     let used = super::form::length_after(form, bytes.len());
     Weight {
         number: 0,
-        size: larger(found.size, used),
+        size: found.size.max(used),
     }
 }
 
@@ -98,11 +87,9 @@ fn first_refusal(image: &[u8], directory: &[u8], serial: &[u8]) -> File
     }
     File {
         number: 0,
-        slot: p.slot,
-        block: p.block,
-        first: p.first,
         size: 0,
         blocks: 0,
+        ..p
     }
 }
 
@@ -176,11 +163,10 @@ fn put_in(
     ensures revision { result ≡ suc (latest (held_at image.old (entry_at found.block found.slot))) }
     ensures bytes { image.new ≡ write_at image.old (entry_at found.block found.slot) 0 (rewritten_at image.old (entry_at found.block found.slot) bytes.now) time }
 {
-    let form = super::load::load(image, found, old);
+    let form = super::load::load(image, found, old).unwrap();
     let used = super::form::rewrite(old, form, bytes, new);
-    let a = 0;
-    let k = larger(form.used, used);
-    volume::write::write_at(image, found, 0, &new[a..k], time);
+    let k = form.used.max(used);
+    volume::write::write_at(image, found, 0, &new[..k], time);
     form.last + 1
 }
 
@@ -205,14 +191,12 @@ fn put_first(image: &mut [u8], found: File, bytes: &[u8], time: u64)
     let used = super::form::rewrite(&old, super::form::no_records(), bytes, &mut new);
     let file = File {
         number: 0,
-        slot: found.slot,
-        block: found.block,
         first: 0,
         size: 0,
         blocks: 0,
+        ..found
     };
-    let a = 0;
-    volume::write::write_at(image, file, 0, &new[a..used], time);
+    volume::write::write_at(image, file, 0, &new[..used], time);
 }
 
 // Makes an accepted put; gives the new revision's number.

@@ -1,5 +1,5 @@
 // Serial numbers, and their paths in a directory.
-ghost use Rattle.std.specs.Prelude.{◌≡◌, ◌++◌, ◌-◌, ◌≤◌, length};
+ghost use Rattle.std.specs.Prelude.{◌≡◌, ◌++◌, ◌-◌, ◌≤◌, length, take};
 ghost use Rattle.layout.specs.Bytes.{zeros};
 ghost use Rattle.layout.specs.Directory.{is_file};
 ghost use Rattle.layout.specs.Check.{check};
@@ -21,51 +21,28 @@ const MAX_SERIAL: usize = 16;
 fn serial_byte(x: u8) -> bool
     ensures { result ≡ serial_byte x }
 {
-    if layout::directory::is_within(x, b'0', b'9') {
-        return true;
-    }
-    if layout::directory::is_within(x, b'A', b'Z') {
-        return true;
-    }
-    layout::directory::is_within(x, b'a', b'z')
+    x.is_ascii_alphanumeric()
 }
 
 // Whether a serial number is 1 to 16 such bytes.
 pub fn serial_ok(serial: &[u8]) -> bool
     ensures { result ≡ serial_ok serial.now }
 {
-    if serial.len() < 1 {
-        return false;
-    }
-    if MAX_SERIAL < serial.len() {
-        return false;
-    }
-    for i in 0..serial.len() {
-        if !serial_byte(serial[i]) {
-            return false;
-        }
-    }
-    true
+    0 < serial.len() && serial.len() <= MAX_SERIAL && serial.iter().all(|x| serial_byte(*x))
 }
 
 // Whether a directory is the root, `/` alone.
 fn is_root(directory: &[u8]) -> bool
     ensures { result ≡ is_root_path directory.now }
 {
-    if directory.len() != 1 {
-        return false;
-    }
-    directory[0] == b'/'
+    matches!(directory, b"/")
 }
 
 // The refusal of a directory and a serial number by themselves, 22 or 17, or 0; data or buffer fit or do not.
 pub fn address_refusal(directory: &[u8], serial: &[u8], fits: bool) -> u32
     ensures { result ≡ address_refusal directory.now serial.now fits }
 {
-    if !fits {
-        return 22;
-    }
-    if !serial_ok(serial) {
+    if !fits || !serial_ok(serial) {
         return 22;
     }
     if is_root(directory) {
@@ -83,28 +60,45 @@ fn front_length(directory: &[u8]) -> usize
     ensures { (result ≡ length (front directory.now)) × (result ≤ length directory.now) }
 {
     if is_root(directory) {
-        return 0;
+        0
+    } else {
+        directory.len()
     }
-    directory.len()
 }
 
-// An array for a path: the longest has 8 directories of 81 bytes and 17 bytes more.
-fn no_path() -> [u8; 665]
+// The longest path has 8 directories of 81 bytes and 17 bytes more.
+const MAX_PATH: usize = 665;
+
+// A path in the first bytes of an array, since there is no heap.
+#[derive(Drop)]
+struct Path {
+    bytes: [u8; MAX_PATH],
+    length: usize,
+}
+
+// An array for a path.
+fn no_path() -> [u8; MAX_PATH]
     ensures { result ≡ zeros 665 }
 {
-    [0u8; 665]
+    [0; MAX_PATH]
 }
 
-// The path of a serial number in a directory, of so many bytes before the serial number's `/`, and zeros behind it.
-fn path_of(directory: &[u8], k: usize, serial: &[u8]) -> [u8; 665]
-    requires { (Addressed directory.now serial.now) × (k ≡ length (front directory.now)) × (k ≤ length directory.now) }
-    ensures { result ≡ path_of directory.now serial.now ++ zeros (665 - length (path_of directory.now serial.now)) }
+// The path of a serial number in a directory, and zeros behind it.
+fn path_of(directory: &[u8], serial: &[u8]) -> Path
+    requires { Addressed directory.now serial.now }
+    ensures path { take result.length result.bytes ≡ path_of directory.now serial.now }
+    ensures inside { result.length ≤ 665 }
+    ensures bytes { result.bytes ≡ path_of directory.now serial.now ++ zeros (665 - length (path_of directory.now serial.now)) }
 {
-    let mut path = no_path();
-    layout::bytes::copy_part(directory, 0, &mut path, 0, k);
-    path[k] = b'/';
-    layout::bytes::copy_part(serial, 0, &mut path, k + 1, serial.len());
-    path
+    let k = front_length(directory);
+    let mut bytes = no_path();
+    layout::bytes::copy_part(directory, 0, &mut bytes, 0, k);
+    bytes[k] = b'/';
+    layout::bytes::copy_part(serial, 0, &mut bytes, k + 1, serial.len());
+    Path {
+        bytes,
+        length: k + 1 + serial.len(),
+    }
 }
 
 // The file of a serial number, or the refusal 10.
@@ -112,11 +106,8 @@ pub fn open_file(image: &[u8], directory: &[u8], serial: &[u8]) -> File
     requires { (check image.now ≡ 0) × (Addressed directory.now serial.now) }
     ensures { Opens is_file image.now (path_of directory.now serial.now) (file_refusal image.now (path_of directory.now serial.now)) result.number result.slot result.block result.first result.size result.blocks }
 {
-    let k = front_length(directory);
-    let path = path_of(directory, k, serial);
-    let a = 0;
-    let e = k + 1 + serial.len();
-    layout::file::open_file(image, &path[a..e])
+    let path = path_of(directory, serial);
+    layout::file::open_file(image, &path.bytes[..path.length])
 }
 
 // The place for the file of a serial number, or the refusal, 10, 11 or 13.
@@ -124,11 +115,8 @@ pub fn find_place(image: &[u8], directory: &[u8], serial: &[u8]) -> File
     requires { (check image.now ≡ 0) × (Addressed directory.now serial.now) }
     ensures { Searched image.now (path_of directory.now serial.now) (place_refusal image.now (path_of directory.now serial.now)) result.number result.first result.slot result.block }
 {
-    let k = front_length(directory);
-    let path = path_of(directory, k, serial);
-    let a = 0;
-    let e = k + 1 + serial.len();
-    volume::place::find_place(image, &path[a..e])
+    let path = path_of(directory, serial);
+    volume::place::find_place(image, &path.bytes[..path.length])
 }
 
 // Makes the file of a serial number at its place.
@@ -136,17 +124,14 @@ pub fn create_file(image: &mut [u8], directory: &[u8], serial: &[u8], found: Fil
     requires { (check image.old ≡ 0) × (Addressed directory.now serial.now) × (Vacant image.old (path_of directory.now serial.now) found.first found.slot found.block) }
     ensures { image.new ≡ create_image image.old (path_of directory.now serial.now) 0x60 0 0 0 0 time }
 {
-    let k = front_length(directory);
-    let path = path_of(directory, k, serial);
-    let a = 0;
-    let e = k + 1 + serial.len();
+    let path = path_of(directory, serial);
     let given = Given {
         kind: 0x60,
         user: 0,
         group: 0,
         permissions: 0,
         flags: 0,
-        time: time,
+        time,
     };
-    volume::create::create_at(image, found, &path[a..e], given);
+    volume::create::create_at(image, found, &path.bytes[..path.length], given);
 }

@@ -1,11 +1,13 @@
 -- Each exit of a get.
 use Prim.Native.Nat.{ℕ, ◌*◌, ◌≤◌}
 use mathlib.Core.Path.{◌≡◌, refl, sym, ap, ◌∙◌}
-use mathlib.Core.Bool.{Bool, true, false, not, cond}
+use mathlib.Core.Bool.{Bool, true, false, not}
 use mathlib.Core.List.{List}
 use native.Mathlib.Omega.{arith}
 use lib.ListN.{length}
 use lib.Dec.{eqb, leb}
+use Rattle.std.specs.Prelude.{Option, None, Some}
+use Rattle.std.specs.Option.{unwrap_or}
 use Rattle.layout.specs.Refusals.{require}
 use Rattle.layout.specs.Bytes.{splice}
 use Rattle.layout.specs.Directory.{is_file, file_blocks, content}
@@ -17,13 +19,14 @@ use Rattle.layout.proofs.Laws.Tests.{is_false, first_of-refused, accept-refused}
 use Rattle.store.specs.Settings.{max_setting, Revision, Found, broken, held, revisions, latest}
 use Rattle.store.specs.Put.{path_of, address_refusal, is_there, stored}
 use Rattle.store.specs.Get.{Which, wanted, stands, data_of, GetAnswer, got_answer, get_refusal, get_in}
-use Rattle.store.specs.Walks.Forms.{bytes_of, which, sought}
+use Rattle.store.specs.Walks.Forms.{bytes_of, sought}
+use Rattle.store.specs.Walks.Loads.{asked_revision}
 use Rattle.store.specs.Walks.Addresses.{Addressed}
 use Rattle.store.proofs.Laws.Serials.{addressed, serial-path, serial-shallow, there-accepted}
 
-pub wanted-is : (newest : Bool) (revision : ℕ) (rs : List Revision) (last x : ℕ) → last ≡ latest rs → x ≡ cond newest last revision → x ≡ wanted rs (which newest revision)
-wanted-is true revision rs last x e q = q ∙ e
-wanted-is false revision rs last x e q = q
+pub wanted-is : (revision : Option ℕ) (rs : List Revision) (last x : ℕ) → last ≡ latest rs → x ≡ unwrap_or revision last → x ≡ wanted rs (asked_revision revision)
+wanted-is None rs last x e q = q ∙ e
+wanted-is (Some revision) rs last x e q = q
 
 -- of a file that is there
 module _ (found : Found) (w : Which) (buffer : List ℕ) where

@@ -17,6 +17,10 @@ use Rattle.layout.proofs.Laws.Bytes.{length_part, part-part, part_same, be32-sam
 use Rattle.layout.proofs.Laws.Tests.{and_split, true-not-false, lt-or-ge, within-split, within-join}
 use Rattle.layout.proofs.Walks.Content.{chain_bytes, length-chain_bytes, below-nth}
 use Rattle.store.specs.Settings.{max_revisions, Found, broken, held, records_in, numbered, revisions, latest}
+use Rattle.std.specs.Prelude.{Option, None, Some, MatchOption, IsSome}
+use Rattle.std.proofs.Common.{rules}
+use Rattle.store.specs.declared.form.Form.{Form}
+use Rattle.store.specs.Walks.Loads.{Loaded}
 use Rattle.store.specs.Walks.Forms.{max_form, bytes_of, held_by, in_room, form_in, Counted, Summary, Parsed, Placed}
 use Rattle.store.proofs.Laws.Added.{not-broken}
 use Rattle.store.proofs.Walks.Records.{records-most}
@@ -24,6 +28,14 @@ use Rattle.layout.proofs.Walks.Names.{all_zero-every}
 
 pub parsed-wrong : (found : Found) (room : List ℕ) (ok : Bool) (used count last oldest : ℕ) → ok ≡ false → found ≡ broken → Parsed found room ok used count last oldest
 parsed-wrong found room ok used count last oldest e h = record { right = λ t. absurd (true-not-false t e); wrong = λ f. h }
+
+-- the answer of load: what is of the form has one, and that says what was read
+pub loaded-some : (found : Found) (room : List ℕ) (answer : Option Form) → Loaded found room answer → (found ≡ broken → ⊥) → IsSome answer
+loaded-some found room None h n = absurd (n h)
+loaded-some found room (Some f) h n = search rules
+
+pub loaded-form : (found : Found) (room : List ℕ) (answer : Option Form) (f : Form) → answer ≡ Some f → Loaded found room answer → Parsed found room true f.used f.count f.last f.oldest
+loaded-form found room answer f e h = rw e at h
 
 -- before the first revision
 pub none_in : (room : List ℕ) → in_room room 5 ≡ []
@@ -69,6 +81,11 @@ module _ (room : List ℕ) (size : ℕ) where
           },
           λ t. same t ∙ e,
         )
+
+    pub parse-loaded : (answer : Option Form) → MatchOption answer (numbered (records_in max_revisions (part room 5 (used - 5))) ≡ broken) (λ f. Counted (part room 5 (used - 5)) true f.used f.count f.last f.oldest)
+        → length room ≡ max_form → Loaded (form_in room size) room answer
+    parse-loaded None h long = form-read ∙ h
+    parse-loaded (Some f) C long = (parse-right true f.used f.count f.last f.oldest long C).0
 
 -- a place among the records is one in the room
 pub find-placed : (room : List ℕ) (used x : ℕ) (found : Bool) (at size : ℕ) → 5 ≤ used → used ≤ length room → Placed (in_room room used) (part room 5 (used - 5)) x found at size
@@ -203,11 +220,13 @@ module _ (img : List ℕ) (n first size blocks : ℕ) (B : ChainBelow img n firs
       all_zero-every (part all used (size - used)) ∙ ap (every (λ x. eqb x 0)) (sym d)
 
 -- the three exits of load
+pub load-wrong : (c room : List ℕ) (size : ℕ) → Front c room size → form_in room size ≡ broken → revisions c ≡ broken
+load-wrong c room size F h =
+    front-form c room size F ∙ ap (λ (x : Found). cond (every (λ x. eqb x 0) (drop (be32 room 1) c)) x broken) h
+    ∙ cond_same (every (λ x. eqb x 0) (drop (be32 room 1) c)) broken
+
 module _ (c room : List ℕ) (size : ℕ) (F : Front c room size) (ok : Bool) (used count last oldest : ℕ)
     (P : Parsed (form_in room size) room ok used count last oldest) (u : ok ≡ true → used ≡ be32 room 1) where
-  pub load-wrong : ok ≡ false → revisions c ≡ broken
-  load-wrong f = front-form c room size F ∙ ap (λ (x : Found). cond (every (λ x. eqb x 0) (drop (be32 room 1) c)) x broken) (P.wrong f) ∙ cond_same (every (λ x. eqb x 0) (drop (be32 room 1) c)) broken
-
   module _ (t : ok ≡ true) where
     behind : (b : Bool) → every (λ x. eqb x 0) (drop used c) ≡ b → revisions c ≡ cond b (held (in_room room used)) broken
     behind b z =

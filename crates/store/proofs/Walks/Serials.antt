@@ -8,6 +8,7 @@ use native.Mathlib.Numerals.{add-one}
 use borrow.Author.Tests.{lt-leb, le-leb}
 use lib.ListN.{length, get_or, take, drop, set, length-append}
 use lib.Seq.{drop-cons, drop-length, take_at, take_all}
+use Rattle.std.specs.List.{list_all}
 use Rattle.layout.specs.Lists.{within, every}
 use Rattle.layout.specs.Bytes.{zeros, part, splice}
 use Rattle.layout.specs.Directory.{slash}
@@ -23,6 +24,11 @@ use Rattle.layout.proofs.Laws.Tests.{and_split, within-split}
 use Rattle.layout.proofs.Laws.Bytes.{length-zeros, zeros-add, length-splice, splice-between, splice-append, splice-cons}
 use Rattle.store.proofs.Laws.Serials.{path-leading, serial-path, serial-shallow}
 use Rattle.store.proofs.Laws.Addresses.{is-root, front-short, root-address}
+
+-- a test of every element, in the words of the library
+pub all-every : (p : ℕ → Bool) (xs : List ℕ) → list_all p xs ≡ every p xs
+all-every p [] = refl
+all-every p (x ∷ xs) = ap (λ (t : Bool). p x && t) (all-every p xs)
 
 module _ (serial : List ℕ) where
   pub serial_ok-empty : length serial < 1 → serial_ok serial ≡ false

@@ -1,11 +1,16 @@
-use Rattle.store.proofs.Walks.Records.{follows-none, follows-zero, follows-less}
+use Rattle.std.proofs.Common.{arith}
+use Rattle.std.proofs.lemmas.Grind.{common_steps}
+use Rattle.store.specs.Walks.Forms.{follows_on}
 use Rattle.store.proofs.form.follows.Goals as goal
 
 pub returns-then-last-eq0 : goal.returns-then-last-eq0
-returns-then-last-eq0 c = follows-none _ _ c.if-last-eq0.true
+unfolding follows_on
+returns-then-last-eq0 c = grind (arith, common_steps)
 
-pub returns-then-number-eq0 : goal.returns-then-number-eq0
-returns-then-number-eq0 c = follows-zero _ _ c.if-last-eq0.false c.if-number-eq0.true
+pub returns-else-last-eq0 : goal.returns-else-last-eq0
+unfolding follows_on
+returns-else-last-eq0 c = grind (arith, common_steps)
 
-pub returns : goal.returns
-returns c = follows-less _ _ c.if-last-eq0.false c.if-number-eq0.false
+pub returns-else-number-ne0 : goal.returns-else-number-ne0
+unfolding follows_on
+returns-else-number-ne0 c = grind (arith, common_steps)

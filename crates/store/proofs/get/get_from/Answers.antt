@@ -1,32 +1,30 @@
+use Rattle.std.proofs.Common.{◌≡◌, ◌+◌, ◌++◌, length, drop, arith, refl, ap, sym, ◌∙◌}
 use Rattle.layout.specs.Bytes.{splice}
-use mathlib.Core.Path.{sym, ap, ◌∙◌}
-use native.Mathlib.Omega.{arith}
-use borrow.Author.Tests.{not-true, not-false}
+use Rattle.layout.proofs.Laws.Bytes.{splice-flat}
 use Rattle.store.proofs.Walks.Gets.{answer-refused, wanted-is, sought-broken, sought-missing, sought-found}
 use Rattle.store.proofs.get.get_from.Goals as goal
 
-pub returns-then-not-form : goal.returns-then-not-form
-returns-then-not-form c = answer-refused _ _ _ _ _ _ c.refused.ensures (sought-broken _ _ _ (c.load-form.ensures.wrong (not-true _ c.if-not-form.true)))
+pub returns-in_default : goal.returns-in_default
+returns-in_default c = answer-refused _ _ _ _ _ _ c.refused.ensures (sought-broken _ _ _ c.in_default.ensures)
 
-pub find-p-requires : goal.find-p-requires
-find-p-requires c =
-    let P = c.load-form.ensures in
-    let t = P.right (not-false _ c.if-not-form.false) in
+pub find-requires : goal.find-requires
+find-requires c =
+    let t = c.in-Some.ensures.right refl in
     (t.1.low, omega (arith, t.1.high, c.requires.2), t.1.read)
 
-pub returns-then-not-p : goal.returns-then-not-p
-returns-then-not-p c =
-    let P = c.load-form.ensures in
-    let t = P.right (not-false _ c.if-not-form.false) in
-    let q = wanted-is c.args.newest c.args.revision _ _ _ t.1.latest-is c.wanted_number-x.ensures in
-    let f = c.find-p.ensures in
-    answer-refused _ _ _ _ _ _ c.refused-then-not-p.ensures (sought-missing _ _ _ _ t.0 _ q (sym f.there ∙ not-true _ c.if-not-p.true))
+pub returns-in_default-find : goal.returns-in_default-find
+returns-in_default-find c =
+    let t = c.in-Some.ensures.right refl in
+    let q = wanted-is c.args.revision _ _ _ t.1.latest-is c.unwrap_or-x.ensures in
+    answer-refused _ _ _ _ _ _ c.refused-in_default-find.ensures (sought-missing _ _ _ _ t.0 _ q c.in_default-find.ensures)
 
 pub returns : goal.returns
 returns c =
-    let P = c.load-form.ensures in
-    let t = P.right (not-false _ c.if-not-form.false) in
-    let q = wanted-is c.args.newest c.args.revision _ _ _ t.1.latest-is c.wanted_number-x.ensures in
-    let f = c.find-p.ensures in
-    let s = not-false _ c.if-not-p.false in
-    sought-found _ _ _ _ t.0 _ q _ _ (sym f.there ∙ s) (f.size_is s) (c.copy_part.ensures ∙ ap (splice c.args.buffer.now 0) (f.bytes-are s))
+    let t = c.in-Some.ensures.right refl in
+    let q = wanted-is c.args.revision _ _ _ t.1.latest-is c.unwrap_or-x.ensures in
+    let f = c.in-Some-find.ensures in
+    let b = c.in-Some-find.bytes.now in
+    let s = c.args.buffer.now in
+    let z : 0 + length b ≡ length b = omega arith in
+    let e : c.copy_from_slice.new.self ++ drop (length b) s ≡ splice s 0 b = rw c.copy_from_slice.ensures.after (rw z at (sym (splice-flat s 0 b))) in
+    sought-found _ _ _ _ t.0 _ q _ _ f.0 (ap length f.1) (e ∙ ap (splice s 0) f.1)

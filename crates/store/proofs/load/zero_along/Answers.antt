@@ -26,16 +26,16 @@ overflow_sub-o-in-loop-rest c = omega arith
 pub zero_in_block-requires : goal.zero_in_block-requires
 zero_in_block-requires c =
     let h = zeroing-here _ _ _ _ _ _ _ _ _ _ c.loop-rest.invariant (omega arith) in
-    let f = least-cases _ _ _ c.if-o-ge512.false c.least-m.ensures in
+    let f = least-cases _ _ _ c.if-o-ge512.false c.min-m.ensures in
     (omega (arith, h, c.requires.0.shape.whole), f.0)
 
 pub returns-then-not-zero_in_block : goal.returns-then-not-zero_in_block
 returns-then-not-zero_in_block c =
-    let f = least-cases _ _ _ c.if-o-ge512.false c.least-m.ensures in
+    let f = least-cases _ _ _ c.if-o-ge512.false c.min-m.ensures in
     sym (zeroing-stop _ _ _ _ _ _ _ _ _ _ c.loop-rest.invariant c.requires.0.shape.whole (omega arith) _ f (sym c.zero_in_block.ensures ∙ not-true _ c.if-not-zero_in_block.true-raw))
 
 pub overflow_sub-rest : goal.overflow_sub-rest
-overflow_sub-rest c = let f = least-cases _ _ _ c.if-o-ge512.false c.least-m.ensures in omega (arith, f.1)
+overflow_sub-rest c = let f = least-cases _ _ _ c.if-o-ge512.false c.min-m.ensures in omega (arith, f.1)
 
 pub entry-b-requires-in-loop-rest : goal.entry-b-requires-in-loop-rest
 entry-b-requires-in-loop-rest c = let h = zeroing-here _ _ _ _ _ _ _ _ _ _ c.loop-rest.invariant (omega arith) in omega (arith, h, c.requires.0.shape.whole, c.requires.0.shape.low)
@@ -48,7 +48,7 @@ loop-rest-smaller c = let h = zeroing-here _ _ _ _ _ _ _ _ _ _ c.loop-rest.invar
 
 pub loop-rest-preserved : goal.loop-rest-preserved
 loop-rest-preserved c =
-    let f = least-cases _ _ _ c.if-o-ge512.false c.least-m.ensures in
+    let f = least-cases _ _ _ c.if-o-ge512.false c.min-m.ensures in
     rw c.entry-b-in-loop-rest.ensures
     (zeroing-step _ _ _ _ _ _ _ _ _ _ c.loop-rest.invariant c.requires.0.shape.whole (omega arith) _ f (sym c.zero_in_block.ensures ∙ not-false _ c.if-not-zero_in_block.false-raw))
 

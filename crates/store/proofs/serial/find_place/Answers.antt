@@ -1,17 +1,8 @@
-use Prim.Native.Nat.{◌+◌, ◌-◌}
-use lib.ListN.{length}
-use native.Mathlib.Omega.{arith}
-use Rattle.store.proofs.Walks.Serials.{path-long, path-front, path-short, path-given}
+use Rattle.store.proofs.Laws.Serials.{serial-path, serial-shallow}
 use Rattle.store.proofs.serial.find_place.Goals as goal
 
-pub path_of-path-requires : goal.path_of-path-requires
-path_of-path-requires c = (c.requires.1, c.front_length-k.ensures.0, c.front_length-k.ensures.1)
-
-pub slice_bounds-find_place-end : goal.slice_bounds-find_place-end
-slice_bounds-find_place-end c = let A = c.requires.1 in let l = path-long _ _ A _ c.path_of-path.ensures in let s = path-short _ _ A in let k = c.front_length-k.ensures.0 in omega arith
-
 pub find_place-requires : goal.find_place-requires
-find_place-requires c = let a = c.args in path-given a.directory.now a.serial.now c.requires.1 _ c.path_of-path.ensures _ _ (c.front_length-k.result + 1 + length a.serial.now - 0) c.requires.0 c.front_length-k.ensures.0 (omega arith)
-
-pub returns : goal.returns
-returns c = let a = c.args in rw (path-front a.directory.now a.serial.now c.requires.1 _ c.path_of-path.ensures _ (c.front_length-k.result + 1 + length a.serial.now - 0) c.front_length-k.ensures.0 (omega arith)) at c.find_place.ensures
+find_place-requires c =
+    let p = c.requires in
+    let e = c.path_of-path.ensures.path in
+    record { sound = p.0; good = rw e (serial-path _ _ p.1); few = rw e (serial-shallow _ _ p.1) }
