@@ -14,48 +14,23 @@ pub fn block<'a>(image: &'a [u8], b: usize) -> &'a [u8]
     ensures size { length result.now ≡ 512 }
 {
     let a = 512 * b;
-    let e = a + 512;
-    &image[a..e]
+    &image[a..a + 512]
 }
 
-// The larger of two numbers.
-fn larger(a: u8, b: u8) -> u8
-    ensures { result ≡ max a b }
-{
-    if a < b { b } else { a }
-}
-
-// i if two bytes differ, else 0.
-fn if_differ(x: u8, y: u8, i: u8) -> u8
-    ensures { (result ≡ cond (eqb x y) 0 i) × (result ≤ i) }
-{
-    if x == y {
-        return 0;
-    }
-    i
-}
-
-// Whether two byte strings are equal. This loop and the next two have no branch, so that they are compiled to steps of 16 bytes.
+// Whether two byte strings are equal.
 pub fn equal(a: &[u8], b: &[u8]) -> bool
     ensures { result ≡ same a.now b.now }
 {
-    if a.len() != b.len() {
-        return false;
-    }
-    let mut worst = 0;
-    for i in 0..a.len() {
-        worst = larger(worst, if_differ(a[i], b[i], 1));
-    }
-    worst == 0
+    a == b
 }
 
-// Whether every byte is 0.
+// Whether every byte is 0. This loop and the next have no branch, so that they are compiled to steps of 16 bytes.
 pub fn all_zero(s: &[u8]) -> bool
     ensures { result ≡ all_zero s.now }
 {
-    let mut worst = 0;
-    for i in 0..s.len() {
-        worst = larger(worst, s[i]);
+    let mut worst: u8 = 0;
+    for x in s {
+        worst = worst.max(*x);
     }
     worst == 0
 }
@@ -66,81 +41,38 @@ pub fn name_ok(field: &[u8]) -> bool
     ensures { result ≡ field_ok field.now }
 {
     let mut count = 0;
-    let mut last = 0;
+    let mut last: u8 = 0;
     let mut clean = 0;
-    let mut i = 0;
-    while i < NAME_FIELD {
+    for i in 0..NAME_FIELD {
         let x = field[i];
-        i = i + 1;
-        count = count + if_differ(x, 0, 1);
-        last = larger(last, if_differ(x, 0, i as u8));
-        clean = clean + if_differ(x, b'/', 1);
+        count += u8::from(x != 0);
+        last = last.max(if x == 0 { 0 } else { i as u8 + 1 });
+        clean += u8::from(x != b'/');
     }
-    if count != last {
-        return false;
-    }
-    if clean != 80 {
-        return false;
-    }
-    0 < count
+    count == last && clean == 80 && 0 < count
 }
 
 // Whether a name has 1 to 80 bytes, none of them 0 or `/`.
 pub fn good_name(name: &[u8]) -> bool
     ensures { result ≡ good_name name.now }
 {
-    if name.len() < 1 {
-        return false;
-    }
-    if MAX_NAME < name.len() {
-        return false;
-    }
-    for i in 0..name.len() {
-        if name[i] == 0 {
-            return false;
-        }
-        if name[i] == b'/' {
-            return false;
-        }
-    }
-    true
+    !name.is_empty() && name.len() <= MAX_NAME && name.iter().all(|x| *x != 0 && *x != b'/')
 }
 
-// Whether no byte of a name stands at i: there is a zero, or the field ends before it.
-fn ends_at(field: &[u8], i: usize) -> bool
-    ensures { result ≡ eqb (get_or field.now i 0) 0 }
-{
-    if field.len() <= i {
-        return true;
-    }
-    field[i] == 0
-}
-
-// Whether a field of 80 bytes holds a good name. It looks from the end, where names of one kind differ most.
+// Whether a field of 80 bytes holds a good name: it begins with it, and no byte of a name follows.
 pub fn holds_name(field: &[u8], name: &[u8]) -> bool
     requires { (length field.now ≡ 80) × (good_name name.now ≡ true) }
     ensures { result ≡ same (unpadded field.now) name.now }
 {
-    let mut i = name.len();
-    if !ends_at(field, i) {
-        return false;
-    }
-    while 0 < i {
-        i = i - 1;
-        if field[i] != name[i] {
-            return false;
-        }
-    }
-    true
+    let end = name.len();
+    field.starts_with(name) && (end == NAME_FIELD || field[end] == 0)
 }
 
 // Sets every byte to 0.
 pub fn clear(s: &mut [u8])
     ensures { s.new ≡ replicate (length s.old) 0 }
 {
-    for i in 0..s.len() {
-        s[i] = 0;
-    }
+    s.fill(0);
 }
 
 // Copies all of src over dst, which is as long.
@@ -148,9 +80,7 @@ pub fn copy(src: &[u8], dst: &mut [u8])
     requires { length src.now ≡ length dst.old }
     ensures { dst.new ≡ src.now }
 {
-    for i in 0..src.len() {
-        dst[i] = src[i];
-    }
+    dst.copy_from_slice(src);
 }
 
 // Copies the `count` bytes from `from` of src over those at `at` of dst.
@@ -158,7 +88,5 @@ pub fn copy_part(src: &[u8], from: usize, dst: &mut [u8], at: usize, count: usiz
     requires { (from + count ≤ length src.now) × (at + count ≤ length dst.old) }
     ensures { dst.new ≡ splice dst.old at (part src.now from count) }
 {
-    let e = from + count;
-    let f = at + count;
-    copy(&src[from..e], &mut dst[at..f]);
+    dst[at..at + count].copy_from_slice(&src[from..from + count]);
 }

@@ -40,10 +40,7 @@ fn follow_slot(image: &[u8], t: usize, n: usize, b: usize, k: usize, marks: &mut
     if super::directory::is_file(ty) {
         return follow_file(image, t, n, b, k, marks);
     }
-    if ty != 1 {
-        return true;
-    }
-    follow_own(image, t, n, b, k, marks)
+    ty != 1 || follow_own(image, t, n, b, k, marks)
 }
 
 // Follows the chains of the four slots of block b.
@@ -51,14 +48,10 @@ fn follow_block(image: &[u8], t: usize, n: usize, b: usize, marks: &mut [u8]) ->
     requires { (Room image.now t n marks.old) × (b < n) }
     ensures { walked result marks.new ≡ follow_slots image.now n b 0 4 marks.old }
 {
-    let mut k: usize = 0;
-    let mut left: usize = 4;
-    while 0 < left {
+    for k in 0..4 {
         if !follow_slot(image, t, n, b, k, marks) {
             return false;
         }
-        k = k + 1;
-        left = left - 1;
     }
     true
 }
@@ -68,10 +61,7 @@ fn follow_marked(image: &[u8], t: usize, n: usize, dirs: &[u8], b: usize, marks:
     requires { (Room image.now t n marks.old) × (b < n) × (n ≤ length dirs.now) }
     ensures { walked result marks.new ≡ follow_blocks image.now n dirs.now b 1 marks.old }
 {
-    if dirs[b] == 0 {
-        return true;
-    }
-    follow_block(image, t, n, b, marks)
+    dirs[b] == 0 || follow_block(image, t, n, b, marks)
 }
 
 // The same of the k blocks from `from` on.
@@ -87,14 +77,10 @@ fn follow_run(
     requires { (Room image.now t n marks.old) × (from + k ≤ n) × (n ≤ length dirs.now) }
     ensures { walked result marks.new ≡ follow_blocks image.now n dirs.now from k marks.old }
 {
-    let mut b = from;
-    let mut left = k;
-    while 0 < left {
+    for b in from..from + k {
         if !follow_marked(image, t, n, dirs, b, marks) {
             return false;
         }
-        b = b + 1;
-        left = left - 1;
     }
     true
 }
@@ -112,22 +98,7 @@ fn follow_group(
     requires { (Room image.now t n marks.old) × (from + k ≤ n) × (n ≤ length dirs.now) }
     ensures { walked result marks.new ≡ follow_blocks image.now n dirs.now from k marks.old }
 {
-    let end = from + k;
-    if super::bytes::all_zero(&dirs[from..end]) {
-        return true;
-    }
-    follow_run(image, t, n, dirs, from, k, marks)
-}
-
-// How many of `left` blocks are looked at in one step.
-fn step(left: usize) -> usize
-    requires { 0 < left }
-    ensures { (0 < result) × (result ≤ left) }
-{
-    if left < 64 {
-        return left;
-    }
-    64
+    super::bytes::all_zero(&dirs[from..from + k]) || follow_run(image, t, n, dirs, from, k, marks)
 }
 
 // Follows the chains of all slots of the blocks that are marked in dirs.
@@ -136,26 +107,14 @@ fn follow_blocks(image: &[u8], t: usize, n: usize, dirs: &[u8], marks: &mut [u8]
     ensures { walked result marks.new ≡ follow_blocks image.now n dirs.now 0 n marks.old }
 {
     let mut b = 0;
-    let mut left = n;
-    while 0 < left {
-        let k = step(left);
+    while b < n {
+        let k = (n - b).min(64);
         if !follow_group(image, t, n, dirs, b, k, marks) {
             return false;
         }
-        b = b + k;
-        left = left - k;
+        b += k;
     }
     true
-}
-
-// 1 for a mark that is set, else 0.
-fn set_bit(mark: u8) -> u8
-    ensures { (result ≡ bit (entry_used mark)) × (result ≤ 1) }
-{
-    if mark == 0 {
-        return 0;
-    }
-    1
 }
 
 // How many of at most 128 marks are set: so few that a byte holds the count, and 16 are added in a step.
@@ -164,12 +123,8 @@ fn set_in(marks: &[u8]) -> u8
     ensures { (result ≡ count_used (λ i. get_or marks.now i 0) 0 (length marks.now)) × (result ≤ length marks.now) }
 {
     let mut count = 0;
-    let mut i = 0;
-    let mut left = marks.len();
-    while 0 < left {
-        count = count + set_bit(marks[i]);
-        i = i + 1;
-        left = left - 1;
+    for mark in marks {
+        count += u8::from(*mark != 0);
     }
     count
 }
@@ -180,13 +135,9 @@ fn count_set(marks: &[u8], t: usize) -> usize
     ensures { (result ≡ count_used (λ b. get_or marks.now b 0) 0 (128 * t)) × (result ≤ 128 * t) }
 {
     let mut count = 0;
-    let mut b = 0;
-    let mut left = t;
-    while 0 < left {
-        let end = b + 128;
-        count = count + set_in(&marks[b..end]) as usize;
-        b = end;
-        left = left - 1;
+    for i in 0..t {
+        let b = 128 * i;
+        count += usize::from(set_in(&marks[b..b + 128]));
     }
     count
 }

@@ -8,7 +8,7 @@ pub fn table_blocks(n: usize) -> usize
     requires { n ≤ max_blocks }
     ensures { result ≡ table_blocks n }
 {
-    (n + 127) / 128
+    n.div_ceil(128)
 }
 
 // The first block of the root directory.

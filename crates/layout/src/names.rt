@@ -21,13 +21,8 @@ pub fn fingerprint(field: &[u8]) -> usize
     ensures { result ≡ fingerprint field.now }
 {
     let mut sum = 0;
-    let mut i = 0;
-    let mut left = NAME_FIELD / 4;
-    while 0 < left {
-        let w = super::number::word(field, 4 * i) as usize;
-        sum = sum + (1048576 + i) * w;
-        i = i + 1;
-        left = left - 1;
+    for i in 0..NAME_FIELD / 4 {
+        sum += (1048576 + i) * super::number::word(field, 4 * i) as usize;
     }
     sum
 }
@@ -161,5 +156,5 @@ pub fn no_slots() -> [usize; MAX_SLOTS]
 pub fn no_names() -> [u8; FILTER]
     ensures { result ≡ zeros filter_size }
 {
-    [0u8; FILTER]
+    super::table::marks()
 }

@@ -8,9 +8,10 @@ use native.Mathlib.Nat.{add-zero, le_of_suc-le-suc, not-suc-le-zero, suc-ne-zero
 use native.Mathlib.Numerals.{add-one}
 use native.Mathlib.Omega.{arith}
 use lib.Dec.{eqb, ltb, leb}
-use lib.ListN.{length, get_or, drop, replicate, length-drop, get_or-eq_default}
+use lib.ListN.{length, get_or, take, drop, replicate, length-drop, get_or-eq_default}
 use lib.Seq.{drop-cons, drop-length}
 use borrow.Author.Tests.{le-leb, lt-leb, lt-ltb, le-ltb, ne_eqb, eq-eqb, eqb-true, eqb-false}
+use Rattle.std.proofs.lemmas.List.{take-append-drop}
 use Rattle.layout.specs.Limits.{max_name}
 use Rattle.layout.specs.Lists.{every, same}
 use Rattle.layout.specs.Bytes.{zeros, part}
@@ -22,26 +23,6 @@ use Rattle.layout.proofs.Laws.Bytes.{get_d_part}
 use Rattle.layout.proofs.Laws.Lists.{every_in, get_d-in}
 use Rattle.layout.proofs.Laws.Names.{same-eq, same_refl, same-append, take-unpadded, unpadded-most, good_name-split, good_name-length}
 use Rattle.layout.proofs.Laws.Tests.{and_split, and-join, is_false, true-not-false, lt-or-ge, below_more}
-
-pub same-lengths : (a b : List ℕ) → (length a ≡ length b → ⊥) → same a b ≡ false
-same-lengths [] [] h = absurd (h refl)
-same-lengths [] (y ∷ ys) h = refl
-same-lengths (x ∷ xs) [] h = refl
-same-lengths (x ∷ xs) (y ∷ ys) h = rw (same-lengths xs ys (λ e. h (ap suc e)), and-false)
-
-pub same_end : (a b : List ℕ) (w : ℕ) → length a ≡ length b → eqb w 0 ≡ eqb w 0 && same (drop (length a) a) (drop (length a) b)
-same_end a b w e = rw (drop-length a, e, drop-length b) (sym (and-true (eqb w 0)))
-
--- two bytes more: the worst of what was met is 0 as long as none differ
-pub same_more : (a b : List ℕ) (i w d w' : ℕ) → i < length a → i < length b → d ≡ cond (eqb (get_or a i 0) (get_or b i 0)) 0 1 → w' ≡ max w d
-    → eqb w 0 && same (drop i a) (drop i b) ≡ eqb w' 0 && same (drop (i + 1) a) (drop (i + 1) b)
-same_more a b i w d w' ha hb ed ew = rw (drop-cons a i 0 ha, drop-cons b i 0 hb, add-one) (go (eqb (get_or a i 0) (get_or b i 0)) ed)
-  where
-    go : (t : Bool) → d ≡ cond t 0 1 → eqb w 0 && (t && same (drop (suc i) a) (drop (suc i) b)) ≡ eqb w' 0 && same (drop (suc i) a) (drop (suc i) b)
-    go true e =
-        let q : w ≡ w' = omega arith in
-        rw q
-    go false e = rw (ne_eqb w' 0 (λ z. omega arith)) (and-false (eqb w 0))
 
 -- all of some bytes, of two runs, of none
 pub all_zero-every : (xs : List ℕ) → all_zero xs ≡ every (λ x. eqb x 0) xs
@@ -111,20 +92,7 @@ module _ (name : List ℕ) where
   unfolding good_name
   good_name-bytes h g = rw (le-leb 1 (length name) h, le-leb (length name) max_name g)
 
-  pub name_bytes-zero : (i : ℕ) → i < length name → get_or name i 0 ≡ 0 → every name_byte (drop i name) ≡ false
-  name_bytes-zero i h z = rw (drop-cons name i 0 h, z)
-
-  pub name_bytes-slash : (i : ℕ) → i < length name → get_or name i 0 ≡ slash → every name_byte (drop i name) ≡ false
-  name_bytes-slash i h z = rw (drop-cons name i 0 h, z)
-
-  pub name_bytes-next : (i : ℕ) → i < length name → (get_or name i 0 ≡ 0 → ⊥) → (get_or name i 0 ≡ slash → ⊥)
-      → every name_byte (drop i name) ≡ every name_byte (drop (i + 1) name)
-  name_bytes-next i h z w = rw (drop-cons name i 0 h, ne_eqb (get_or name i 0) 0 z, ne_eqb (get_or name i 0) slash w, add-one)
-
-  pub name_bytes-end : (i : ℕ) → i ≡ length name → every name_byte (drop i name) ≡ true
-  name_bytes-end i e = rw (e, drop-length name)
-
--- a field and a good name, compared from the end
+-- a field and a good name
 unpadded-byte : (f : List ℕ) (j : ℕ) → j < length (unpadded f) → get_or f j 0 ≡ get_or (unpadded f) j 0
 unpadded-byte [] j h = absurd (not-suc-le-zero h)
 unpadded-byte (zero ∷ xs) j h = absurd (not-suc-le-zero h)
@@ -136,32 +104,34 @@ unpadded-stop [] = refl
 unpadded-stop (zero ∷ xs) = refl
 unpadded-stop (suc x ∷ xs) = unpadded-stop xs
 
-module _ (f name : List ℕ) where
-  pub holds-longer : (get_or f (length name) 0 ≡ 0 → ⊥) → same (unpadded f) name ≡ false
-  holds-longer h = is_false _ (λ t.
-      let e : unpadded f ≡ name = same-eq (unpadded f) name t in
-      h (ap (λ (l : List ℕ). get_or f (length l) 0) (sym e) ∙ unpadded-stop f))
+holds-longer : (f name : List ℕ) → (get_or f (length name) 0 ≡ 0 → ⊥) → same (unpadded f) name ≡ false
+holds-longer f name h = is_false _ (λ t.
+    let e : unpadded f ≡ name = same-eq (unpadded f) name t in
+    h (ap (λ (l : List ℕ). get_or f (length l) 0) (sym e) ∙ unpadded-stop f))
 
-  pub holds-differ : (j : ℕ) → j < length name → (get_or f j 0 ≡ get_or name j 0 → ⊥) → same (unpadded f) name ≡ false
-  holds-differ j l h = is_false _ (λ t.
-      let e : unpadded f ≡ name = same-eq (unpadded f) name t in
-      h (unpadded-byte f j (rw e l) ∙ ap (λ (x : List ℕ). get_or x j 0) e))
+holds-bytes : (name rest : List ℕ) → every name_byte name ≡ true → get_or (name ++ rest) (length name) 0 ≡ 0 → unpadded (name ++ rest) ≡ name
+holds-bytes [] [] good stop = refl
+holds-bytes [] (zero ∷ ys) good stop = refl
+holds-bytes [] (suc y ∷ ys) good stop = absurd (suc-ne-zero y stop)
+holds-bytes (zero ∷ xs) rest good stop = absurd (false≢true good)
+holds-bytes (suc x ∷ xs) rest good stop = ap (λ (l : List ℕ). suc x ∷ l) (holds-bytes xs rest (and_split (name_byte (suc x)) (every name_byte xs) good).1 stop)
 
-holds-bytes : (f name : List ℕ) → every name_byte name ≡ true → ((j : ℕ) → j < length name → get_or f j 0 ≡ get_or name j 0) → get_or f (length name) 0 ≡ 0
-    → unpadded f ≡ name
-holds-bytes [] [] good bytes stop = refl
-holds-bytes (zero ∷ xs) [] good bytes stop = refl
-holds-bytes (suc x ∷ xs) [] good bytes stop = absurd (suc-ne-zero x stop)
-holds-bytes f (zero ∷ ys) good bytes stop = absurd (false≢true good)
-holds-bytes [] (suc y ∷ ys) good bytes stop = absurd (suc-ne-zero y (sym (bytes 0 (omega arith))))
-holds-bytes (x ∷ xs) (suc y ∷ ys) good bytes stop =
-    let e : x ≡ suc y = bytes 0 (omega arith) in
-    let r = holds-bytes xs ys (and_split (name_byte (suc y)) (every name_byte ys) good).1 (λ j h. bytes (suc j) (omega arith)) stop in
-    rw (e, r)
+-- a field that begins with a good name holds it where no byte of a name follows, and one that holds a name begins with it
+pub holds-begun : (f name : List ℕ) → good_name name ≡ true → f ≡ name ++ drop (length name) f → eqb (get_or f (length name) 0) 0 ≡ same (unpadded f) name
+holds-begun f name good e = go (eqb (get_or f (length name) 0) 0) refl
+  where
+    go : (t : Bool) → eqb (get_or f (length name) 0) 0 ≡ t → t ≡ same (unpadded f) name
+    go true z =
+        let stop : get_or f (length name) 0 ≡ 0 = eqb-true _ 0 z in
+        let q = holds-bytes name (drop (length name) f) (good_name-split name good).2 (ap (λ (l : List ℕ). get_or l (length name) 0) (sym e) ∙ stop) in
+        sym (ap (λ (l : List ℕ). same l name) (ap unpadded e ∙ q) ∙ same_refl name)
+    go false z = sym (holds-longer f name (eqb-false _ 0 z))
 
-pub holds-all : (f name : List ℕ) → good_name name ≡ true → ((j : ℕ) → j < length name → get_or f j 0 ≡ get_or name j 0) → get_or f (length name) 0 ≡ 0
-    → same (unpadded f) name ≡ true
-holds-all f name good bytes stop = rw (holds-bytes f name (good_name-split name good).2 bytes stop) (same_refl name)
+pub holds-other : (f name : List ℕ) (r : Bool) → ((rest : List ℕ) → f ≡ name ++ rest → r ≡ true) → r ≡ false → r ≡ same (unpadded f) name
+holds-other f name r begins e = e ∙ sym (is_false _ (λ t.
+    let u : unpadded f ≡ name = same-eq (unpadded f) name t in
+    let b = subst (λ (l : List ℕ). take (length l) f ≡ l) u (take-unpadded f) in
+    false≢true (sym e ∙ begins (drop (length name) f) (sym (take-append-drop (length name) f) ∙ ap (λ (l : List ℕ). l ++ drop (length name) f) b))))
 
 -- a field, byte by byte
 pub scanned-none : (f : List ℕ) → Scanned f 0 0 0

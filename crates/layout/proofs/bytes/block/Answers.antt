@@ -1,12 +1,7 @@
-use Prim.Native.Nat.{ℕ, ◌+◌, ◌-◌, ◌*◌}
-use mathlib.Core.Path.{◌≡◌, ap, ◌∙◌}
-use lib.ListN.{length}
-use native.Mathlib.Omega.{arith}
-use Rattle.layout.specs.Bytes.{part}
-use Rattle.layout.proofs.Laws.Bytes.{length-block}
+use Rattle.std.proofs.Common.{◌+◌, ◌-◌, ◌*◌, ◌≡◌, arith}
 use Rattle.layout.proofs.bytes.block.Goals as goal
 
-pub returns : goal.returns
-returns c = let a = c.args in
-    let e : (512 * a.b + 512) - 512 * a.b ≡ 512 = omega arith in
-    let p = ap (λ (k : ℕ). part a.image.now (512 * a.b) k) e in record { bytes = p; size = ap length p ∙ length-block a.image.now a.b c.requires }
+pub returns-clause-bytes : goal.returns-clause-bytes
+returns-clause-bytes c =
+    let e : 512 * c.args.b + 512 - 512 * c.args.b ≡ 512 = omega arith in
+    rw e

@@ -1,6 +1,4 @@
-use Prim.Native.Nat.{◌+◌, ◌-◌}
-use mathlib.Core.Path.{◌≡◌, ◌∙◌}
-use native.Mathlib.Omega.{arith}
+use Rattle.std.proofs.Common.{◌+◌, ◌-◌, ◌≡◌, ◌∙◌, arith}
 use Rattle.layout.specs.Bytes.{part}
 use Rattle.layout.proofs.Laws.Bytes.{lent, length_part}
 use Rattle.layout.proofs.bytes.copy_part.Goals as goal
@@ -9,5 +7,5 @@ pub returns : goal.returns
 returns c =
     let a = c.args in
     let e : a.from + a.count - a.from ≡ a.count = omega arith in
-    lent _ a.at (a.at + a.count - a.at) _ (part a.src.now a.from a.count) (c.copy.ensures ∙ rw e)
+    lent _ a.at (a.at + a.count - a.at) _ (part a.src.now a.from a.count) (c.copy_from_slice.ensures.after ∙ rw e)
     (length_part a.src.now a.from a.count (omega arith) ∙ omega arith)

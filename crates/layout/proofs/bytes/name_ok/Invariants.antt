@@ -1,9 +1,5 @@
-use Prim.Native.Nat.{◌≤◌, ◌-◌}
 use Rattle.layout.specs.Walks.Entries.{Scanned, Clean}
 use Rattle.layout.proofs.bytes.name_ok.Given as goal
 
 abbrev pub invariant-loop-i : goal.invariant-loop-i
-invariant-loop-i l = (l.i ≤ 80) × (Scanned l.field l.i l.count l.last) × (Clean l.field l.i l.clean)
-
-abbrev pub decreases-loop-i : goal.decreases-loop-i
-decreases-loop-i l = 80 - l.i
+invariant-loop-i l = (Scanned l.field l.i l.count l.last) × (Clean l.field l.i l.clean)

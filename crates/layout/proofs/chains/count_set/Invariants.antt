@@ -1,12 +1,9 @@
-use Prim.Native.Nat.{◌≤◌, ◌+◌, ◌*◌}
-use mathlib.Core.Path.{◌≡◌}
-use lib.ListN.{get_or}
+use Rattle.std.proofs.Common.{◌≡◌, ◌+◌, ◌-◌, ◌*◌, ◌≤◌, get_or}
 use Rattle.layout.specs.Walks.Chains.{count_used}
 use Rattle.layout.proofs.chains.count_set.Given as goal
 
-abbrev pub invariant-loop-left : goal.invariant-loop-left
-invariant-loop-left l =
-    (l.b + 128 * l.left ≡ 128 * l.t) × (l.count ≤ l.b) × (count_used (λ x. get_or l.marks x 0) 0 (128 * l.t) ≡ l.count + count_used (λ x. get_or l.marks x 0) l.b (128 * l.left))
-
-abbrev pub decreases-loop-left : goal.decreases-loop-left
-decreases-loop-left l = l.left
+abbrev pub invariant-loop-i : goal.invariant-loop-i
+invariant-loop-i l = record {
+  small : l.count ≤ 128 * l.i;
+  whole : count_used (λ b. get_or l.marks b 0) 0 (128 * l.t) ≡ l.count + count_used (λ b. get_or l.marks b 0) (128 * l.i) (128 * (l.t - l.i));
+}

@@ -1,11 +1,6 @@
-use Prim.Native.Nat.{◌+◌}
-use mathlib.Core.Path.{◌≡◌}
-use lib.ListN.{length}
+use Rattle.std.proofs.Common.{◌≡◌, ◌+◌, ◌-◌}
 use Rattle.layout.specs.Walks.Stages.{follow_blocks}
 use Rattle.layout.proofs.chains.follow_run.Given as goal
 
-abbrev pub invariant-loop-left : goal.invariant-loop-left
-invariant-loop-left l = (length l.marks ≡ length l.initial.marks) × (l.b + l.left ≡ l.from + l.k) × (follow_blocks l.image l.n l.dirs l.from l.k l.initial.marks ≡ follow_blocks l.image l.n l.dirs l.b l.left l.marks)
-
-abbrev pub decreases-loop-left : goal.decreases-loop-left
-decreases-loop-left l = l.left
+abbrev pub invariant-loop-b : goal.invariant-loop-b
+invariant-loop-b l = follow_blocks l.image l.n l.dirs l.from l.k l.initial.marks ≡ follow_blocks l.image l.n l.dirs l.b (l.from + l.k - l.b) l.marks
