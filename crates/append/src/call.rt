@@ -24,10 +24,7 @@ fn append_nothing(image: &[u8], path: &[u8], offset: usize, time: u64) -> Change
     ensures answer { changed_answer result ≡ changed (refusal image.now (write path.now offset [] time)) 0 0 }
     ensures numbered { ChangeNumbered result }
 {
-    let what = VolumeChange::Write {
-        offset: offset,
-        time: time,
-    };
+    let what = VolumeChange::Write { offset, time };
     let number = store::change::refusal(image, Change::Volume(what), b"/", path, b"").number;
     if number != 0 {
         return Changed::Refused(number);
@@ -46,12 +43,9 @@ pub fn append(image: &mut [u8], journal: &mut [u8], path: &[u8], piece: &[u8], t
         return Changed::Refused(unready);
     }
     let end = file_end(image, path);
-    if piece.len() == 0 {
+    if piece.is_empty() {
         return append_nothing(image, path, end, time);
     }
-    let what = VolumeChange::Write {
-        offset: end,
-        time: time,
-    };
+    let what = VolumeChange::Write { offset: end, time };
     journal::calls::change_ready(image, journal, Change::Volume(what), path, piece)
 }

@@ -42,16 +42,10 @@ pub fn journal_info(image: &[u8], journal: &[u8]) -> Info
     let found = super::walk::tally(journal);
     Info {
         number: 0,
-        used: used,
+        used,
         records: found.records,
         last: found.last,
     }
-}
-
-fn wide(x: u32) -> usize
-    ensures { result ≡ x }
-{
-    x as usize
 }
 
 // Takes the last records back, whose offsets were noted.
@@ -61,8 +55,8 @@ fn take_noted(image: &mut [u8], journal: &mut [u8], offsets: &[u32], count: usiz
 {
     let mut left = count;
     while 0 < left {
-        left = left - 1;
-        let at = wide(offsets[left]);
+        left -= 1;
+        let at = offsets[left] as usize;
         journal::restoring::take_back(image, journal, at);
     }
 }
@@ -78,7 +72,7 @@ fn take_with(image: &mut [u8], journal: &mut [u8], mark: usize, offsets: &mut [u
         let count = super::walk::note(journal, mark, offsets);
         take_noted(image, journal, offsets, count);
         used = layout::number::get32(journal, 1) as usize;
-        done = done + count as u32;
+        done += count as u32;
     }
     done
 }
@@ -110,8 +104,5 @@ pub fn undo_to(image: &mut [u8], journal: &mut [u8], mark: usize) -> Backed
         };
     }
     let done = take_to(image, journal, mark);
-    Backed {
-        number: 0,
-        done: done,
-    }
+    Backed { number: 0, done }
 }

@@ -24,12 +24,12 @@ pub fn tally(journal: &[u8]) -> Counted
     let mut at = 5;
     while at < used {
         last = layout::number::get32(journal, at);
-        count = count + 1;
-        at = at + last as usize;
+        count += 1;
+        at += last as usize;
     }
     Counted {
         records: count,
-        last: last,
+        last,
     }
 }
 
@@ -44,7 +44,7 @@ pub fn had_mark(journal: &[u8], mark: usize) -> bool
         if mark == at {
             return true;
         }
-        at = at + layout::number::get32(journal, at) as usize;
+        at += layout::number::get32(journal, at) as usize;
     }
     mark == used
 }
@@ -71,8 +71,8 @@ pub fn note(journal: &[u8], mark: usize, offsets: &mut [u32]) -> usize
             continue;
         }
         offsets[i] = at as u32;
-        i = i + 1;
-        at = at + layout::number::get32(journal, at) as usize;
+        i += 1;
+        at += layout::number::get32(journal, at) as usize;
     }
     i
 }

@@ -6,10 +6,9 @@ ghost use Rattle.chain_table.specs.Numbers.{linked_in, taken_in, freed_in};
 pub fn set(numbers: &mut [u32], b: usize, v: u32)
     ensures { numbers.new ≡ set numbers.old b v }
 {
-    if numbers.len() <= b {
-        return;
+    if b < numbers.len() {
+        numbers[b] = v;
     }
-    numbers[b] = v;
 }
 
 // Links block b after the block `last`; 0: there is none.

@@ -10,10 +10,7 @@ ghost use Rattle.chain_table.specs.Numbers.{value_in};
 pub fn value(numbers: &[u32], b: usize) -> u32
     ensures { result ≡ value_in numbers.now b }
 {
-    if numbers.len() <= b {
-        return 0;
-    }
-    numbers[b]
+    numbers.get(b).copied().unwrap_or(0)
 }
 
 // The chain from first on, as many blocks as the buffer holds.
@@ -21,8 +18,8 @@ pub fn chain(numbers: &[u32], first: u32, blocks: &mut [u32])
     ensures { blocks.new ≡ chain (value_in numbers.now) first (length blocks.old) }
 {
     let mut b = first;
-    for i in 0..blocks.len() {
-        blocks[i] = b;
+    for block in blocks.iter_mut() {
+        *block = b;
         b = value(numbers, b as usize);
     }
 }
@@ -35,10 +32,8 @@ pub fn nth(numbers: &[u32], first: u32, k: usize, i: usize) -> u32
         return 0;
     }
     let mut b = first;
-    let mut left = i;
-    while 0 < left {
+    for _ in 0..i {
         b = value(numbers, b as usize);
-        left = left - 1;
     }
     b
 }
@@ -58,18 +53,13 @@ pub fn ends_after(numbers: &[u32], first: u32, k: usize) -> bool
     ensures { result ≡ ends_after (value_in numbers.now) (length numbers.now) first k }
 {
     let n = numbers.len();
-    let t = (n + 127) / 128;
+    let t = n.div_ceil(128);
     let mut b = first as usize;
-    let mut left = k;
-    while 0 < left {
-        if b <= t {
-            return false;
-        }
-        if n <= b {
+    for _ in 0..k {
+        if b <= t || n <= b {
             return false;
         }
         b = numbers[b] as usize;
-        left = left - 1;
     }
     b == 1
 }
@@ -79,14 +69,10 @@ pub fn count_used(numbers: &[u32]) -> usize
     ensures { result ≡ occupied (value_in numbers.now) (length numbers.now) }
 {
     let mut count = 0;
-    let mut b = 0;
-    let mut left = numbers.len();
-    while 0 < left {
-        if numbers[b] != 0 {
-            count = count + 1;
+    for number in numbers {
+        if *number != 0 {
+            count += 1;
         }
-        b = b + 1;
-        left = left - 1;
     }
     count
 }
@@ -96,12 +82,10 @@ pub fn lowest_free(numbers: &[u32], from: usize) -> usize
     ensures { result ≡ lowest_free (value_in numbers.now) from (length numbers.now) }
 {
     let n = numbers.len();
-    let mut b = from;
-    while b < n {
+    for b in from..n {
         if numbers[b] == 0 {
             return b;
         }
-        b = b + 1;
     }
     n
 }
@@ -110,14 +94,10 @@ pub fn lowest_free(numbers: &[u32], from: usize) -> usize
 pub fn first_ones(numbers: &[u32]) -> bool
     ensures { result ≡ all_ones (value_in numbers.now) 0 (table_blocks (length numbers.now) + 1) }
 {
-    let mut b = 0;
-    let mut left = (numbers.len() + 127) / 128 + 1;
-    while 0 < left {
+    for b in 0..numbers.len().div_ceil(128) + 1 {
         if value(numbers, b) != 1 {
             return false;
         }
-        b = b + 1;
-        left = left - 1;
     }
     true
 }
@@ -126,20 +106,14 @@ pub fn first_ones(numbers: &[u32]) -> bool
 fn is_marked(marks: &[u8], b: usize) -> bool
     ensures { result ≡ not (eqb (get_or marks.now b 0) 0) }
 {
-    if marks.len() <= b {
-        return false;
-    }
-    marks[b] != 0
+    b < marks.len() && marks[b] != 0
 }
 
 // Whether entry b is 0 or its block marked.
 fn free_or_marked(numbers: &[u32], marks: &[u8], b: usize) -> bool
     ensures { result ≡ (eqb (value_in numbers.now b) 0 || not (eqb (get_or marks.now b 0) 0)) }
 {
-    if value(numbers, b) == 0 {
-        return true;
-    }
-    is_marked(marks, b)
+    value(numbers, b) == 0 || is_marked(marks, b)
 }
 
 // Whether every entry above t is 0 where its block is not marked.
@@ -147,12 +121,10 @@ pub fn rest_free(numbers: &[u32], marks: &[u8]) -> bool
     ensures { result ≡ rest_free (value_in numbers.now) marks.now (table_blocks (length numbers.now) + 1) (length numbers.now - (table_blocks (length numbers.now) + 1)) }
 {
     let n = numbers.len();
-    let mut b = (n + 127) / 128 + 1;
-    while b < n {
+    for b in n.div_ceil(128) + 1..n {
         if !free_or_marked(numbers, marks, b) {
             return false;
         }
-        b = b + 1;
     }
     true
 }

@@ -27,9 +27,8 @@ fn load_block(block: &[u8], numbers: &mut [u32])
     requires { 4 * length numbers.old ≤ length block.now }
     ensures { numbers.new ≡ entries_of (entry_in block.now) (length numbers.old) }
 {
-    for j in 0..numbers.len() {
-        let at = 4 * j;
-        numbers[j] = layout::number::get32(block, at);
+    for (j, number) in numbers.iter_mut().enumerate() {
+        *number = layout::number::get32(block, 4 * j);
     }
 }
 
@@ -41,8 +40,7 @@ fn load(image: &[u8], numbers: &mut [u32])
     let n = numbers.len();
     let mut b = 0;
     while b < n {
-        let rest = n - b;
-        let end = b + layout::content::least(128, rest);
+        let end = n.min(b + 128);
         load_block(
             layout::bytes::block(image, 1 + b / 128),
             &mut numbers[b..end],
@@ -56,9 +54,8 @@ fn store_block(block: &mut [u8], numbers: &[u32])
     requires { 4 * length numbers.now ≤ length block.old }
     ensures { block.new ≡ splice block.old 0 (joined bytes4 numbers.now) }
 {
-    for j in 0..numbers.len() {
-        let at = 4 * j;
-        volume::number::put32(block, at, numbers[j]);
+    for (j, number) in numbers.iter().enumerate() {
+        volume::number::put32(block, 4 * j, *number);
     }
 }
 
@@ -70,8 +67,7 @@ fn store(image: &mut [u8], numbers: &[u32])
     let n = numbers.len();
     let mut b = 0;
     while b < n {
-        let rest = n - b;
-        let end = b + layout::content::least(128, rest);
+        let end = n.min(b + 128);
         let a = 512 * (1 + b / 128);
         let e = a + 512;
         store_block(&mut image[a..e], &numbers[b..end]);

@@ -1,11 +1,12 @@
 // The calls that are lent a journal. Each checks the image and scans the journal once.
-ghost use Rattle.std.specs.Prelude.{◌≡◌};
+ghost use Rattle.std.specs.Prelude.{◌≡◌, ◌≢◌, unwrap_or, IfSome};
 ghost use Rattle.store.specs.Change.{create, write, delete, create_directory, delete_directory, set_attributes, clear_attributes, clear_flags, shorten, replace, move, put_in, put};
 ghost use Rattle.store.specs.Asked.{asked_in, asked};
 ghost use Rattle.journal.specs.Run.{after_undo, undo_answer, after_change, change_answer, state};
 ghost use Rattle.journal.specs.Walks.Changes.{Inspects, Ready, ready_refusal};
 ghost use Rattle.journal.specs.Answers.{changed_answer, undone_answer, ChangeNumbered, UndoNumbered};
 
+use super::naming::Asked;
 use store::change::Change;
 use volume::change::Change as VolumeChange;
 use volume::create::Given;
@@ -24,34 +25,35 @@ pub enum Changed {
     Refused(u32),
 }
 
-// What is found of an image and its journal: the refusal, 1 to 8, or 0 and the offset of the last record, 0 if there is none.
+// What is found of an image and its journal: the refusal, 1 to 8, or 0 and the offset of the last record, if there is one.
 #[derive(Drop)]
 struct Inspected {
     number: u32,
-    last: usize,
+    last: Option<usize>,
 }
 
 // The refusals that come first in every call.
 fn inspect(image: &[u8], journal: &[u8]) -> Inspected
-    ensures { Inspects (state image.now journal.now) result.number result.last }
+    ensures inspected { Inspects (state image.now journal.now) result.number (unwrap_or result.last 0) }
+    ensures last { IfSome result.last (λ at. at ≢ 0) }
 {
     let refusal = layout::check::check(image);
     if refusal != 0 {
         return Inspected {
             number: refusal,
-            last: 0,
+            last: None,
         };
     }
     let n = image.len() / 512;
-    let found = super::scan::scan(journal, n);
-    let ok = found.ok;
-    let last = found.last;
-    if !ok {
-        return Inspected { number: 8, last: 0 };
-    }
+    let Some(found) = super::scan::scan(journal, n) else {
+        return Inspected {
+            number: 8,
+            last: None,
+        };
+    };
     Inspected {
         number: 0,
-        last: last,
+        last: found.last,
     }
 }
 
@@ -70,66 +72,54 @@ pub fn undo(image: &mut [u8], journal: &mut [u8]) -> Undone
 {
     let found = inspect(image, journal);
     let unready = found.number;
-    let at = found.last;
     if unready != 0 {
         return Undone::Refused(unready);
     }
-    if at == 0 {
+    let Some(at) = found.last else {
         return Undone::Refused(16);
-    }
+    };
     let size = super::restoring::take_back(image, journal, at);
     Undone::Done(size)
 }
 
 // A change on a sound image and a well-formed journal: its own refusals first, then its record, then the change itself. A put is in the directory beside its
 // path; the others look at their path alone.
-fn change_ready_in(
-    image: &mut [u8],
-    journal: &mut [u8],
-    what: Change,
-    directory: &[u8],
-    path: &[u8],
-    bytes: &[u8],
-) -> Changed
+fn change_ready_in(image: &mut [u8], journal: &mut [u8], asked: Asked) -> Changed
     requires { Ready image.old journal.old }
-    ensures answer { changed_answer result ≡ change_answer (state image.old journal.old) (asked_in what directory.now path.now bytes.now) }
-    ensures state { state image.new journal.new ≡ after_change (state image.old journal.old) (asked_in what directory.now path.now bytes.now) }
+    ensures answer { changed_answer result ≡ change_answer (state image.old journal.old) (asked_in asked.entry.what asked.entry.directory.now asked.entry.path.now asked.entry.bytes.now) }
+    ensures state { state image.new journal.new ≡ after_change (state image.old journal.old) (asked_in asked.entry.what asked.entry.directory.now asked.entry.path.now asked.entry.bytes.now) }
     ensures numbered { ChangeNumbered result }
 {
-    let found = store::change::refusal(image, what, directory, path, bytes);
+    let found = store::change::refusal(image, asked.what, asked.directory, asked.path, asked.bytes);
     let refusal = found.number;
     if refusal != 0 {
         return Changed::Refused(refusal);
     }
-    let size = super::naming::record_change(image, journal, what, directory, path, bytes, found);
-    if size == 0 {
+    let Some(size) = super::naming::record_change(image, journal, asked, found) else {
         return Changed::Refused(15);
-    }
-    let slot = store::change::make(image, what, directory, path, bytes, found);
-    Changed::Done {
-        slot: slot,
-        size: size,
-    }
+    };
+    let slot = store::change::make(
+        image,
+        asked.what,
+        asked.directory,
+        asked.path,
+        asked.bytes,
+        found,
+    );
+    Changed::Done { slot, size }
 }
 
 // Any change: the refusals 1 to 8 first.
-fn change_in(
-    image: &mut [u8],
-    journal: &mut [u8],
-    what: Change,
-    directory: &[u8],
-    path: &[u8],
-    bytes: &[u8],
-) -> Changed
-    ensures answer { changed_answer result ≡ change_answer (state image.old journal.old) (asked_in what directory.now path.now bytes.now) }
-    ensures state { state image.new journal.new ≡ after_change (state image.old journal.old) (asked_in what directory.now path.now bytes.now) }
+fn change_in(image: &mut [u8], journal: &mut [u8], asked: Asked) -> Changed
+    ensures answer { changed_answer result ≡ change_answer (state image.old journal.old) (asked_in asked.entry.what asked.entry.directory.now asked.entry.path.now asked.entry.bytes.now) }
+    ensures state { state image.new journal.new ≡ after_change (state image.old journal.old) (asked_in asked.entry.what asked.entry.directory.now asked.entry.path.now asked.entry.bytes.now) }
     ensures numbered { ChangeNumbered result }
 {
     let unready = ready_refusal(image, journal);
     if unready != 0 {
         return Changed::Refused(unready);
     }
-    change_ready_in(image, journal, what, directory, path, bytes)
+    change_ready_in(image, journal, asked)
 }
 
 // A change with no directory beside its path, on a sound image and a well-formed journal.
@@ -145,7 +135,13 @@ pub fn change_ready(
     ensures state { state image.new journal.new ≡ after_change (state image.old journal.old) (asked what path.now bytes.now) }
     ensures numbered { ChangeNumbered result }
 {
-    change_ready_in(image, journal, what, b"/", path, bytes)
+    let asked = Asked {
+        what,
+        directory: b"/",
+        path,
+        bytes,
+    };
+    change_ready_in(image, journal, asked)
 }
 
 // The same on any bytes.
@@ -160,7 +156,13 @@ pub fn change(
     ensures state { state image.new journal.new ≡ after_change (state image.old journal.old) (asked what path.now bytes.now) }
     ensures numbered { ChangeNumbered result }
 {
-    change_in(image, journal, what, b"/", path, bytes)
+    let asked = Asked {
+        what,
+        directory: b"/",
+        path,
+        bytes,
+    };
+    change_in(image, journal, asked)
 }
 
 // Create: a new empty file, in the lowest free slot.
@@ -180,12 +182,12 @@ pub fn create(
     ensures numbered { ChangeNumbered result }
 {
     let given = Given {
-        kind: kind,
-        user: user,
-        group: group,
-        permissions: permissions,
-        flags: flags,
-        time: time,
+        kind,
+        user,
+        group,
+        permissions,
+        flags,
+        time,
     };
     let what = VolumeChange::Create(given);
     change(image, journal, Change::Volume(what), path, b"")
@@ -204,10 +206,7 @@ pub fn write(
     ensures state { state image.new journal.new ≡ after_change (state image.old journal.old) (write path.now offset bytes.now time) }
     ensures numbered { ChangeNumbered result }
 {
-    let what = VolumeChange::Write {
-        offset: offset,
-        time: time,
-    };
+    let what = VolumeChange::Write { offset, time };
     change(image, journal, Change::Volume(what), path, bytes)
 }
 
@@ -244,17 +243,14 @@ pub fn create_directory(
     ensures numbered { ChangeNumbered result }
 {
     let given = Given {
-        kind: kind,
-        user: user,
-        group: group,
-        permissions: permissions,
-        flags: flags,
-        time: time,
+        kind,
+        user,
+        group,
+        permissions,
+        flags,
+        time,
     };
-    let what = VolumeChange::CreateDirectory {
-        given: given,
-        blocks: blocks,
-    };
+    let what = VolumeChange::CreateDirectory { given, blocks };
     change(image, journal, Change::Volume(what), path, b"")
 }
 
@@ -324,10 +320,7 @@ pub fn shorten(image: &mut [u8], journal: &mut [u8], path: &[u8], size: usize, t
     ensures state { state image.new journal.new ≡ after_change (state image.old journal.old) (shorten path.now size time) }
     ensures numbered { ChangeNumbered result }
 {
-    let what = VolumeChange::Shorten {
-        size: size,
-        time: time,
-    };
+    let what = VolumeChange::Shorten { size, time };
     change(image, journal, Change::Volume(what), path, b"")
 }
 
@@ -343,7 +336,7 @@ pub fn replace(
     ensures state { state image.new journal.new ≡ after_change (state image.old journal.old) (replace path.now bytes.now time) }
     ensures numbered { ChangeNumbered result }
 {
-    let what = VolumeChange::Replace { time: time };
+    let what = VolumeChange::Replace { time };
     change(image, journal, Change::Volume(what), path, bytes)
 }
 
@@ -369,14 +362,13 @@ pub fn put_settings_in(
     ensures state { state image.new journal.new ≡ after_change (state image.old journal.old) (put_in directory.now serial.now time bytes.now) }
     ensures numbered { ChangeNumbered result }
 {
-    change_in(
-        image,
-        journal,
-        Change::Put { time: time },
+    let asked = Asked {
+        what: Change::Put { time },
         directory,
-        serial,
+        path: serial,
         bytes,
-    )
+    };
+    change_in(image, journal, asked)
 }
 
 // Put settings in the root: adds a revision to the settings of a serial number; the slot of its answer is the revision's number.
@@ -391,5 +383,5 @@ pub fn put_settings(
     ensures state { state image.new journal.new ≡ after_change (state image.old journal.old) (put serial.now time bytes.now) }
     ensures numbered { ChangeNumbered result }
 {
-    change(image, journal, Change::Put { time: time }, serial, bytes)
+    change(image, journal, Change::Put { time }, serial, bytes)
 }

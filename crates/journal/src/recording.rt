@@ -7,7 +7,7 @@ ghost use Rattle.layout.specs.Geometry.{block_count};
 ghost use Rattle.layout.specs.Walks.Chains.{bit};
 ghost use Rattle.journal.specs.Journal.{used, record_bytes, added};
 ghost use Rattle.journal.specs.Walks.Saves.{Marks, marked_from};
-ghost use Rattle.journal.specs.Walks.Changes.{Ready, Recorded, record_marked};
+ghost use Rattle.journal.specs.Walks.Changes.{Ready, Records, record_marked};
 
 // The marks that are looked at together.
 const GROUP: usize = 64;
@@ -16,10 +16,7 @@ const GROUP: usize = 64;
 fn mark_bit(mark: u8) -> u8
     ensures { (result ≡ bit (not (eqb mark 0))) × (result ≤ 1) }
 {
-    if mark == 0 {
-        return 0;
-    }
-    1
+    u8::from(mark != 0)
 }
 
 // How many of the blocks from a up to e, a group or less, are marked. Adding up takes many marks in a step.
@@ -29,7 +26,7 @@ fn count_marked(marks: &[u8], a: usize, e: usize) -> u8
 {
     let mut count = 0;
     for b in a..e {
-        count = count + mark_bit(marks[b]);
+        count += mark_bit(marks[b]);
     }
     count
 }
@@ -43,10 +40,10 @@ fn record_size(marks: &[u8], n: usize) -> usize
     let mut a = 0;
     while a + GROUP <= n {
         let e = a + GROUP;
-        count = count + count_marked(marks, a, e) as usize;
+        count += usize::from(count_marked(marks, a, e));
         a = e;
     }
-    count = count + count_marked(marks, a, n) as usize;
+    count += usize::from(count_marked(marks, a, n));
     4 + 516 * count
 }
 
@@ -56,9 +53,7 @@ fn save_block(block: &[u8], b: usize, piece: &mut [u8])
     ensures { piece.new ≡ bytes4 b ++ block.now }
 {
     volume::number::put32(piece, 0, b as u32);
-    let a = 4;
-    let e = 516;
-    layout::bytes::copy(block, &mut piece[a..e]);
+    piece[4..516].copy_from_slice(block);
 }
 
 // Saves the marked ones of the blocks from a up to e, ascending, from `at` on; gives the end of what it wrote.
@@ -96,7 +91,7 @@ fn save_blocks(image: &[u8], journal: &mut [u8], marks: &[u8], n: usize, at: usi
     let mut b = 0;
     while b + GROUP <= n {
         let a = b;
-        b = b + GROUP;
+        b += GROUP;
         if count_marked(marks, a, b) == 0 {
             continue;
         }
@@ -118,17 +113,17 @@ fn add_record(image: &[u8], journal: &mut [u8], marks: &[u8], n: usize, size: us
     volume::number::put32(journal, 1, end as u32);
 }
 
-// Adds the record of the marked blocks; gives its length, or 0 if the journal has no room for it.
-pub fn record_marked(image: &[u8], journal: &mut [u8], marks: &[u8]) -> u32
+// Adds the record of the marked blocks; gives its length, or none if the journal has no room for it.
+pub fn record_marked(image: &[u8], journal: &mut [u8], marks: &[u8]) -> Option<u32>
     requires { (Ready image.now journal.old) × (block_count image.now ≤ length marks.now) }
-    ensures { Recorded journal.old (record_marked image.now marks.now) result journal.new }
+    ensures { Records journal.old (record_marked image.now marks.now) result journal.new }
 {
     let n = image.len() / 512;
     let size = record_size(marks, n);
     let used = layout::number::get32(journal, 1) as usize;
     if journal.len() < used + size {
-        return 0;
+        return None;
     }
     add_record(image, journal, marks, n, size);
-    size as u32
+    Some(size as u32)
 }

@@ -17,7 +17,7 @@ fn restore(image: &mut [u8], journal: &[u8], n: usize, at: usize, k: usize)
         let e = a + 512;
         let f = p + 4;
         let g = f + 512;
-        layout::bytes::copy(&journal[f..g], &mut image[a..e]);
+        image[a..e].copy_from_slice(&journal[f..g]);
     }
 }
 
@@ -27,7 +27,7 @@ fn drop_record(journal: &mut [u8], at: usize, size: usize)
     ensures { journal.new ≡ splice (splice journal.old at (zeros size)) 1 (bytes4 at) }
 {
     let e = at + size;
-    layout::bytes::clear(&mut journal[at..e]);
+    journal[at..e].fill(0);
     volume::number::put32(journal, 1, at as u32);
 }
 

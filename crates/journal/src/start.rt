@@ -9,13 +9,10 @@ pub fn start(journal: &mut [u8]) -> u32
     ensures number { result ≡ start_refusal journal.old }
     ensures bytes { journal.new ≡ after_start journal.old }
 {
-    if journal.len() < MIN_JOURNAL {
+    if journal.len() < MIN_JOURNAL || MAX_JOURNAL < journal.len() {
         return 8;
     }
-    if MAX_JOURNAL < journal.len() {
-        return 8;
-    }
-    layout::bytes::clear(journal);
+    journal.fill(0);
     journal[0] = 1;
     volume::number::put32(journal, 1, 5);
     0

@@ -52,18 +52,12 @@ fn write_items(image: &mut [u8], journal: &mut [u8], list: &[u8]) -> Listed
     while at < list.len() {
         let number = write_item(image, journal, list, at);
         if number != 0 {
-            return Listed {
-                number: number,
-                done: done,
-            };
+            return Listed { number, done };
         }
-        done = done + 1;
-        at = at + layout::number::get32(list, at) as usize;
+        done += 1;
+        at += layout::number::get32(list, at) as usize;
     }
-    Listed {
-        number: 0,
-        done: done,
-    }
+    Listed { number: 0, done }
 }
 
 // Writes a list. Image and journal are checked once: an accepted write leaves both as the next one needs them.

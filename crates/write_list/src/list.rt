@@ -7,21 +7,12 @@ use layout::number::get32;
 
 const MAX_LIST: usize = 65536;
 
-// A byte as a number.
-fn wide(x: u8) -> usize
-    ensures { (result ≡ x) × (result < 256) }
-{
-    x as usize
-}
-
 // The length of the path of the item at `at`.
 fn path_length(list: &[u8], at: usize) -> usize
     requires { at + 18 ≤ length list.now }
     ensures { (result ≡ path_length list.now at) × (result < 65536) }
 {
-    let high = wide(list[at + 16]);
-    let low = wide(list[at + 17]);
-    high * 256 + low
+    usize::from(list[at + 16]) * 256 + usize::from(list[at + 17])
 }
 
 // The path of the item at `at`.
@@ -54,10 +45,7 @@ fn item_ok(list: &[u8], at: usize) -> bool
         return false;
     }
     let size = get32(list, at) as usize;
-    if left < size {
-        return false;
-    }
-    18 + path_length(list, at) <= size
+    size <= left && 18 + path_length(list, at) <= size
 }
 
 // Whether items fill the list exactly, from its sixth byte on.
@@ -70,7 +58,7 @@ fn items_ok(list: &[u8]) -> bool
         if !item_ok(list, at) {
             return false;
         }
-        at = at + get32(list, at) as usize;
+        at += get32(list, at) as usize;
     }
     true
 }
@@ -79,17 +67,8 @@ fn items_ok(list: &[u8]) -> bool
 pub fn list_ok(list: &[u8]) -> bool
     ensures { result ≡ list_ok list.now }
 {
-    if list.len() < 5 {
+    if list.len() < 5 || MAX_LIST < list.len() {
         return false;
     }
-    if MAX_LIST < list.len() {
-        return false;
-    }
-    if list[0] != 1 {
-        return false;
-    }
-    if get32(list, 1) as usize != list.len() {
-        return false;
-    }
-    items_ok(list)
+    list[0] == 1 && get32(list, 1) as usize == list.len() && items_ok(list)
 }

@@ -11,6 +11,8 @@ use lib.Dec.{eqb}
 use lib.ListN.{length, get_or, set, drop, length-drop, take-append-drop, get_or-eq_default}
 use lib.Seq.{drop-cons, drop-drop, drop-length, get_or-set_same, get_or-set_other}
 use borrow.Author.Tests.{eq-eqb, ne_eqb}
+use Rattle.std.specs.Int.{div_ceil}
+use Rattle.layout.specs.Geometry.{table_blocks}
 use Rattle.layout.specs.Lists.{joined}
 use Rattle.layout.specs.Bytes.{bytes4, part, block, splice}
 use Rattle.layout.specs.Table.{next, chain, occupied, rest_free}
@@ -31,6 +33,10 @@ pub fill_more : (v : ℕ → ℕ) (xs : List ℕ) (i x : ℕ) → i < length xs 
 fill_more v xs i x h f e b g =
     ⊎_elim (λ q. rw q (get_or-set_same xs i x 0 h ∙ e)) (λ q. get_or-set_other xs i b x 0 (λ z. omega arith) ∙ f b q)
     (let k : b ≤ i = omega arith in eq-or-lt_of_le k)
+
+-- so many table blocks, rounded up
+pub blocks-rounded : (n : ℕ) → div_ceil n 128 ≡ table_blocks n
+blocks-rounded n = omega arith
 
 -- before the last table block a whole one is done at a time
 pub next-block : (b k n : ℕ) → b % 128 ≡ 0 → k ≡ min 128 (n - b) → b + k < n → (b + k) % 128 ≡ 0

@@ -1,5 +1,5 @@
 -- The refusals that come first in every call that is lent a journal, and what recording a change gives.
-use Rattle.std.specs.Prelude.{ℕ, ◌+◌, ◌≡◌, List, true, length, leb}
+use Rattle.std.specs.Prelude.{ℕ, ◌+◌, ◌≡◌, ◌≢◌, Option, unwrap_or, IfSome, List, true, length, leb}
 use Rattle.layout.specs.Refusals.{require, first_of, accept}
 use Rattle.layout.specs.Geometry.{block_count}
 use Rattle.layout.specs.Check.{check}
@@ -31,3 +31,8 @@ room_refusal j r = require (leb (used j + length r) (length j)) 15 0
 pub record Recorded (j r : List ℕ) (size : ℕ) (new : List ℕ) : Type 0 where
   pub length-given : size ≡ accept (room_refusal j r) (length r) 0
   pub journal-after : new ≡ accept (room_refusal j r) (added j r) j
+
+-- the same where the length is there only if there was room
+pub record Records (j r : List ℕ) (size : Option ℕ) (new : List ℕ) : Type 0 where
+  pub recorded : Recorded j r (unwrap_or size 0) new
+  pub some : IfSome size (λ k. k ≢ 0)

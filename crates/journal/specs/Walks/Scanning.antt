@@ -1,5 +1,5 @@
 -- The scan of a journal.
-use Rattle.std.specs.Prelude.{ℕ, ◌≤◌, ◌≡◌, List, map, Bool, ◌&&◌, cond, length, get_or, eqb, ltb}
+use Rattle.std.specs.Prelude.{ℕ, ◌≤◌, ◌≡◌, ◌≢◌, Option, unwrap_or, IfSome, List, map, Bool, ◌&&◌, cond, length, get_or, eqb, ltb}
 use Rattle.layout.specs.Lists.{within, interval, every}
 use Rattle.layout.specs.Limits.{max_blocks, min_journal, max_journal}
 use Rattle.journal.specs.Journal.{used, block_at, rising, last_record}
@@ -26,3 +26,8 @@ blocks_rise j n at lo i k =
 pub record Scans (j : List ℕ) (right ok : Bool) (last : ℕ) : Type 0 where
   pub well : ok ≡ right
   pub found : last ≡ cond ok (last_record j) 0
+
+-- where the last record begins, of a journal that may have none
+pub record Finds (j : List ℕ) (last : Option ℕ) : Type 0 where
+  pub found : unwrap_or last 0 ≡ last_record j
+  pub some : IfSome last (λ at. at ≢ 0)

@@ -1,4 +1,6 @@
 use mathlib.Core.Path.{sym, ◌∙◌}
+use borrow.Author.Tests.{eq-eqb, eqb-true}
+use Rattle.layout.proofs.Laws.Tests.{true-not-false}
 use Rattle.journal.proofs.Walks.Changes.{ready}
 use Rattle.append.proofs.Laws.Turns.{append-unready, append-empty, append-some}
 use Rattle.append.proofs.call.append.Goals as goal
@@ -18,11 +20,11 @@ append_nothing-requires c =
     let w = ready _ _ (sym c.ready_refusal-unready.ensures ∙ c.if-unready-ne0.false) in
     w.sound
 
-pub returns-then-piece-eq0 : goal.returns-then-piece-eq0
-returns-then-piece-eq0 c =
+pub returns-then-is_empty : goal.returns-then-is_empty
+returns-then-is_empty c =
     let w = ready _ _ (sym c.ready_refusal-unready.ensures ∙ c.if-unready-ne0.false) in
     let n = c.append_nothing.ensures in
-    let d = append-empty _ _ _ _ w _ c.if-piece-eq0.true _ c.file_end-end.ensures n.answer in
+    let d = append-empty _ _ _ _ w _ (eqb-true _ _ (sym c.is_empty.ensures ∙ c.if-is_empty.true)) _ c.file_end-end.ensures n.answer in
     record { answer = d.0; state = d.1; numbered = n.numbered }
 
 pub change_ready-requires : goal.change_ready-requires
@@ -33,5 +35,5 @@ change_ready-requires c =
 pub returns : goal.returns
 returns c =
     let n = c.change_ready.ensures in
-    let d = append-some _ _ _ _ _ c.if-piece-eq0.false _ c.file_end-end.ensures n.answer n.state in
+    let d = append-some _ _ _ _ _ (λ z. true-not-false (eq-eqb _ _ z) (sym c.is_empty.ensures ∙ c.if-is_empty.false)) _ c.file_end-end.ensures n.answer n.state in
     record { answer = d.0; state = d.1; numbered = n.numbered }

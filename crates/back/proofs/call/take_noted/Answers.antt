@@ -8,9 +8,6 @@ loop-left-init c =
     let p = c.requires in
     (take-start _ _ _ p.0 p.1, refl, refl)
 
-pub overflow_sub-left : goal.overflow_sub-left
-overflow_sub-left c = omega arith
-
 pub offset_bounds-offsets-left : goal.offset_bounds-offsets-left
 offset_bounds-offsets-left c = omega (arith, c.loop-left.invariant.0.noted.fits)
 
@@ -19,10 +16,7 @@ bounds-offsets-left c = omega (arith, c.loop-left.invariant.0.noted.fits)
 
 pub take_back-requires : goal.take_back-requires
 take_back-requires c =
-    take_last _ _ _ _ _ c.loop-left.invariant.0 c.loop-left-test.true _ c.wide-at.ensures
-
-pub loop-left-smaller : goal.loop-left-smaller
-loop-left-smaller c = omega arith
+    take_last _ _ _ _ _ c.loop-left.invariant.0 c.loop-left-test.true _ refl
 
 pub loop-left-preserved : goal.loop-left-preserved
 loop-left-preserved c =

@@ -1,7 +1,5 @@
 -- Each exit is one law of Turns.
-use mathlib.Core.Path.{◌≡◌, sym, ◌∙◌}
-use mathlib.Core.Bool.{true, false}
-use borrow.Author.Tests.{not-true, not-false}
+use mathlib.Core.Path.{sym, ◌∙◌}
 use Rattle.journal.proofs.Walks.Changes.{ready}
 use Rattle.back.proofs.Laws.Turns.{right-ready, back-unready, back-unmarked, back_done}
 use Rattle.back.proofs.call.undo_to.Goals as goal
@@ -14,15 +12,12 @@ had_mark-requires c = right-ready (ready _ _ (sym c.ready_refusal-unready.ensure
 
 pub returns-then-not-had_mark : goal.returns-then-not-had_mark
 returns-then-not-had_mark c =
-    let t : c.had_mark.result ≡ false = not-true _ c.if-not-had_mark.true-raw in
-    back-unmarked _ _ (ready _ _ (sym c.ready_refusal-unready.ensures ∙ c.if-unready-ne0.false)) (sym c.had_mark.ensures ∙ t)
+    back-unmarked _ _ (ready _ _ (sym c.ready_refusal-unready.ensures ∙ c.if-unready-ne0.false)) (sym c.had_mark.ensures ∙ c.if-not-had_mark.true)
 
 pub take_to-done-requires : goal.take_to-done-requires
 take_to-done-requires c =
-    let t : c.had_mark.result ≡ true = not-false _ c.if-not-had_mark.false-raw in
-    (ready _ _ (sym c.ready_refusal-unready.ensures ∙ c.if-unready-ne0.false), sym c.had_mark.ensures ∙ t)
+    (ready _ _ (sym c.ready_refusal-unready.ensures ∙ c.if-unready-ne0.false), sym c.had_mark.ensures ∙ c.if-not-had_mark.false)
 
 pub returns : goal.returns
 returns c =
-    let t : c.had_mark.result ≡ true = not-false _ c.if-not-had_mark.false-raw in
-    c.take_to-done.ensures ∙ back_done _ _ (ready _ _ (sym c.ready_refusal-unready.ensures ∙ c.if-unready-ne0.false)) (sym c.had_mark.ensures ∙ t)
+    c.take_to-done.ensures ∙ back_done _ _ (ready _ _ (sym c.ready_refusal-unready.ensures ∙ c.if-unready-ne0.false)) (sym c.had_mark.ensures ∙ c.if-not-had_mark.false)

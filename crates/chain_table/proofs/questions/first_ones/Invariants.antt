@@ -1,4 +1,4 @@
-use Prim.Native.Nat.{◌+◌}
+use Prim.Native.Nat.{◌+◌, ◌-◌}
 use mathlib.Core.Path.{◌≡◌}
 use lib.ListN.{length}
 use Rattle.layout.specs.Geometry.{table_blocks}
@@ -6,8 +6,6 @@ use Rattle.layout.specs.Table.{all_ones}
 use Rattle.chain_table.specs.Numbers.{value_in}
 use Rattle.chain_table.proofs.questions.first_ones.Given as goal
 
-abbrev pub invariant-loop-left : goal.invariant-loop-left
-invariant-loop-left l = (l.b + l.left ≡ table_blocks (length l.numbers) + 1) × (all_ones (value_in l.numbers) 0 (table_blocks (length l.numbers) + 1) ≡ all_ones (value_in l.numbers) l.b l.left)
-
-abbrev pub decreases-loop-left : goal.decreases-loop-left
-decreases-loop-left l = l.left
+abbrev pub invariant-loop-b : goal.invariant-loop-b
+invariant-loop-b l =
+    (l.b-end ≡ table_blocks (length l.numbers) + 1) × (all_ones (value_in l.numbers) 0 (table_blocks (length l.numbers) + 1) ≡ all_ones (value_in l.numbers) l.b (l.b-end - l.b))

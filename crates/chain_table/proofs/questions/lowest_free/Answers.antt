@@ -6,20 +6,8 @@ use Rattle.chain_table.proofs.questions.lowest_free.Goals as goal
 pub loop-b-init : goal.loop-b-init
 loop-b-init c = (refl, refl)
 
-pub offset_bounds-numbers-b : goal.offset_bounds-numbers-b
-offset_bounds-numbers-b c = omega arith
-
-pub bounds-numbers-b : goal.bounds-numbers-b
-bounds-numbers-b c = omega arith
-
 pub returns-then-numbers-b-eq0 : goal.returns-then-numbers-b-eq0
 returns-then-numbers-b-eq0 c = sym (c.loop-b.invariant.1 ∙ search-here _ _ _ (omega arith) c.if-numbers-b-eq0.true)
-
-pub overflow_add-b : goal.overflow_add-b
-overflow_add-b c = omega arith
-
-pub loop-b-smaller : goal.loop-b-smaller
-loop-b-smaller c = omega arith
 
 pub loop-b-preserved : goal.loop-b-preserved
 loop-b-preserved c = (refl, c.loop-b.invariant.1 ∙ search-next _ _ _ (omega arith) c.if-numbers-b-eq0.false)

@@ -8,6 +8,3 @@ use Rattle.chain_table.proofs.questions.rest_free.Given as goal
 
 abbrev pub invariant-loop-b : goal.invariant-loop-b
 invariant-loop-b l = (l.n ≡ length l.numbers) × (rest_free (value_in l.numbers) l.marks (table_blocks l.n + 1) (l.n - (table_blocks l.n + 1)) ≡ rest_free (value_in l.numbers) l.marks l.b (l.n - l.b))
-
-abbrev pub decreases-loop-b : goal.decreases-loop-b
-decreases-loop-b l = l.n - l.b

@@ -9,31 +9,10 @@ use Rattle.chain_table.proofs.transfer.load_block.Goals as goal
 pub loop-j-init : goal.loop-j-init
 loop-j-init c = (omega arith, refl, refl, λ i h. absurd (omega arith))
 
-pub overflow_mul-at : goal.overflow_mul-at
-overflow_mul-at c = omega arith
-
-pub get32-requires : goal.get32-requires
-get32-requires c = omega arith
-
-pub offset_bounds-numbers-j : goal.offset_bounds-numbers-j
-offset_bounds-numbers-j c = omega arith
-
-pub bounds-numbers-j : goal.bounds-numbers-j
-bounds-numbers-j c = omega arith
-
-pub overflow_step-j : goal.overflow_step-j
-overflow_step-j c = omega arith
-
-pub loop-j-smaller : goal.loop-j-smaller
-loop-j-smaller c = omega arith
-
 pub loop-j-preserved : goal.loop-j-preserved
 loop-j-preserved c =
     let l = c.loop-j in
     (omega arith, refl, simp length-set l.invariant.2, fill_more (entry_in c.args.block.now) l.numbers l.j _ (omega arith) l.invariant.3 c.get32.ensures)
-
-pub shape_of-numbers : goal.shape_of-numbers
-shape_of-numbers c = omega arith
 
 pub returns : goal.returns
 returns c = entries-are _ _ _ (omega arith) (λ i h. c.loop-j.invariant.3 i (omega arith))

@@ -14,15 +14,6 @@ pub loop-b-init : goal.loop-b-init
 unfolding stored
 loop-b-init c = (omega arith, refl, refl, λ h. refl, refl)
 
-pub overflow_sub-rest : goal.overflow_sub-rest
-overflow_sub-rest c = omega arith
-
-pub overflow_add-end : goal.overflow_add-end
-overflow_add-end c = omega arith
-
-pub overflow_add-a : goal.overflow_add-a
-overflow_add-a c = omega arith
-
 pub overflow_mul-a : goal.overflow_mul-a
 overflow_mul-a c = omega (arith, c.requires)
 
@@ -38,51 +29,29 @@ slice_bounds-store_block-start c = omega (arith, c.requires)
 pub slice_bounds-store_block-end : goal.slice_bounds-store_block-end
 slice_bounds-store_block-end c = omega (arith, c.requires)
 
-pub offset_bounds-numbers-b : goal.offset_bounds-numbers-b
-offset_bounds-numbers-b c = omega arith
-
-pub slice_bounds-store_block-count-in-loop-b : goal.slice_bounds-store_block-count-in-loop-b
-slice_bounds-store_block-count-in-loop-b c = omega arith
-
-pub slice_bounds-store_block-start-in-loop-b : goal.slice_bounds-store_block-start-in-loop-b
-slice_bounds-store_block-start-in-loop-b c = omega arith
-
-pub slice_bounds-store_block-end-in-loop-b : goal.slice_bounds-store_block-end-in-loop-b
-slice_bounds-store_block-end-in-loop-b c = omega arith
-
-pub store_block-requires : goal.store_block-requires
-store_block-requires c = omega arith
-
-pub loop-b-smaller : goal.loop-b-smaller
-loop-b-smaller c = omega arith
-
 pub loop-b-preserved : goal.loop-b-preserved
 loop-b-preserved c =
     let l = c.loop-b in
     let xs = c.args.numbers.now in
     let p = c.requires in
-    let least = c.least in
-    let k = least.result in
+    let end = c.min-end.result in
+    let k : ℕ = end - l.b in
+    let ends : l.b + k ≡ end = omega (arith, c.min-end.ensures) in
     let whole : l.b % 128 ≡ 0 = l.invariant.3 (omega arith) in
-    let small : k ≤ 128 = omega (arith, least.ensures) in
-    let room : l.b + k ≤ length xs = omega (arith, least.ensures) in
-    let j : ℕ = l.b + k - l.b in
-    let same : j ≡ k = omega arith in
+    let small : k ≤ 128 = omega (arith, c.min-end.ensures) in
+    let room : l.b + k ≤ length xs = omega (arith, c.min-end.ensures) in
     let a : ℕ = 512 * (1 + l.b / 128) in
     let at : a + 0 ≡ 512 + 4 * l.b = omega (arith, whole) in
-    let run : List ℕ = joined bytes4 (part xs l.b j) in
-    let long : length run ≡ 4 * j = length-joined4 (part xs l.b j) ∙ ap (λ (x : ℕ). 4 * x) (length_part xs l.b j (omega arith)) in (
+    let run : List ℕ = joined bytes4 (part xs l.b k) in
+    let long : length run ≡ 4 * k = length-joined4 (part xs l.b k) ∙ ap (λ (x : ℕ). 4 * x) (length_part xs l.b k room) in (
       omega arith,
       refl,
       omega arith,
-      next-block l.b k _ whole least.ensures,
+      λ h. omega (arith, ends, next-block l.b k (length xs) whole (omega (arith, c.min-end.ensures)) (omega arith)),
       l.invariant.4 ∙ store-turn xs l.image l.b k room (omega (arith, p)) _
           (lent-part l.image a (a + 512 - a) 0 run _ c.store_block.ensures (omega (arith, p)) (omega arith)
-          ∙ ap (λ (x : ℕ). splice l.image x run) at ∙ ap (λ (x : ℕ). splice l.image (512 + 4 * l.b) (joined bytes4 (part xs l.b x))) same),
+          ∙ ap (λ (x : ℕ). splice l.image x run) at) ∙ rw ends,
     )
-
-pub shape_of-image : goal.shape_of-image
-shape_of-image c = omega arith
 
 pub returns : goal.returns
 returns c = sym (c.loop-b.invariant.4 ∙ all-stored _ _ _ (omega arith))

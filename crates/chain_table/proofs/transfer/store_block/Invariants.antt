@@ -1,4 +1,4 @@
-use Prim.Native.Nat.{◌≤◌, ◌-◌, ◌*◌}
+use Prim.Native.Nat.{◌≤◌, ◌*◌}
 use mathlib.Core.Path.{◌≡◌}
 use lib.ListN.{length, drop}
 use Rattle.layout.specs.Lists.{joined}
@@ -7,6 +7,3 @@ use Rattle.chain_table.proofs.transfer.store_block.Given as goal
 
 abbrev pub invariant-loop-j : goal.invariant-loop-j
 invariant-loop-j l = (l.j ≤ l.j-end) × (l.j-end ≡ length l.numbers) × (length l.block ≡ length l.initial.block) × (splice l.initial.block 0 (joined bytes4 l.numbers) ≡ splice l.block (4 * l.j) (joined bytes4 (drop l.j l.numbers)))
-
-abbrev pub decreases-loop-j : goal.decreases-loop-j
-decreases-loop-j l = l.j-end - l.j

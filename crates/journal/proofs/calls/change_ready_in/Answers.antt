@@ -1,5 +1,5 @@
 -- Each exit is one law of Changes.
-use mathlib.Core.Path.{sym, ◌∙◌}
+use mathlib.Core.Path.{refl, sym, ◌∙◌}
 use native.Mathlib.Omega.{arith}
 use Rattle.journal.proofs.Walks.Changes.{change-refused, change-full, change-done}
 use Rattle.journal.proofs.calls.change_ready_in.Goals as goal
@@ -13,17 +13,16 @@ returns-then-refusal-ne0 c =
     let d = change-refused _ _ _ p _ c.refusal-found.ensures.number_is c.if-refusal-ne0.true in
     record { answer = d.0; state = d.1; numbered = c.if-refusal-ne0.true }
 
-pub record_change-size-requires : goal.record_change-size-requires
-record_change-size-requires c =
+pub record_change-requires : goal.record_change-requires
+record_change-requires c =
     let refusal = c.refusal-found in
     (c.requires, sym refusal.ensures.number_is ∙ c.if-refusal-ne0.false, refusal.ensures.target c.if-refusal-ne0.false)
 
-pub returns-then-size-eq0 : goal.returns-then-size-eq0
-returns-then-size-eq0 c =
-    let record-change = c.record_change-size in
+pub returns-in_default : goal.returns-in_default
+returns-in_default c =
     let refusal = c.refusal-found in
     let p = c.requires in
-    let d = change-full _ _ _ p (sym refusal.ensures.number_is ∙ c.if-refusal-ne0.false) _ _ record-change.ensures c.if-size-eq0.true in
+    let d = change-full _ _ _ p (sym refusal.ensures.number_is ∙ c.if-refusal-ne0.false) _ _ c.in_default.ensures.recorded refl in
     record { answer = d.0; state = d.1; numbered = λ e. omega arith }
 
 pub make-slot-requires : goal.make-slot-requires
@@ -34,8 +33,8 @@ make-slot-requires c =
 pub returns : goal.returns
 returns c =
     let make = c.make-slot in
-    let record-change = c.record_change-size in
     let refusal = c.refusal-found in
     let p = c.requires in
-    let d = change-done _ _ _ p (sym refusal.ensures.number_is ∙ c.if-refusal-ne0.false) _ _ record-change.ensures c.if-size-eq0.false _ make.ensures.slot _ make.ensures.bytes in
+    let recorded = c.in-Some.ensures in
+    let d = change-done _ _ _ p (sym refusal.ensures.number_is ∙ c.if-refusal-ne0.false) _ _ recorded.recorded recorded.some _ make.ensures.slot _ make.ensures.bytes in
     record { answer = d.0; state = d.1; numbered = tt }

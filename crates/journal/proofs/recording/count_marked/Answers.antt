@@ -7,18 +7,6 @@ use Rattle.journal.proofs.recording.count_marked.Goals as goal
 pub loop-b-init : goal.loop-b-init
 loop-b-init c = (omega arith, omega arith, omega arith)
 
-pub bounds-marks-b : goal.bounds-marks-b
-bounds-marks-b c = omega arith
-
-pub overflow_add-count : goal.overflow_add-count
-overflow_add-count c = omega arith
-
-pub overflow_step-b : goal.overflow_step-b
-overflow_step-b c = omega arith
-
-pub loop-b-smaller : goal.loop-b-smaller
-loop-b-smaller c = omega arith
-
 pub loop-b-preserved : goal.loop-b-preserved
 loop-b-preserved c =
     let l = c.loop-b in

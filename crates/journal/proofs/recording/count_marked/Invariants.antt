@@ -7,6 +7,3 @@ use Rattle.journal.proofs.recording.count_marked.Given as goal
 
 abbrev pub invariant-loop-b : goal.invariant-loop-b
 invariant-loop-b l = (l.b ≤ l.e) × (l.a + l.count ≤ l.b) × (l.count + length (marked_from l.marks l.b (l.e - l.b)) ≡ length (marked_from l.marks l.a (l.e - l.a)))
-
-abbrev pub decreases-loop-b : goal.decreases-loop-b
-decreases-loop-b l = l.e - l.b

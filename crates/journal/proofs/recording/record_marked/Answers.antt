@@ -25,7 +25,7 @@ unfolding used
 returns-then-journal-used c =
     let record-size = c.record_size-size in
     let p = c.requires in
-    not-recorded _ _ _ p.0 _ record-size.ensures (omega (arith, c.get32-used.ensures, c.if-journal-used.true))
+    record { recorded = not-recorded _ _ _ p.0 _ record-size.ensures (omega (arith, c.get32-used.ensures, c.if-journal-used.true)); some = tt }
 
 pub add_record-requires : goal.add_record-requires
 unfolding used
@@ -50,4 +50,4 @@ returns c =
     let get32 = c.get32-used in
     let record-size = c.record_size-size in
     let p = c.requires in
-    now-recorded _ _ _ p.0 _ record-size.ensures (omega (arith, get32.ensures, if1.false)) _ add-record.ensures
+    record { recorded = now-recorded _ _ _ p.0 _ record-size.ensures (omega (arith, get32.ensures, if1.false)) _ add-record.ensures; some = λ z. omega (arith, record-size.ensures) }

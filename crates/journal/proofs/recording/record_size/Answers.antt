@@ -7,23 +7,8 @@ use Rattle.journal.proofs.recording.record_size.Goals as goal
 pub loop-a-init : goal.loop-a-init
 loop-a-init c = (omega arith, omega arith, rw sub-zero (omega arith))
 
-pub overflow_add-a : goal.overflow_add-a
-overflow_add-a c = omega arith
-
-pub overflow_add-e : goal.overflow_add-e
-overflow_add-e c = omega arith
-
 pub count_marked-requires : goal.count_marked-requires
 count_marked-requires c = (omega arith, omega arith, omega arith)
-
-pub overflow_cast-count : goal.overflow_cast-count
-overflow_cast-count c = omega arith
-
-pub overflow_add-count : goal.overflow_add-count
-overflow_add-count c = omega arith
-
-pub loop-a-smaller : goal.loop-a-smaller
-loop-a-smaller c = omega arith
 
 pub loop-a-preserved : goal.loop-a-preserved
 loop-a-preserved c =
@@ -34,18 +19,6 @@ loop-a-preserved c =
 
 pub count_marked-requires-2 : goal.count_marked-requires-2
 count_marked-requires-2 c = (omega arith, omega arith, omega arith)
-
-pub overflow_cast-count-2 : goal.overflow_cast-count-2
-overflow_cast-count-2 c = omega arith
-
-pub overflow_add-count-2 : goal.overflow_add-count-2
-overflow_add-count-2 c = omega arith
-
-pub overflow_mul-result : goal.overflow_mul-result
-overflow_mul-result c = omega arith
-
-pub overflow_add-result : goal.overflow_add-result
-overflow_add-result c = omega arith
 
 pub returns : goal.returns
 returns c = omega (arith, c.count_marked-2.ensures.0, c.loop-a.invariant.2)

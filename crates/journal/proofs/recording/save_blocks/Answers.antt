@@ -7,17 +7,8 @@ use Rattle.journal.proofs.recording.save_blocks.Goals as goal
 pub loop-b-init : goal.loop-b-init
 loop-b-init c = save-all _ _ _ _ _
 
-pub overflow_add-b : goal.overflow_add-b
-overflow_add-b c = omega arith
-
-pub overflow_add-b-in-loop-b : goal.overflow_add-b-in-loop-b
-overflow_add-b-in-loop-b c = omega arith
-
 pub count_marked-requires : goal.count_marked-requires
 count_marked-requires c = (omega arith, omega arith, omega arith)
-
-pub loop-b-smaller-then-count_marked-eq0 : goal.loop-b-smaller-then-count_marked-eq0
-loop-b-smaller-then-count_marked-eq0 c = omega arith
 
 pub loop-b-preserved-then-count_marked-eq0 : goal.loop-b-preserved-then-count_marked-eq0
 loop-b-preserved-then-count_marked-eq0 c =
@@ -30,9 +21,6 @@ save_range-p-requires c =
     let l = c.loop-b in
     let p = c.requires in
     (omega arith, marks-fewer _ _ _ _ p.0 (omega arith), save-room _ _ _ _ _ _ _ _ _ l.invariant p.0 p.1 (l.b + 64) (omega arith) (omega arith))
-
-pub loop-b-smaller : goal.loop-b-smaller
-loop-b-smaller c = omega arith
 
 pub loop-b-preserved : goal.loop-b-preserved
 loop-b-preserved c =

@@ -10,26 +10,11 @@ use Rattle.journal.proofs.recording.save_range.Goals as goal
 pub loop-b-init : goal.loop-b-init
 loop-b-init c = save-start _ _ _ _ _ _ (omega arith)
 
-pub bounds-marks-b : goal.bounds-marks-b
-bounds-marks-b c = omega arith
-
-pub overflow_step-b : goal.overflow_step-b
-overflow_step-b c = omega arith
-
-pub loop-b-smaller-then-marks-b-eq0 : goal.loop-b-smaller-then-marks-b-eq0
-loop-b-smaller-then-marks-b-eq0 c = omega arith
-
 pub loop-b-preserved-then-marks-b-eq0 : goal.loop-b-preserved-then-marks-b-eq0
 loop-b-preserved-then-marks-b-eq0 c =
     let l = c.loop-b in
     let p = c.requires in
     save-skip _ _ _ _ _ _ _ _ _ l.invariant p.1 p.2 (omega arith) c.if-marks-b-eq0.true
-
-pub overflow_mul-s : goal.overflow_mul-s
-overflow_mul-s c = omega arith
-
-pub overflow_add-t : goal.overflow_add-t
-overflow_add-t c = omega arith
 
 pub overflow_add-q : goal.overflow_add-q
 overflow_add-q c =
@@ -37,21 +22,6 @@ overflow_add-q c =
     let p = c.requires in
     let r = save-room-one _ _ _ _ _ _ _ _ _ l.invariant p.1 p.2 (omega arith) c.if-marks-b-eq0.false in
     omega arith
-
-pub slice_bounds-save_block-count : goal.slice_bounds-save_block-count
-slice_bounds-save_block-count c = omega arith
-
-pub slice_bounds-save_block-start : goal.slice_bounds-save_block-start
-slice_bounds-save_block-start c = omega arith
-
-pub slice_bounds-save_block-end : goal.slice_bounds-save_block-end
-slice_bounds-save_block-end c = omega arith
-
-pub slice_bounds-save_block-count-in-loop-b : goal.slice_bounds-save_block-count-in-loop-b
-slice_bounds-save_block-count-in-loop-b c = omega arith
-
-pub slice_bounds-save_block-start-in-loop-b : goal.slice_bounds-save_block-start-in-loop-b
-slice_bounds-save_block-start-in-loop-b c = omega arith
 
 pub slice_bounds-save_block-end-in-loop-b : goal.slice_bounds-save_block-end-in-loop-b
 slice_bounds-save_block-end-in-loop-b c =
@@ -67,12 +37,6 @@ save_block-requires c =
     let p = c.requires in
     let r = save-room-one _ _ _ _ _ _ _ _ _ l.invariant p.1 p.2 (omega arith) if1.false in
     (simp (length-take, length-drop) (omega arith), simp (length-take, length-drop) (omega arith), omega arith)
-
-pub overflow_step-b-in-loop-b : goal.overflow_step-b-in-loop-b
-overflow_step-b-in-loop-b c = omega arith
-
-pub loop-b-smaller : goal.loop-b-smaller
-loop-b-smaller c = omega arith
 
 pub loop-b-preserved : goal.loop-b-preserved
 loop-b-preserved c =

@@ -6,6 +6,3 @@ use Rattle.journal.proofs.recording.save_range.Given as goal
 
 abbrev pub invariant-loop-b : goal.invariant-loop-b
 invariant-loop-b l = Saving l.image l.marks l.initial.journal (marked_from l.marks l.a (l.e - l.a)) l.at l.e l.journal l.p l.b
-
-abbrev pub decreases-loop-b : goal.decreases-loop-b
-decreases-loop-b l = l.e - l.b

@@ -9,7 +9,7 @@ use Rattle.journal.proofs.restoring.drop_record.Goals as goal
 pub returns : goal.returns
 returns c =
     let put32 = c.put32 in
-    let clear = c.clear in
+    let fill = c.fill in
     let a = c.args in
     put32.ensures ∙ ap (λ (x : List ℕ). splice x 1 (bytes4 a.at))
-    (lent-zeros a.journal.now a.at a.size (a.at + a.size - a.at) _ clear.ensures (omega arith) (omega arith))
+    (lent-zeros a.journal.now a.at a.size (a.at + a.size - a.at) _ (fill.ensures.after (λ y e. e)) (omega arith) (omega arith))

@@ -10,18 +10,6 @@ use Rattle.journal.proofs.restoring.restore.Goals as goal
 pub loop-i-init : goal.loop-i-init
 loop-i-init c = restore-start _ _ _ _ _ c.requires.below
 
-pub overflow_add-p : goal.overflow_add-p
-overflow_add-p c = omega arith
-
-pub overflow_mul-p : goal.overflow_mul-p
-overflow_mul-p c = omega arith
-
-pub overflow_add-p-in-loop-i : goal.overflow_add-p-in-loop-i
-overflow_add-p-in-loop-i c = omega arith
-
-pub get32-requires : goal.get32-requires
-get32-requires c = omega arith
-
 pub overflow_mul-a : goal.overflow_mul-a
 overflow_mul-a c =
     let h = restore-below _ _ _ _ _ _ _ c.loop-i.invariant (omega arith) in
@@ -32,46 +20,19 @@ overflow_add-e c =
     let h = restore-below _ _ _ _ _ _ _ c.loop-i.invariant (omega arith) in
     omega (arith, c.get32.ensures)
 
-pub overflow_add-f : goal.overflow_add-f
-overflow_add-f c = omega arith
-
-pub overflow_add-g : goal.overflow_add-g
-overflow_add-g c = omega arith
-
-pub slice_bounds-copy-count : goal.slice_bounds-copy-count
-slice_bounds-copy-count c = omega arith
-
-pub slice_bounds-copy-start : goal.slice_bounds-copy-start
-slice_bounds-copy-start c = omega arith
-
-pub slice_bounds-copy-end : goal.slice_bounds-copy-end
-slice_bounds-copy-end c = omega arith
-
-pub slice_bounds-copy-count-in-loop-i : goal.slice_bounds-copy-count-in-loop-i
-slice_bounds-copy-count-in-loop-i c = omega arith
-
-pub slice_bounds-copy-start-in-loop-i : goal.slice_bounds-copy-start-in-loop-i
-slice_bounds-copy-start-in-loop-i c = omega arith
-
-pub slice_bounds-copy-end-in-loop-i : goal.slice_bounds-copy-end-in-loop-i
-slice_bounds-copy-end-in-loop-i c =
+pub slice_bounds-copy_from_slice-end-in-loop-i : goal.slice_bounds-copy_from_slice-end-in-loop-i
+slice_bounds-copy_from_slice-end-in-loop-i c =
     let h = restore-below _ _ _ _ _ _ _ c.loop-i.invariant (omega arith) in
     omega (arith, c.get32.ensures, c.loop-i.invariant.long)
 
-pub copy-requires : goal.copy-requires
-copy-requires c =
+pub copy_from_slice-requires : goal.copy_from_slice-requires
+copy_from_slice-requires c =
     let h = restore-below _ _ _ _ _ _ _ c.loop-i.invariant (omega arith) in
     simp (length-take, length-drop) (omega (arith, c.get32.ensures, c.loop-i.invariant.long))
 
-pub overflow_step-i : goal.overflow_step-i
-overflow_step-i c = omega arith
-
-pub loop-i-smaller : goal.loop-i-smaller
-loop-i-smaller c = omega arith
-
 pub loop-i-preserved : goal.loop-i-preserved
 loop-i-preserved c =
-    let copy = c.copy in
+    let copy = c.copy_from_slice in
     let get32 = c.get32 in
     let l = c.loop-i in
     let a = c.args in
@@ -82,7 +43,7 @@ loop-i-preserved c =
     let w : a.at + 4 + 516 * l.i + 4 + 512 - (a.at + 4 + 516 * l.i + 4) ≡ 512 = omega arith in
     let q : length (bytes_at a.journal.now a.at l.i) ≡ 512 = length_part a.journal.now (a.at + 8 + 516 * l.i) 512 (omega arith) in
     restore-one _ _ _ _ _ _ _ l.invariant (omega arith) _ (omega arith)
-    (lent l.image (512 * b) (512 * b + 512 - 512 * b) _ (bytes_at a.journal.now a.at l.i) (copy.ensures ∙ rw (w, o)) (q ∙ omega arith) ∙ rw g)
+    (lent l.image (512 * b) (512 * b + 512 - 512 * b) _ (bytes_at a.journal.now a.at l.i) (copy.ensures.after ∙ rw (w, o)) (q ∙ omega arith) ∙ rw g)
 
 pub shape_of-image : goal.shape_of-image
 shape_of-image c = c.loop-i.invariant.long

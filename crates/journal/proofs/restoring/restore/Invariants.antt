@@ -5,6 +5,3 @@ use Rattle.journal.proofs.restoring.restore.Given as goal
 
 abbrev pub invariant-loop-i : goal.invariant-loop-i
 invariant-loop-i l = Restoring l.initial.image l.journal l.n l.at l.k l.image l.i
-
-abbrev pub decreases-loop-i : goal.decreases-loop-i
-decreases-loop-i l = l.k - l.i

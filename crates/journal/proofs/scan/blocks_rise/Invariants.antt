@@ -7,6 +7,3 @@ use Rattle.journal.proofs.scan.blocks_rise.Given as goal
 
 abbrev pub invariant-loop-i : goal.invariant-loop-i
 invariant-loop-i l = (l.i ≤ l.k) × (l.low ≤ max_blocks) × (blocks_rise l.journal l.n l.at 0 0 l.k ≡ blocks_rise l.journal l.n l.at l.low l.i (l.k - l.i))
-
-abbrev pub decreases-loop-i : goal.decreases-loop-i
-decreases-loop-i l = l.k - l.i

@@ -1,6 +1,4 @@
-use mathlib.Core.Path.{◌≡◌, sym, ◌∙◌}
-use mathlib.Core.Bool.{true, false}
-use borrow.Author.Tests.{not-true, not-false}
+use mathlib.Core.Path.{sym, ◌∙◌}
 use Rattle.journal.proofs.Walks.Changes.{ready}
 use Rattle.write_list.proofs.Laws.Turns.{list-unready, list-malformed, list_done}
 use Rattle.write_list.proofs.call.write_list.Goals as goal
@@ -10,15 +8,12 @@ returns-then-unready-ne0 c = list-unready _ _ _ c.ready_refusal-unready.ensures 
 
 pub returns-then-not-list_ok : goal.returns-then-not-list_ok
 returns-then-not-list_ok c =
-    let t : c.list_ok.result ≡ false = not-true _ c.if-not-list_ok.true-raw in
-    list-malformed _ _ (ready _ _ (sym c.ready_refusal-unready.ensures ∙ c.if-unready-ne0.false)) (sym c.list_ok.ensures ∙ t)
+    list-malformed _ _ (ready _ _ (sym c.ready_refusal-unready.ensures ∙ c.if-unready-ne0.false)) (sym c.list_ok.ensures ∙ c.if-not-list_ok.true)
 
 pub write_items-requires : goal.write_items-requires
 write_items-requires c =
-    let t : c.list_ok.result ≡ true = not-false _ c.if-not-list_ok.false-raw in
-    (ready _ _ (sym c.ready_refusal-unready.ensures ∙ c.if-unready-ne0.false), sym c.list_ok.ensures ∙ t)
+    (ready _ _ (sym c.ready_refusal-unready.ensures ∙ c.if-unready-ne0.false), sym c.list_ok.ensures ∙ c.if-not-list_ok.false)
 
 pub returns : goal.returns
 returns c =
-    let t : c.list_ok.result ≡ true = not-false _ c.if-not-list_ok.false-raw in
-    c.write_items.ensures ∙ list_done _ _ (ready _ _ (sym c.ready_refusal-unready.ensures ∙ c.if-unready-ne0.false)) (sym c.list_ok.ensures ∙ t)
+    c.write_items.ensures ∙ list_done _ _ (ready _ _ (sym c.ready_refusal-unready.ensures ∙ c.if-unready-ne0.false)) (sym c.list_ok.ensures ∙ c.if-not-list_ok.false)

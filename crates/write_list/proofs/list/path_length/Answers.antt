@@ -4,4 +4,4 @@ use Rattle.write_list.proofs.list.path_length.Goals as goal
 
 pub returns : goal.returns
 unfolding path_length
-returns c = (rw (c.wide-high.ensures.0, c.wide-low.ensures.0), omega arith)
+returns c = (omega arith, omega arith)

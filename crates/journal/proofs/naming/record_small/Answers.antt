@@ -1,9 +1,0 @@
-use native.Mathlib.Omega.{arith}
-use Rattle.layout.proofs.Laws.Bytes.{zeros-own}
-use Rattle.journal.proofs.naming.record_small.Goals as goal
-
-pub record_with-requires : goal.record_with-requires
-record_with-requires c =
-    let p = c.requires in
-    let f = zeros-own _ _ c.few_marks-marks.ensures in
-    (p.0, p.1, p.2, omega (arith, f.0, p.3), f.1)
