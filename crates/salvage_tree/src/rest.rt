@@ -7,32 +7,27 @@ ghost use Rattle.layout.specs.Walks.Shapes.{Shape, Room};
 ghost use Rattle.salvage_tree.specs.SalvageTree.{head_put};
 ghost use Rattle.salvage_tree.specs.Walks.{Ready, FreedNoted, IsFree, AllFree, signed, BlocksPut, PaddingPut, RestPut};
 
+// What an image begins with: the signature and the version.
+pub const SIGNATURE: &[u8; 12] = b"BulgeFS!\x00\x01\x00\x00";
+
 // The code 5 of block b, if it is in use and not claimed.
 fn note_block(image: &[u8], marks: &[u8], b: usize, codes: &mut [u8])
     requires { (512 * table_block_of b + 512 ≤ length image.now) × (b < length marks.now) × (4 * b < length codes.old) }
     ensures { FreedNoted image.now marks.now b 1 codes.old codes.new }
 {
-    if marks[b] != 0 {
+    if is_free(image, marks, b) {
         return;
     }
-    if layout::table::entry(image, b) == 0 {
-        return;
-    }
-    let at = 4 * b;
-    codes[at] = 5;
+    codes[4 * b] = 5;
 }
 
-// The same of the k blocks from `from` on.
-fn note_freed(image: &[u8], n: usize, marks: &[u8], from: usize, k: usize, codes: &mut [u8])
-    requires { (Shape image.now n) × (from + k ≤ n) × (n ≤ length marks.now) × (length codes.old ≡ 4 * n) }
-    ensures { FreedNoted image.now marks.now from k codes.old codes.new }
+// The same of the blocks from `low` on.
+fn note_freed(image: &[u8], n: usize, marks: &[u8], low: usize, codes: &mut [u8])
+    requires { (Shape image.now n) × (low ≤ n) × (n ≤ length marks.now) × (length codes.old ≡ 4 * n) }
+    ensures { FreedNoted image.now marks.now low (n - low) codes.old codes.new }
 {
-    let mut b = from;
-    let mut left = k;
-    while 0 < left {
+    for b in low..n {
         note_block(image, marks, b, codes);
-        b = b + 1;
-        left = left - 1;
     }
 }
 
@@ -41,27 +36,15 @@ fn is_free(image: &[u8], marks: &[u8], b: usize) -> bool
     requires { (512 * table_block_of b + 512 ≤ length image.now) × (b < length marks.now) }
     ensures { IsFree image.now marks.now b result }
 {
-    if marks[b] != 0 {
-        return true;
-    }
-    layout::table::entry(image, b) == 0
+    marks[b] != 0 || layout::table::entry(image, b) == 0
 }
 
-// The same of the k entries from `from` on.
-fn all_free(image: &[u8], n: usize, marks: &[u8], from: usize, k: usize) -> bool
-    requires { (Shape image.now n) × (from + k ≤ 128 * table_blocks n) × (from + k ≤ length marks.now) }
-    ensures { AllFree image.now marks.now from k result }
+// The same of the entries from n on and below `end`.
+fn all_free(image: &[u8], n: usize, marks: &[u8], end: usize) -> bool
+    requires { (Shape image.now n) × (end ≤ 128 * table_blocks n) × (end ≤ length marks.now) }
+    ensures { AllFree image.now marks.now n (end - n) result }
 {
-    let mut b = from;
-    let mut left = k;
-    while 0 < left {
-        if !is_free(image, marks, b) {
-            return false;
-        }
-        b = b + 1;
-        left = left - 1;
-    }
-    true
+    (n..end).all(|b| is_free(image, marks, b))
 }
 
 // Whether the header is right.
@@ -81,12 +64,10 @@ fn sign(image: &mut [u8])
     requires { 12 ≤ length image.old }
     ensures { image.new ≡ signed image.old }
 {
-    let z = 0;
-    let e = 12;
-    if layout::bytes::equal(&image[z..e], b"BulgeFS!\x00\x01\x00\x00") {
+    if image.starts_with(SIGNATURE) {
         return;
     }
-    layout::bytes::copy_part(b"BulgeFS!\x00\x01\x00\x00", 0, image, 0, 12);
+    image[..12].copy_from_slice(SIGNATURE);
 }
 
 // Puts the header right.
@@ -109,9 +90,8 @@ fn put_blocks(image: &mut [u8], t: usize, n: usize, marks: &[u8], codes: &mut [u
     let low = t + 1;
     let right = layout::table::ones(image, low);
     salvage::table::put_ones(image, low);
-    let count = n - low;
-    note_freed(image, n, marks, low, count, codes);
-    salvage::table::free_entries(image, n, marks, low, count);
+    note_freed(image, n, marks, low, codes);
+    salvage::table::free_entries(image, n, marks, low, n - low);
     right
 }
 
@@ -120,9 +100,9 @@ fn put_padding(image: &mut [u8], t: usize, n: usize, marks: &[u8]) -> bool
     requires { Room image.old t n marks.now }
     ensures { PaddingPut image.old marks.now result image.new }
 {
-    let count = 128 * t - n;
-    let right = all_free(image, n, marks, n, count);
-    salvage::table::free_entries(image, n, marks, n, count);
+    let end = 128 * t;
+    let right = all_free(image, n, marks, end);
+    salvage::table::free_entries(image, n, marks, n, end - n);
     right
 }
 
@@ -135,5 +115,5 @@ pub fn put_rest(image: &mut [u8], t: usize, n: usize, marks: &[u8], codes: &mut 
     let padded = put_padding(image, t, n, marks);
     let head = head_right(image, n);
     put_header(image, t, n);
-    super::numbers::note(codes, 0, 0, ones & (padded & head));
+    super::numbers::note(codes, 0, 0, ones && padded && head);
 }

@@ -1,13 +1,16 @@
 -- The rest: codes of freed blocks, the table, the header, and whether anything of them was different.
-use Prim.Native.Nat.{ℕ, zero, suc, ◌+◌, ◌-◌, ◌*◌, ◌/◌, ◌<◌}
-use mathlib.Core.Bool.{Bool, true, false, cond, ◌&&◌, ◌||◌, or-true}
-use mathlib.Core.List.{List}
+use Prim.Native.Nat.{ℕ, zero, suc, ◌+◌, ◌-◌, ◌*◌, ◌/◌, ◌≤◌, ◌<◌}
+use mathlib.Core.Bool.{Bool, true, false, cond, ◌&&◌, ◌||◌}
+use mathlib.Core.List.{List, [], ◌∷◌, ◌++◌}
 use mathlib.Core.Logic.{◌≢◌}
 use mathlib.Core.Path.{◌≡◌, refl, sym, ap, ◌∙◌, subst}
+use native.Mathlib.Decide.{ℕ_discrete}
 use native.Mathlib.Omega.{arith}
 use lib.Dec.{eqb}
-use lib.ListN.{length, get_or, set, take}
+use lib.ListN.{length, get_or, set, take, drop}
 use borrow.Author.Tests.{eq-eqb, ne_eqb, eqb-true}
+use Rattle.std.specs.Cmp.Lexicographic.{pointwise}
+use Rattle.std.specs.List.{list_all, range_with_len, starts_with}
 use Rattle.layout.specs.Lists.{interval, every, has, same}
 use Rattle.layout.specs.Limits.{min_blocks, max_blocks}
 use Rattle.layout.specs.Bytes.{be32, splice}
@@ -17,7 +20,7 @@ use Rattle.layout.specs.Check.{stage1, stage2, stage3, stage7}
 use Rattle.layout.specs.Walks.Shapes.{Shape}
 use Rattle.layout.specs.Walks.Stages.{head_stage}
 use Rattle.layout.proofs.Laws.Tests.{and_split, and-join, is_false, true-not-false, require-zero, within-join}
-use Rattle.layout.proofs.Laws.Lists.{interval-next, interval-every, in-has-eqb, false-has}
+use Rattle.layout.proofs.Laws.Lists.{interval-from, interval-every, in-has-eqb, false-has}
 use Rattle.layout.proofs.Laws.Names.{same-eq, same_refl}
 use Rattle.layout.proofs.Walks.Shapes.{shape-block_count}
 use Rattle.salvage.specs.Salvage.{one_at, free_at, in_turn, counts_put}
@@ -36,42 +39,6 @@ shape-stage1 s n H =
     let c = shape-block_count s n H in
     rw c (and-join (eq-eqb (length s) (512 * n) H.whole) (within-join min_blocks max_blocks n H.low H.high))
 
--- THE CODES of freed blocks
-module _ (s m : List ℕ) (b : ℕ) (codes : List ℕ) where
-  pub noted-marked : (get_or m b 0 ≡ 0 → ⊥) → FreedNoted s m b 1 codes codes
-  unfolding freed_codes
-  noted-marked z = record { is = λ cs M. rw (in-has-eqb b cs (marked-in m cs b M z)) }
-
-  pub noted-free : next s b ≡ 0 → FreedNoted s m b 1 codes codes
-  unfolding freed_codes
-  noted-free z = record { is = λ cs M. let q : has eqb b cs || eqb (next s b) 0 ≡ true = ap (λ (t : Bool). has eqb b cs || t) (eq-eqb (next s b) 0 z) ∙ or-true (has eqb b cs) in rw q }
-
-  pub noted-freed : get_or m b 0 ≡ 0 → (next s b ≡ 0 → ⊥) → 4 * b < length codes → FreedNoted s m b 1 codes (set codes (4 * b) 5)
-  unfolding freed_codes
-  noted-freed z u h = record { is = λ cs M. rw (false-has b cs (unmarked-out m cs b M z), ne_eqb (next s b) 0 u) (one_set codes (4 * b) 5 h) }
-
-pub record Noting (s m : List ℕ) (a k : ℕ) (codes₀ codes : List ℕ) (b left : ℕ) : Type 0 where
-  pub sum : b + left ≡ a + k
-  pub size : length codes ≡ length codes₀
-  pub is : (cs : List ℕ) → MarksOf m cs → freed_codes s cs codes₀ (interval a k) ≡ freed_codes s cs codes (interval b left)
-
-pub noting-start : (s m : List ℕ) (a k : ℕ) (codes : List ℕ) → Noting s m a k codes codes a k
-noting-start s m a k codes = record { sum = refl; size = refl; is = λ cs M. refl }
-
-module _ {s m : List ℕ} {a k : ℕ} {codes₀ codes : List ℕ} {b left : ℕ} (w : Noting s m a k codes₀ codes b left) where
-  pub noting-more : 0 < left → (codes' : List ℕ) → length codes' ≡ length codes → FreedNoted s m b 1 codes codes' → Noting s m a k codes₀ codes' (b + 1) (left - 1)
-  unfolding freed_codes
-  noting-more h codes' l F =
-      record {
-        sum = omega (arith, w.sum);
-        size = l ∙ w.size;
-        is = λ cs M. w.is cs M ∙ ap (freed_codes s cs codes) (interval-next b left h) ∙ ap (λ (x : List ℕ). freed_codes s cs x (interval (b + 1) (left - 1))) (sym (F.is cs M));
-      }
-
-  pub noting-end : left ≡ 0 → FreedNoted s m a k codes₀ codes
-  unfolding freed_codes
-  noting-end e = record { is = λ cs M. sym (w.is cs M ∙ ap (λ (j : ℕ). freed_codes s cs codes (interval b j)) e) }
-
 -- ENTRIES THAT NEED NOT BE FREED
 module _ (s m : List ℕ) (b : ℕ) where
   pub free-marked : (get_or m b 0 ≡ 0 → ⊥) → IsFree s m b true
@@ -80,22 +47,44 @@ module _ (s m : List ℕ) (b : ℕ) where
   pub free-valued : get_or m b 0 ≡ 0 → (v : ℕ) → v ≡ next s b → IsFree s m b (eqb v 0)
   free-valued z v e = record { told = λ cs M. rw (false-has b cs (unmarked-out m cs b M z), e) }
 
-pub record Freed (s m : List ℕ) (a k b left : ℕ) : Type 0 where
-  pub sum : b + left ≡ a + k
-  pub told : (cs : List ℕ) → MarksOf m cs → every (λ x. has eqb x cs || eqb (next s x) 0) (interval a k) ≡ every (λ x. has eqb x cs || eqb (next s x) 0) (interval b left)
+pub free-told : (s m : List ℕ) (cs : List ℕ) → MarksOf m cs → (b : ℕ) (r : Bool) → IsFree s m b r → r ≡ has eqb b cs || eqb (next s b) 0
+free-told s m cs M b r F = F.told cs M
 
-pub freed-start : (s m : List ℕ) (a k : ℕ) → Freed s m a k a k
-freed-start s m a k = record { sum = refl; told = λ cs M. refl }
+-- the test of a range, as the definitions say it
+pub all-every : (p : ℕ → Bool) (a k : ℕ) → list_all p (range_with_len a k) ≡ every p (interval a k)
+all-every p a zero = refl
+all-every p a (suc k) = let q : a + 1 ≡ suc a = omega arith in rw q (ap (λ (t : Bool). p a && t) (all-every p (suc a) k))
 
-module _ {s m : List ℕ} {a k b left : ℕ} (w : Freed s m a k b left) where
-  pub freed-not : 0 < left → (r : Bool) → IsFree s m b r → r ≡ false → AllFree s m a k false
-  freed-not h r F z = record { told = λ cs M. sym (w.told cs M ∙ ap (every (λ x. has eqb x cs || eqb (next s x) 0)) (interval-next b left h) ∙ rw (sym (F.told cs M) ∙ z)) }
+-- THE CODES of freed blocks
+module _ (s m : List ℕ) (b : ℕ) (codes : List ℕ) (r : Bool) (F : IsFree s m b r) where
+  pub noted-free : r ≡ true → FreedNoted s m b 1 codes codes
+  unfolding freed_codes
+  noted-free z = record { is = λ cs M. rw (sym (F.told cs M) ∙ z) }
 
-  pub freed-more : 0 < left → (r : Bool) → IsFree s m b r → r ≡ true → Freed s m a k (b + 1) (left - 1)
-  freed-more h r F z = record { sum = omega (arith, w.sum); told = λ cs M. w.told cs M ∙ ap (every (λ x. has eqb x cs || eqb (next s x) 0)) (interval-next b left h) ∙ rw (sym (F.told cs M) ∙ z) }
+  pub noted-freed : r ≡ false → 4 * b < length codes → FreedNoted s m b 1 codes (set codes (4 * b) 5)
+  unfolding freed_codes
+  noted-freed z h = record { is = λ cs M. rw (sym (F.told cs M) ∙ z) (one_set codes (4 * b) 5 h) }
 
-  pub freed-all : left ≡ 0 → AllFree s m a k true
-  freed-all e = record { told = λ cs M. sym (w.told cs M ∙ rw e) }
+-- the codes of those from a to n, when those before b are done
+pub record Noting (s m : List ℕ) (a n : ℕ) (codes₀ codes : List ℕ) (b : ℕ) : Type 0 where
+  pub size : length codes ≡ length codes₀
+  pub is : (cs : List ℕ) → MarksOf m cs → freed_codes s cs codes₀ (interval a (n - a)) ≡ freed_codes s cs codes (interval b (n - b))
+
+pub noting-start : (s m : List ℕ) (a n : ℕ) (codes : List ℕ) → Noting s m a n codes codes a
+noting-start s m a n codes = record { size = refl; is = λ cs M. refl }
+
+module _ {s m : List ℕ} {a n : ℕ} {codes₀ codes : List ℕ} {b : ℕ} (w : Noting s m a n codes₀ codes b) where
+  pub noting-more : b < n → (codes' : List ℕ) → length codes' ≡ length codes → FreedNoted s m b 1 codes codes' → Noting s m a n codes₀ codes' (b + 1)
+  unfolding freed_codes
+  noting-more h codes' l F =
+      record {
+        size = l ∙ w.size;
+        is = λ cs M. w.is cs M ∙ ap (freed_codes s cs codes) (interval-from n b h) ∙ ap (λ (x : List ℕ). freed_codes s cs x (interval (b + 1) (n - (b + 1)))) (sym (F.is cs M));
+      }
+
+  pub noting-end : n ≤ b → FreedNoted s m a (n - a) codes₀ codes
+  unfolding freed_codes
+  noting-end h = let e : n - b ≡ 0 = omega arith in record { is = λ cs M. sym (w.is cs M ∙ ap (λ (j : ℕ). freed_codes s cs codes (interval b j)) e) }
 
 -- WHETHER THE TABLE WAS RIGHT
 ones-left : (k a : ℕ) (s : List ℕ) → all_ones (next s) a k ≡ true → in_turn one_at s (interval a k) ≡ s
@@ -216,11 +205,25 @@ rest_put s m codes s₁ c₁ s₂ s₃ c₃ x y z B P ez e₃ ec =
     }
 
 -- the signature
-module _ (s : List ℕ) (r : Bool) (e : r ≡ same (take 12 s) signature) where
-  pub signed-left : r ≡ true → s ≡ signed s
-  unfolding signed stage2
-  signed-left z = rw (sym e ∙ z)
+eqb_turned : (x y : ℕ) → eqb x y ≡ eqb y x
+eqb_turned x y = elim (ℕ_discrete x y) [ yes p ↦ rw p | no p ↦ ne_eqb x y p ∙ sym (ne_eqb y x (λ z. p (sym z))) ]
 
-  pub signed-set : r ≡ false → splice s 0 signature ≡ signed s
-  unfolding signed stage2
-  signed-set z = rw (sym e ∙ z)
+begins-same : (xs ys : List ℕ) → pointwise eqb xs ys ≡ same ys xs
+begins-same [] [] = refl
+begins-same [] (y ∷ ys) = refl
+begins-same (x ∷ xs) [] = refl
+begins-same (x ∷ xs) (y ∷ ys) = rw (eqb_turned x y, begins-same xs ys)
+
+-- `starts_with` in the words of the definitions
+pub begins-is : (s : List ℕ) → starts_with eqb s signature ≡ stage2 s
+unfolding stage2
+begins-is s = begins-same signature (take 12 s)
+
+module _ (s : List ℕ) (r : Bool) (e : r ≡ starts_with eqb s signature) where
+  pub signed-left : r ≡ true → s ≡ signed s
+  unfolding signed
+  signed-left z = rw (sym (begins-is s) ∙ sym e ∙ z)
+
+  pub signed-set : r ≡ false → signature ++ drop 12 s ≡ signed s
+  unfolding signed splice
+  signed-set z = rw (sym (begins-is s) ∙ sym e ∙ z)

@@ -1,28 +1,12 @@
-use native.Mathlib.Omega.{arith}
-use borrow.Author.Tests.{not-true, not-false}
-use Rattle.salvage_tree.proofs.Walks.Rest.{freed-start, freed-not, freed-more, freed-all}
+use Rattle.std.proofs.Common.{rules, tests, ◌-◌, ◌||◌, eqb, refl, ◌∙◌, arith}
+use Rattle.std.proofs.lemmas.Iterator.{YieldsList-from_range}
+use Rattle.std.proofs.lemmas.Iterator.Search.{all_from_yields_List}
+use Rattle.layout.specs.Lists.{has}
+use Rattle.layout.specs.Table.{next}
+use Rattle.salvage_tree.proofs.Walks.Rest.{all-every, free-told}
 use Rattle.salvage_tree.proofs.rest.all_free.Goals as goal
 
-pub loop-left-init : goal.loop-left-init
-loop-left-init c = freed-start _ _ _ _
-
-pub is_free-requires : goal.is_free-requires
-is_free-requires c = (omega (arith, c.requires, c.loop-left.invariant.sum), omega (arith, c.requires, c.loop-left.invariant.sum))
-
-pub returns-then-not-is_free : goal.returns-then-not-is_free
-returns-then-not-is_free c = freed-not c.loop-left.invariant (omega arith) _ c.is_free.ensures (not-true _ c.if-not-is_free.true-raw)
-
-pub overflow_add-b : goal.overflow_add-b
-overflow_add-b c = omega (arith, c.requires, c.loop-left.invariant.sum)
-
-pub overflow_sub-left : goal.overflow_sub-left
-overflow_sub-left c = omega arith
-
-pub loop-left-smaller : goal.loop-left-smaller
-loop-left-smaller c = omega arith
-
-pub loop-left-preserved : goal.loop-left-preserved
-loop-left-preserved c = freed-more c.loop-left.invariant (omega arith) _ c.is_free.ensures (not-false _ c.if-not-is_free.false-raw)
-
 pub returns : goal.returns
-returns c = freed-all c.loop-left.invariant (omega arith)
+returns c =
+    let a = c.args in
+    record { told = λ cs M. all_from_yields_List (λ b. has eqb b cs || eqb (next a.image.now b) 0) _ _ _ c.all.ensures.ran (YieldsList-from_range a.n a.end (a.end - a.n) refl refl) (λ x b q k. search (rules, tests, free-told a.image.now a.marks.now cs M)) ∙ all-every _ a.n (a.end - a.n) }

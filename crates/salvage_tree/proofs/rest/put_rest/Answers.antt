@@ -1,4 +1,5 @@
-use native.Mathlib.Omega.{arith}
+use Rattle.std.proofs.Common.{◌≡◌, ◌&&◌, arith}
+use Rattle.std.proofs.lemmas.Grind.{common_steps}
 use Rattle.salvage_tree.proofs.Walks.Rest.{rest_put}
 use Rattle.salvage_tree.proofs.rest.put_rest.Goals as goal
 
@@ -15,4 +16,6 @@ pub note-requires : goal.note-requires
 note-requires c = (omega (arith, c.requires.sized, c.requires.room.shape), omega arith)
 
 pub returns : goal.returns
-returns c = rest_put _ _ _ _ _ _ _ _ _ _ _ c.put_blocks-ones.ensures c.put_padding-padded.ensures c.head_right-head.ensures c.put_header.ensures c.note.ensures
+returns c =
+    let q : c.if-padded.note ≡ c.put_blocks-ones.result && (c.put_padding-padded.result && c.head_right-head.result) = grind (arith, common_steps) in
+    rest_put _ _ _ _ _ _ _ _ _ _ _ c.put_blocks-ones.ensures c.put_padding-padded.ensures c.head_right-head.ensures c.put_header.ensures (rw q at c.note.ensures)

@@ -1,9 +1,9 @@
-use mathlib.Core.Path.{◌∙◌}
+use Rattle.std.proofs.Common.{ap, ◌∙◌}
 use Rattle.salvage_tree.proofs.Walks.Rest.{signed-left, signed-set}
 use Rattle.salvage_tree.proofs.rest.sign.Goals as goal
 
-pub returns-then-equal : goal.returns-then-equal
-returns-then-equal c = signed-left _ _ c.equal.ensures c.if-equal.true
+pub returns-then-starts_with : goal.returns-then-starts_with
+returns-then-starts_with c = signed-left _ _ c.starts_with.ensures.value c.if-starts_with.true
 
 pub returns : goal.returns
-returns c = c.copy_part.ensures ∙ signed-set _ _ c.equal.ensures c.if-equal.false
+returns c = rw c.copy_from_slice.ensures.after (signed-set c.args.image.now _ c.starts_with.ensures.value c.if-starts_with.false)
