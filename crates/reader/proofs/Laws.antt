@@ -1,4 +1,4 @@
--- Each case of a read's answer, the position after it, and what accepted reads give.
+-- The position after a read, and what accepted reads give.
 use Prim.Native.Nat.{ℕ, zero, suc, ◌+◌, ◌-◌, ◌<◌, ◌≤◌, ◌^◌, min}
 use mathlib.Core.Bool.{true}
 use mathlib.Core.List.{List, [], ◌∷◌, ◌++◌}
@@ -13,19 +13,13 @@ use Rattle.layout.specs.Lists.{every, joined}
 use Rattle.layout.specs.Bytes.{part, splice}
 use Rattle.layout.specs.Directory.{size_of, is_file, content}
 use Rattle.layout.specs.Paths.{entry_of}
-use Rattle.layout.specs.declared.reading.Filled.{Filled}
 use Rattle.layout.specs.Looks.{ReadAnswer, read, read_refusal, lookup_refusal}
-use Rattle.layout.specs.Answers.{read_answer}
 use Rattle.layout.proofs.Laws.Tests.{and_split, first_of-zero, accept-either}
 use Rattle.layout.proofs.Laws.Bytes.{be32-small, part-splice}
 use Rattle.layout.proofs.Laws.Sound.{sound}
 use Rattle.layout.proofs.Laws.Files.{length-content}
 use Rattle.layout.proofs.Laws.Looks.{lookup-sound, lookup-file}
 use Rattle.reader.specs.Readings.{answers, given, last_count}
-
--- the answer of a read, by the case that it is
-pub read-case : {v w : Filled} (b : List ℕ) (a : ReadAnswer) → v ≡ w → read_answer v b ≡ a → read_answer w b ≡ a
-read-case b a e h = ap (λ (x : Filled). read_answer x b) (sym e) ∙ h
 
 module _ (s path : List ℕ) where
   abbrev bytes : List ℕ

@@ -1,8 +1,10 @@
 // The reader. The work is `read_at`, on slices and a number; the functions over the struct only take it apart.
-ghost use Rattle.std.specs.Prelude.{◌≡◌};
-ghost use Rattle.reader.specs.Turns.{Turned, placed};
+ghost use Rattle.std.specs.Prelude.{◌+◌, ◌<◌, ◌^◌, ◌≡◌};
+ghost use Rattle.layout.specs.Looks.{read};
+ghost use Rattle.layout.specs.Answers.{read_answer};
+ghost use Rattle.reader.specs.Turns.{placed};
 
-use layout::reading::Filled;
+use layout::refusal::Refusal;
 
 // A reader open on an image: the path is looked up at each read.
 #[derive(Drop)]
@@ -12,30 +14,17 @@ pub struct Reader<'a> {
     pub position: usize,
 }
 
-// What a read gives: the number and the count of layout's read, and the position after it.
-#[derive(Drop)]
-pub struct Turn {
-    pub number: u32,
-    pub count: usize,
-    pub next: usize,
-}
-
-// Reads at a position. The two slices have one lifetime, as in the struct.
-pub fn read_at<'x>(image: &'x [u8], path: &'x [u8], position: usize, buffer: &mut [u8]) -> Turn
-    ensures { Turned image.now path.now position buffer.old result buffer.new }
+// Reads at a position: the answer of layout's read; the place behind what was read is a number of 64 bits. The two slices have one lifetime, as in the struct.
+pub fn read_at<'x>(
+    image: &'x [u8],
+    path: &'x [u8],
+    position: usize,
+    buffer: &mut [u8],
+) -> Result<usize, Refusal>
+    ensures answer { read_answer result buffer.new ≡ read image.now path.now position buffer.old }
+    ensures place { position + (read image.now path.now position buffer.old).count < 2 ^ 64 }
 {
-    match layout::reading::read(image, path, position, buffer) {
-        Filled::Bytes(count) => Turn {
-            number: 0,
-            count,
-            next: position + count,
-        },
-        Filled::Refused(number) => Turn {
-            number,
-            count: 0,
-            next: position,
-        },
-    }
+    layout::reading::read(image, path, position, buffer)
 }
 
 // This and the next two are functions and not methods: users call them by the names that docs/SURFACE.md lists.
@@ -58,12 +47,12 @@ pub fn position<'a>(r: Reader<'a>) -> usize
     r.position
 }
 
-// Reads on: the answer of layout's read at the reader's position, which moves on by the count.
-pub fn read<'s, 'a, 'b>(r: &'s mut Reader<'a>, buffer: &'b mut [u8]) -> Turn
-    ensures { (Turned r.old.image.now r.old.path.now r.old.position buffer.old result buffer.new)
-        × (r.new ≡ placed r.old result.next) }
+// Reads on: the answer of layout's read at the reader's position, which moves on by the count. A refused read has no count and keeps its place.
+pub fn read<'s, 'a, 'b>(r: &'s mut Reader<'a>, buffer: &'b mut [u8]) -> Result<usize, Refusal>
+    ensures answer { read_answer result buffer.new ≡ read r.old.image.now r.old.path.now r.old.position buffer.old }
+    ensures place { r.new ≡ placed r.old (r.old.position + (read r.old.image.now r.old.path.now r.old.position buffer.old).count) }
 {
-    let t = read_at(r.image, r.path, r.position, buffer);
-    r.position = t.next;
-    t
+    let answer = read_at(r.image, r.path, r.position, buffer);
+    r.position += answer.unwrap_or(0);
+    answer
 }
