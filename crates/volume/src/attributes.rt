@@ -21,10 +21,7 @@ use layout::limits::MAX_ATTRIBUTES;
 fn whole_blocks(count: usize) -> bool
     ensures { result ≡ leb 1 count && eqb (count % 512) 0 }
 {
-    if count < 1 {
-        return false;
-    }
-    count % 512 == 0
+    0 < count && count.is_multiple_of(512)
 }
 
 // The refusal of a set by the form of its path and the number of its bytes, 9 or 20, or 0.

@@ -22,13 +22,7 @@ use layout::limits::MAX_DIRECTORY;
 fn shaped(kind: u8, d: u32) -> bool
     ensures { result ≡ is_directory kind && within 1 max_directory d }
 {
-    if !layout::directory::is_directory(kind) {
-        return false;
-    }
-    if d < 1 {
-        return false;
-    }
-    d <= MAX_DIRECTORY
+    layout::directory::is_directory(kind) && (1..=MAX_DIRECTORY).contains(&d)
 }
 
 // The place of a new directory's entry, or the refusal.
@@ -82,10 +76,7 @@ fn take_blocks(image: &mut [u8], d: usize) -> Span
     let n = image.len() / 512;
     let first = super::table::grow(image, n, 0, d);
     let last = layout::table::nth(image, n, first, d, d - 1);
-    Span {
-        first: first,
-        last: last,
-    }
+    Span { first, last }
 }
 
 // Writes the self entry into the first and the end type into the last block of a directory of d blocks.
@@ -109,7 +100,7 @@ fn put_directory(
         first: first as u32,
         size: parent as u32,
         blocks: d,
-        time: time,
+        time,
         flags: 0,
     };
     super::slot::put_slot(image, first, 0, f, name);

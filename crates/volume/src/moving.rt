@@ -36,19 +36,12 @@ fn find_open(image: &[u8], n: usize, first: usize, d: usize, own: usize) -> Entr
     ensures { Stands (chain (next image.now) first d) n (open_slot image.now (chain (next image.now) first d) own) result.slot result.block }
 {
     let mut b = first;
-    let mut slot = 1;
-    let mut left = 4 * d - 2;
-    while 0 < left {
+    for slot in 1..4 * d - 1 {
         let at = 512 * b + 128 * (slot % 4);
         if (layout::directory::type_at(image, b, slot) == 0) | (at == own) {
-            return Entry {
-                slot: slot,
-                block: b,
-            };
+            return Entry { slot, block: b };
         }
-        slot = slot + 1;
-        b = layout::directory::following(image, b, slot);
-        left = left - 1;
+        b = layout::directory::following(image, b, slot + 1);
     }
     Entry { slot: 0, block: 0 }
 }
@@ -124,9 +117,9 @@ fn fill_renamed(slot: &mut [u8], head: &[u8], name: &[u8])
     requires { (length slot.old ≡ 128) × (length head.now ≡ 48) × (length name.now ≤ 80) }
     ensures { slot.new ≡ head.now ++ padded name.now }
 {
-    layout::bytes::clear(slot);
-    layout::bytes::copy_part(head, 0, slot, 0, HEAD);
-    layout::bytes::copy_part(name, 0, slot, HEAD, name.len());
+    slot.fill(0);
+    slot[..HEAD].copy_from_slice(head);
+    slot[HEAD..HEAD + name.len()].copy_from_slice(name);
 }
 
 // The same for the slot at o of a directory's block.
@@ -134,8 +127,7 @@ fn put_renamed(block: &mut [u8], o: usize, head: &[u8], name: &[u8])
     requires { (o + 128 ≤ length block.old) × (length head.now ≡ 48) × (length name.now ≤ 80) }
     ensures { block.new ≡ splice block.old o (head.now ++ padded name.now) }
 {
-    let e = o + 128;
-    fill_renamed(&mut block[o..e], head, name);
+    fill_renamed(&mut block[o..o + 128], head, name);
 }
 
 // The same for slot k of an image's directory, which is in block b.
@@ -143,10 +135,8 @@ fn put_moved(image: &mut [u8], b: usize, k: usize, head: &[u8], name: &[u8])
     requires { (512 * b + 512 ≤ length image.old) × (length head.now ≡ 48) × (length name.now ≤ 80) }
     ensures { image.new ≡ splice image.old (entry_at b k) (head.now ++ padded name.now) }
 {
-    let o = 128 * (k % 4);
     let a = 512 * b;
-    let e = a + 512;
-    put_renamed(&mut image[a..e], o, head, name);
+    put_renamed(&mut image[a..a + 512], 128 * (k % 4), head, name);
 }
 
 // Copies the bytes before the name of slot k, which is in block b.

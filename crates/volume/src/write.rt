@@ -17,20 +17,12 @@ ghost use Rattle.volume.specs.Walks.Writes.{start_of, Planned};
 use layout::file::File;
 use layout::limits::MAX_DATA;
 
-// The larger of two numbers.
-fn larger(a: usize, b: usize) -> usize
-    ensures { result ≡ max a b }
-{
-    if a < b { b } else { a }
-}
-
 // How many blocks `count` bytes at an offset need beyond those of a file.
 fn needed(size: usize, blocks: usize, offset: usize, count: usize) -> usize
     requires { (offset ≤ size) × (size < 4294967296) × (count < 4294967296) × (blocks ≤ blocks_for size) }
     ensures { result ≡ blocks_for (max size (offset + count)) - blocks }
 {
-    let end = larger(size, offset + count);
-    (end + 511) / 512 - blocks
+    size.max(offset + count).div_ceil(512) - blocks
 }
 
 // The refusal of a write to a file that was found, 12 or 14, or 0.
@@ -84,10 +76,7 @@ fn last_block(image: &[u8], n: usize, first: usize, blocks: usize) -> usize
 fn start_block(held: usize, first: usize, taken: usize) -> usize
     ensures { result ≡ start_of held first taken }
 {
-    if held == 0 {
-        return taken;
-    }
-    first
+    if held == 0 { taken } else { first }
 }
 
 // What an accepted write does: the block to link behind, how many blocks are taken, and the file's size and blocks after it.
@@ -102,7 +91,9 @@ struct Plan {
 // The plan of an accepted write.
 fn plan_write(image: &[u8], found: File, offset: usize, count: usize) -> Plan
     requires { (check image.now ≡ 0) × (Standing image.now (file_refusal image.now) found.slot found.block found.first found.size found.blocks) × (write_at_refusal image.now (entry_at found.block found.slot) offset count ≡ 0) }
-    ensures { Planned image.now (entry_at found.block found.slot) offset count result.last result.taken found.blocks found.first result.size result.blocks }
+    ensures plan { Planned image.now (entry_at found.block found.slot) offset count result.last result.taken found.blocks found.first result.size result.blocks }
+    ensures last { result.last ≡ last_or 0 (chain (next image.now) found.first found.blocks) }
+    ensures taken { result.taken ≡ blocks_for (max found.size (offset + count)) - found.blocks }
 {
     let first = found.first;
     let size = found.size;
@@ -110,11 +101,10 @@ fn plan_write(image: &[u8], found: File, offset: usize, count: usize) -> Plan
     let n = image.len() / 512;
     let k = needed(size, blocks, offset, count);
     let last = last_block(image, n, first, blocks);
-    let end = larger(size, offset + count);
     Plan {
-        last: last,
+        last,
         taken: k,
-        size: end,
+        size: size.max(offset + count),
         blocks: blocks + k,
     }
 }
@@ -162,7 +152,7 @@ fn mark_written(
         first,
         k,
         offset / 512,
-        (offset % 512 + count + 511) / 512,
+        (offset % 512 + count).div_ceil(512),
         marks,
     );
 }
@@ -172,14 +162,9 @@ pub fn write_at_named(image: &[u8], found: File, offset: usize, count: usize, ma
     requires { (check image.now ≡ 0) × (Standing image.now (file_refusal image.now) found.slot found.block found.first found.size found.blocks) × (write_at_refusal image.now (entry_at found.block found.slot) offset count ≡ 0) × (block_count image.now ≤ length marks.old) }
     ensures { marks.new ≡ marked marks.old (write_named image.now (entry_at found.block found.slot) offset count) }
 {
-    let b = found.block;
-    let first = found.first;
-    let size = found.size;
-    let blocks = found.blocks;
+    let p = plan_write(image, found, offset, count);
     let n = image.len() / 512;
-    let last = last_block(image, n, first, blocks);
-    let more = needed(size, blocks, offset, count);
-    super::marks::mark(marks, b);
-    mark_written(image, n, first, blocks, offset, count, marks);
-    super::marks::mark_grown(image, n, last, more, marks);
+    super::marks::mark(marks, found.block);
+    mark_written(image, n, found.first, found.blocks, offset, count, marks);
+    super::marks::mark_grown(image, n, p.last, p.taken, marks);
 }
