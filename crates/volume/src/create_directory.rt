@@ -11,12 +11,13 @@ ghost use Rattle.volume.specs.Entries.{entry_bytes, grown, blocks_named};
 ghost use Rattle.volume.specs.Create.{create_slot};
 ghost use Rattle.volume.specs.Directories.{create_directory_refusal, new_directory_blocks, create_directory_image};
 ghost use Rattle.volume.specs.Walks.Marks.{marked};
-ghost use Rattle.volume.specs.Walks.Places.{Vacant, Searched};
+ghost use Rattle.volume.specs.Walks.Places.{Vacant, SearchedFor};
 
 use super::create::Given;
 use super::slot::Fields;
 use layout::file::File;
 use layout::limits::MAX_DIRECTORY;
+use layout::refusal::Refusal;
 
 // Whether type and number of blocks are those of a directory.
 fn shaped(kind: u8, d: u32) -> bool
@@ -26,27 +27,25 @@ fn shaped(kind: u8, d: u32) -> bool
 }
 
 // The place of a new directory's entry, or the refusal.
-pub fn create_directory_refusal(image: &[u8], path: &[u8], kind: u8, flags: u32, d: u32) -> File
+pub fn create_directory_refusal(
+    image: &[u8],
+    path: &[u8],
+    kind: u8,
+    flags: u32,
+    d: u32,
+) -> Result<File, Refusal>
     requires { check image.now ≡ 0 }
-    ensures { Searched image.now path.now (create_directory_refusal image.now path.now kind flags d) result.number result.first result.slot result.block }
+    ensures { SearchedFor image.now path.now (create_directory_refusal image.now path.now kind flags d) result }
 {
     if !shaped(kind, d) {
-        return layout::file::refused(9);
+        return Err(Refusal::BadArgument);
     }
-    let form = layout::file::whole_path_refusal(path);
-    let brought = super::place::brought_refusal(form, flags);
-    if brought != 0 {
-        return layout::file::refused(brought);
-    }
-    let p = super::place::find_place(image, path);
-    let number = p.number;
-    if number != 0 {
-        return p;
-    }
+    super::place::brought_refusal(layout::file::whole_path_refusal(path), flags)?;
+    let place = super::place::find_place(image, path)?;
     if layout::number::header_number(image, 24) < d as usize {
-        return layout::file::refused(14);
+        return Err(Refusal::VolumeFull);
     }
-    p
+    Ok(place)
 }
 
 // Marks the block of a new directory's entry and what its d blocks name.

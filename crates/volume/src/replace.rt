@@ -17,7 +17,6 @@ pub fn replace_at(image: &mut [u8], found: File, bytes: &[u8], time: u64)
     let size = found.size.min(bytes.len());
     let start = super::shorten::shorten_at(image, found, size, time);
     let short = File {
-        number: 0,
         slot: found.slot,
         block: found.block,
         first: start,

@@ -5,7 +5,7 @@ ghost use Rattle.layout.specs.Geometry.{block_count, blocks_for};
 ghost use Rattle.layout.specs.Table.{next};
 ghost use Rattle.layout.specs.Directory.{is_file, file_blocks};
 ghost use Rattle.layout.specs.Check.{check};
-ghost use Rattle.layout.specs.Walks.Looks.{Opens};
+ghost use Rattle.layout.specs.Walks.Looks.{Opened};
 ghost use Rattle.layout.specs.Walks.Shapes.{ChainBelow};
 ghost use Rattle.layout.specs.Walks.Slots.{entry_at};
 ghost use Rattle.volume.specs.Shorten.{tail_length, shorten_refusal, shorten_at, shorten_named};
@@ -14,22 +14,18 @@ ghost use Rattle.volume.specs.Walks.Marks.{marked};
 ghost use Rattle.volume.specs.Walks.Targets.{Standing};
 
 use layout::file::File;
+use layout::refusal::Refusal;
 
 // The file, or the refusal, 9, 17, 10 or 12.
-pub fn shorten_refusal(image: &[u8], path: &[u8], size: usize) -> File
+pub fn shorten_refusal(image: &[u8], path: &[u8], size: usize) -> Result<File, Refusal>
     requires { check image.now ≡ 0 }
-    ensures { Opens is_file image.now path.now (shorten_refusal image.now path.now size) result.number result.slot result.block result.first result.size result.blocks }
+    ensures { Opened is_file image.now path.now (shorten_refusal image.now path.now size) result }
 {
-    let f = layout::file::open_file(image, path);
-    let missing = f.number;
-    if missing != 0 {
-        return f;
+    let file = layout::file::open_file(image, path)?;
+    if file.size < size {
+        return Err(Refusal::BadOffset);
     }
-    let old = f.size;
-    if old < size {
-        return layout::file::refused(12);
-    }
-    f
+    Ok(file)
 }
 
 // Where a chain is cut: the first and the last of the blocks that stay (0: none does), and the first of those that go.

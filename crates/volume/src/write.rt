@@ -1,12 +1,13 @@
 // Write, on an image that the caller has checked. A file that was found may be written by data of any length.
 ghost use Rattle.std.specs.Prelude.{◌≡◌, ◌+◌, ◌-◌, ◌≤◌, ◌<◌, max, length};
+ghost use Rattle.layout.specs.Reasons.{outcome};
 ghost use Rattle.layout.specs.Lists.{last_or};
 ghost use Rattle.layout.specs.Geometry.{block_count, blocks_for};
 ghost use Rattle.layout.specs.Table.{next, chain};
 ghost use Rattle.layout.specs.Check.{check};
 ghost use Rattle.layout.specs.Directory.{is_file};
 ghost use Rattle.layout.specs.Paths.{file_refusal};
-ghost use Rattle.layout.specs.Walks.Looks.{Opens};
+ghost use Rattle.layout.specs.Walks.Looks.{Opened};
 ghost use Rattle.layout.specs.Walks.Shapes.{ChainBelow};
 ghost use Rattle.layout.specs.Walks.Slots.{entry_at};
 ghost use Rattle.volume.specs.Write.{write_refusal, write_at_refusal, write_at, written, write_named};
@@ -16,6 +17,7 @@ ghost use Rattle.volume.specs.Walks.Writes.{start_of, Planned};
 
 use layout::file::File;
 use layout::limits::MAX_DATA;
+use layout::refusal::Refusal;
 
 // How many blocks `count` bytes at an offset need beyond those of a file.
 fn needed(size: usize, blocks: usize, offset: usize, count: usize) -> usize
@@ -26,39 +28,41 @@ fn needed(size: usize, blocks: usize, offset: usize, count: usize) -> usize
 }
 
 // The refusal of a write to a file that was found, 12 or 14, or 0.
-pub fn write_at_refusal(image: &[u8], found: File, offset: usize, count: usize) -> u32
+pub fn write_at_refusal(
+    image: &[u8],
+    found: File,
+    offset: usize,
+    count: usize,
+) -> Result<(), Refusal>
     requires { (check image.now ≡ 0) × (Standing image.now (file_refusal image.now) found.slot found.block found.first found.size found.blocks) × (count < 4294967296) }
-    ensures { result ≡ write_at_refusal image.now (entry_at found.block found.slot) offset count }
+    ensures { outcome result ≡ write_at_refusal image.now (entry_at found.block found.slot) offset count }
 {
-    let size = found.size;
-    let blocks = found.blocks;
-    if size < offset {
-        return 12;
+    if found.size < offset {
+        return Err(Refusal::BadOffset);
     }
-    if layout::number::header_number(image, 24) < needed(size, blocks, offset, count) {
-        return 14;
+    let free = layout::number::header_number(image, 24);
+    if free < needed(found.size, found.blocks, offset, count) {
+        return Err(Refusal::VolumeFull);
     }
-    0
+    Ok(())
 }
 
 // The file, or the refusal, 9, 17, 10, 12 or 14.
-pub fn write_refusal(image: &[u8], path: &[u8], offset: usize, count: usize) -> File
+pub fn write_refusal(
+    image: &[u8],
+    path: &[u8],
+    offset: usize,
+    count: usize,
+) -> Result<File, Refusal>
     requires { check image.now ≡ 0 }
-    ensures { Opens is_file image.now path.now (write_refusal image.now path.now offset count) result.number result.slot result.block result.first result.size result.blocks }
+    ensures { Opened is_file image.now path.now (write_refusal image.now path.now offset count) result }
 {
     if MAX_DATA < count {
-        return layout::file::refused(9);
+        return Err(Refusal::BadArgument);
     }
-    let f = layout::file::open_file(image, path);
-    let missing = f.number;
-    if missing != 0 {
-        return f;
-    }
-    let number = write_at_refusal(image, f, offset, count);
-    if number != 0 {
-        return layout::file::refused(number);
-    }
-    f
+    let file = layout::file::open_file(image, path)?;
+    write_at_refusal(image, file, offset, count)?;
+    Ok(file)
 }
 
 // The last block of a chain; 0: it has none.
