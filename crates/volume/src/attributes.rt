@@ -1,11 +1,12 @@
 // Attributes set and cleared, on an image that the caller has checked.
 ghost use Rattle.std.specs.Prelude.{◌≡◌, ◌&&◌, ◌/◌, ◌%◌, ◌≤◌, eqb, leb, length, get_or, take};
+ghost use Rattle.layout.specs.Reasons.{outcome};
 ghost use Rattle.layout.specs.Geometry.{block_count};
 ghost use Rattle.layout.specs.Table.{next, free_blocks};
 ghost use Rattle.layout.specs.Directory.{is_file};
 ghost use Rattle.layout.specs.Check.{check};
 ghost use Rattle.layout.specs.Paths.{file_refusal};
-ghost use Rattle.layout.specs.Walks.Looks.{Opens};
+ghost use Rattle.layout.specs.Walks.Looks.{Opened};
 ghost use Rattle.layout.specs.Walks.Slots.{entry_at};
 ghost use Rattle.volume.specs.Entries.{grown};
 ghost use Rattle.volume.specs.Write.{put};
@@ -16,52 +17,41 @@ ghost use Rattle.volume.specs.Walks.Targets.{Standing};
 
 use layout::file::File;
 use layout::limits::MAX_ATTRIBUTES;
+use layout::refusal::Refusal;
 
 // Whether so many bytes are whole blocks, one at least.
 fn whole_blocks(count: usize) -> bool
     ensures { result ≡ leb 1 count && eqb (count % 512) 0 }
 {
-    if count < 1 {
-        return false;
-    }
-    count % 512 == 0
+    0 < count && count.is_multiple_of(512)
 }
 
 // The refusal of a set by the form of its path and the number of its bytes, 9 or 20, or 0.
-fn form_refusal(path: &[u8], count: usize) -> u32
-    ensures { result ≡ set_form_refusal path.now count }
+fn form_refusal(path: &[u8], count: usize) -> Result<(), Refusal>
+    ensures { outcome result ≡ set_form_refusal path.now count }
 {
-    if layout::file::path_refusal(path) == 9 {
-        return 9;
-    }
-    if !whole_blocks(count) {
-        return 9;
+    let bad_path = layout::file::path_refusal(path) == Err(Refusal::BadArgument);
+    if bad_path || !whole_blocks(count) {
+        return Err(Refusal::BadArgument);
     }
     if 512 * (MAX_ATTRIBUTES as usize) < count {
-        return 20;
+        return Err(Refusal::TooManyBlocks);
     }
-    0
+    Ok(())
 }
 
 // The file, or the refusal of a set, 9, 20, 17, 10 or 14. The blocks of the old chain count as free.
-pub fn set_attributes_refusal(image: &[u8], path: &[u8], count: usize) -> File
+pub fn set_attributes_refusal(image: &[u8], path: &[u8], count: usize) -> Result<File, Refusal>
     requires { check image.now ≡ 0 }
-    ensures { Opens is_file image.now path.now (set_attributes_refusal image.now path.now count) result.number result.slot result.block result.first result.size result.blocks }
+    ensures { Opened is_file image.now path.now (set_attributes_refusal image.now path.now count) result }
 {
-    let form = form_refusal(path, count);
-    if form != 0 {
-        return layout::file::refused(form);
-    }
-    let f = layout::file::open_file(image, path);
-    let number = f.number;
-    if number != 0 {
-        return f;
-    }
-    let old = layout::file::attribute_chain(image, f.block, f.slot);
+    form_refusal(path, count)?;
+    let file = layout::file::open_file(image, path)?;
+    let old = layout::file::attribute_chain(image, file.block, file.slot);
     if layout::number::header_number(image, 24) + old.blocks < count / 512 {
-        return layout::file::refused(14);
+        return Err(Refusal::VolumeFull);
     }
-    f
+    Ok(file)
 }
 
 // Marks the blocks that an accepted set names. The new blocks are those that are the lowest free ones once the old chain is freed.

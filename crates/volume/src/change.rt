@@ -6,7 +6,7 @@ ghost use Rattle.layout.specs.Check.{check};
 ghost use Rattle.volume.specs.Change.{refusal, after, named, slot_given};
 ghost use Rattle.volume.specs.Asked.{asked};
 ghost use Rattle.volume.specs.Walks.Marks.{marked};
-ghost use Rattle.volume.specs.Walks.Targets.{Target, Prepared, answered};
+ghost use Rattle.volume.specs.Walks.Targets.{Target, PreparedFor, answered};
 
 use super::attributes::{clear_attributes, set_attributes};
 use super::create::{Given, create_at};
@@ -17,6 +17,7 @@ use super::replace::replace_at;
 use super::shorten::shorten_at;
 use super::write::write_at;
 use layout::file::File;
+use layout::refusal::Refusal;
 
 // The kind of a change, with its numbers.
 #[derive(Clone, Copy)]
@@ -36,9 +37,9 @@ pub enum Change {
 }
 
 // What the change is about, or the refusal, 9 to 26.
-pub fn refusal(image: &[u8], what: Change, path: &[u8], bytes: &[u8]) -> File
+pub fn refusal(image: &[u8], what: Change, path: &[u8], bytes: &[u8]) -> Result<File, Refusal>
     requires { check image.now ≡ 0 }
-    ensures { Prepared image.now (asked what path.now bytes.now) result.number result.slot result.block result.first result.size result.blocks }
+    ensures { PreparedFor image.now (asked what path.now bytes.now) result }
 {
     match what {
         Change::Create(given) => super::create::create_refusal(

@@ -3,10 +3,11 @@ ghost use Rattle.std.specs.Prelude.{◌≡◌, true};
 ghost use Rattle.layout.specs.Check.{check};
 ghost use Rattle.layout.specs.Paths.{path_ok};
 ghost use Rattle.volume.specs.Create.{create_refusal, create_slot, create_image};
-ghost use Rattle.volume.specs.Walks.Places.{Vacant, Searched};
+ghost use Rattle.volume.specs.Walks.Places.{Vacant, SearchedFor};
 
 use super::slot::Fields;
 use layout::file::File;
+use layout::refusal::Refusal;
 
 // The fields that a new entry is given.
 #[derive(Clone, Copy)]
@@ -21,17 +22,14 @@ pub struct Given {
 }
 
 // The place of a new file, or the refusal of create.
-pub fn create_refusal(image: &[u8], path: &[u8], kind: u8, flags: u32) -> File
+pub fn create_refusal(image: &[u8], path: &[u8], kind: u8, flags: u32) -> Result<File, Refusal>
     requires { check image.now ≡ 0 }
-    ensures { Searched image.now path.now (create_refusal image.now path.now kind flags) result.number result.first result.slot result.block }
+    ensures { SearchedFor image.now path.now (create_refusal image.now path.now kind flags) result }
 {
     if !layout::directory::is_file(kind) {
-        return layout::file::refused(9);
+        return Err(Refusal::BadArgument);
     }
-    let brought = super::place::brought_refusal(layout::file::path_refusal(path), flags);
-    if brought != 0 {
-        return layout::file::refused(brought);
-    }
+    super::place::brought_refusal(layout::file::path_refusal(path), flags)?;
     super::place::find_place(image, path)
 }
 

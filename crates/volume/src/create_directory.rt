@@ -11,48 +11,41 @@ ghost use Rattle.volume.specs.Entries.{entry_bytes, grown, blocks_named};
 ghost use Rattle.volume.specs.Create.{create_slot};
 ghost use Rattle.volume.specs.Directories.{create_directory_refusal, new_directory_blocks, create_directory_image};
 ghost use Rattle.volume.specs.Walks.Marks.{marked};
-ghost use Rattle.volume.specs.Walks.Places.{Vacant, Searched};
+ghost use Rattle.volume.specs.Walks.Places.{Vacant, SearchedFor};
 
 use super::create::Given;
 use super::slot::Fields;
 use layout::file::File;
 use layout::limits::MAX_DIRECTORY;
+use layout::refusal::Refusal;
 
 // Whether type and number of blocks are those of a directory.
 fn shaped(kind: u8, d: u32) -> bool
     ensures { result ≡ is_directory kind && within 1 max_directory d }
 {
-    if !layout::directory::is_directory(kind) {
-        return false;
-    }
-    if d < 1 {
-        return false;
-    }
-    d <= MAX_DIRECTORY
+    layout::directory::is_directory(kind) && (1..=MAX_DIRECTORY).contains(&d)
 }
 
 // The place of a new directory's entry, or the refusal.
-pub fn create_directory_refusal(image: &[u8], path: &[u8], kind: u8, flags: u32, d: u32) -> File
+pub fn create_directory_refusal(
+    image: &[u8],
+    path: &[u8],
+    kind: u8,
+    flags: u32,
+    d: u32,
+) -> Result<File, Refusal>
     requires { check image.now ≡ 0 }
-    ensures { Searched image.now path.now (create_directory_refusal image.now path.now kind flags d) result.number result.first result.slot result.block }
+    ensures { SearchedFor image.now path.now (create_directory_refusal image.now path.now kind flags d) result }
 {
     if !shaped(kind, d) {
-        return layout::file::refused(9);
+        return Err(Refusal::BadArgument);
     }
-    let form = layout::file::whole_path_refusal(path);
-    let brought = super::place::brought_refusal(form, flags);
-    if brought != 0 {
-        return layout::file::refused(brought);
-    }
-    let p = super::place::find_place(image, path);
-    let number = p.number;
-    if number != 0 {
-        return p;
-    }
+    super::place::brought_refusal(layout::file::whole_path_refusal(path), flags)?;
+    let place = super::place::find_place(image, path)?;
     if layout::number::header_number(image, 24) < d as usize {
-        return layout::file::refused(14);
+        return Err(Refusal::VolumeFull);
     }
-    p
+    Ok(place)
 }
 
 // Marks the block of a new directory's entry and what its d blocks name.
@@ -82,10 +75,7 @@ fn take_blocks(image: &mut [u8], d: usize) -> Span
     let n = image.len() / 512;
     let first = super::table::grow(image, n, 0, d);
     let last = layout::table::nth(image, n, first, d, d - 1);
-    Span {
-        first: first,
-        last: last,
-    }
+    Span { first, last }
 }
 
 // Writes the self entry into the first and the end type into the last block of a directory of d blocks.
@@ -109,7 +99,7 @@ fn put_directory(
         first: first as u32,
         size: parent as u32,
         blocks: d,
-        time: time,
+        time,
         flags: 0,
     };
     super::slot::put_slot(image, first, 0, f, name);

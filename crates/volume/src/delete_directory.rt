@@ -2,25 +2,21 @@
 ghost use Rattle.std.specs.Prelude.{◌≡◌};
 ghost use Rattle.layout.specs.Directory.{is_directory};
 ghost use Rattle.layout.specs.Check.{check};
-ghost use Rattle.layout.specs.Walks.Looks.{Opens};
+ghost use Rattle.layout.specs.Walks.Looks.{Opened};
 ghost use Rattle.volume.specs.Directories.{delete_directory_refusal};
 
 use layout::file::File;
+use layout::refusal::Refusal;
 
 // The directory, or the refusal, 9, 17, 10 or 18.
-pub fn delete_directory_refusal(image: &[u8], path: &[u8]) -> File
+pub fn delete_directory_refusal(image: &[u8], path: &[u8]) -> Result<File, Refusal>
     requires { check image.now ≡ 0 }
-    ensures { Opens is_directory image.now path.now (delete_directory_refusal image.now path.now) result.number result.slot result.block result.first result.size result.blocks }
+    ensures { Opened is_directory image.now path.now (delete_directory_refusal image.now path.now) result }
 {
-    let f = layout::file::open_directory(image, path);
-    let number = f.number;
-    let first = f.first;
-    if number != 0 {
-        return f;
-    }
+    let directory = layout::file::open_directory(image, path)?;
     let n = image.len() / 512;
-    if !layout::directory::is_empty(image, n, first) {
-        return layout::file::refused(18);
+    if !layout::directory::is_empty(image, n, directory.first) {
+        return Err(Refusal::NotEmpty);
     }
-    f
+    Ok(directory)
 }

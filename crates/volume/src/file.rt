@@ -12,10 +12,8 @@ pub fn clear_bytes(image: &mut [u8], b: usize, k: usize, at: usize, count: usize
     requires { (512 * b + 512 ≤ length image.old) × (at + count ≤ 128) }
     ensures { image.new ≡ splice image.old (entry_at b k + at) (zeros count) }
 {
-    let o = 128 * (k % 4) + at;
     let a = 512 * b;
-    let e = a + 512;
-    super::data::clear_part(&mut image[a..e], o, count);
+    super::data::clear_part(&mut image[a..a + 512], 128 * (k % 4) + at, count);
 }
 
 // Zeroes slot k, which is in block b.
@@ -32,8 +30,7 @@ pub fn end_block(image: &mut [u8], b: usize)
     ensures { image.new ≡ splice image.old (512 * b + 384) (0xFF ∷ []) }
 {
     let a = 512 * b;
-    let e = a + 512;
-    super::slot::put_end(&mut image[a..e]);
+    super::slot::put_end(&mut image[a..a + 512]);
 }
 
 // Writes the numbers and the modified time of the file at o of a directory's block.
@@ -60,12 +57,10 @@ pub fn set_file(
     requires { (512 * b + 512 ≤ length image.old) × (first < 4294967296) × (size < 4294967296) × (blocks < 4294967296) }
     ensures { image.new ≡ set_file image.old (entry_at b k) first size blocks time }
 {
-    let o = 128 * (k % 4);
     let a = 512 * b;
-    let e = a + 512;
     put_file(
-        &mut image[a..e],
-        o,
+        &mut image[a..a + 512],
+        128 * (k % 4),
         first as u32,
         size as u32,
         blocks as u32,
@@ -87,8 +82,11 @@ pub fn set_attribute_fields(image: &mut [u8], b: usize, k: usize, first: usize, 
     requires { (512 * b + 512 ≤ length image.old) × (first < 4294967296) × (size < 4294967296) }
     ensures { image.new ≡ set_attribute_fields image.old (entry_at b k) first size }
 {
-    let o = 128 * (k % 4);
     let a = 512 * b;
-    let e = a + 512;
-    put_attribute_fields(&mut image[a..e], o, first as u32, size as u32);
+    put_attribute_fields(
+        &mut image[a..a + 512],
+        128 * (k % 4),
+        first as u32,
+        size as u32,
+    );
 }

@@ -1,106 +1,89 @@
 // Move, on an image that the caller has checked: the entry of a file goes, under the name of another path, to a slot of that path's directory.
 ghost use Rattle.std.specs.Prelude.{◌≡◌, true, ◌∷◌, [], ◌++◌, ◌+◌, ◌*◌, ◌≤◌, length};
+ghost use Rattle.layout.specs.Reasons.{outcome};
 ghost use Rattle.layout.specs.Bytes.{part, splice, zeros};
 ghost use Rattle.layout.specs.Table.{next, chain};
 ghost use Rattle.layout.specs.Directory.{blocks_of, directory, padded};
 ghost use Rattle.layout.specs.Check.{check};
 ghost use Rattle.layout.specs.Paths.{path_ok, parts, last_part};
 ghost use Rattle.layout.specs.Walks.Shapes.{DirectoryAt};
-ghost use Rattle.layout.specs.Walks.Slots.{Stands, entry_at};
+ghost use Rattle.layout.specs.Walks.Slots.{StandsAt, entry_at};
 ghost use Rattle.volume.specs.Move.{open_slot};
 ghost use Rattle.volume.specs.Walks.Marks.{marked};
-ghost use Rattle.volume.specs.Walks.Moves.{either_form, Prepares};
+ghost use Rattle.volume.specs.Walks.Moves.{either_form, PreparesFor};
 
 use layout::directory::Entry;
 use layout::file::File;
+use layout::refusal::Refusal;
 
 // The bytes of an entry before its name.
 const HEAD: usize = 48;
 
 // The refusal of two paths by their forms, x that of one and y that of the other: 9 before 17.
-fn either_form(x: u32, y: u32) -> u32
-    ensures { result ≡ either_form x y }
+fn either_form(x: Result<(), Refusal>, y: Result<(), Refusal>) -> Result<(), Refusal>
+    ensures { outcome result ≡ either_form (outcome x) (outcome y) }
 {
-    if (x == 9) | (y == 9) {
-        return 9;
+    if x == Err(Refusal::BadArgument) || y == Err(Refusal::BadArgument) {
+        return Err(Refusal::BadArgument);
     }
-    if x != 0 {
-        return x;
-    }
+    x?;
     y
 }
 
 // The lowest slot of a directory that is free or begins at `own`.
-fn find_open(image: &[u8], n: usize, first: usize, d: usize, own: usize) -> Entry
+fn find_open(image: &[u8], n: usize, first: usize, d: usize, own: usize) -> Option<Entry>
     requires { DirectoryAt image.now n first d }
-    ensures { Stands (chain (next image.now) first d) n (open_slot image.now (chain (next image.now) first d) own) result.slot result.block }
+    ensures { StandsAt (chain (next image.now) first d) n (open_slot image.now (chain (next image.now) first d) own) result }
 {
     let mut b = first;
-    let mut slot = 1;
-    let mut left = 4 * d - 2;
-    while 0 < left {
+    for slot in 1..4 * d - 1 {
         let at = 512 * b + 128 * (slot % 4);
         if (layout::directory::type_at(image, b, slot) == 0) | (at == own) {
-            return Entry {
-                slot: slot,
-                block: b,
-            };
+            return Some(Entry { slot, block: b });
         }
-        slot = slot + 1;
-        b = layout::directory::following(image, b, slot);
-        left = left - 1;
+        b = layout::directory::following(image, b, slot + 1);
     }
-    Entry { slot: 0, block: 0 }
+    None
 }
 
 // The same of the directory at block b.
-fn open_slot(image: &[u8], n: usize, b: usize, own: usize) -> Entry
+fn open_slot(image: &[u8], n: usize, b: usize, own: usize) -> Option<Entry>
     requires { DirectoryAt image.now n b (blocks_of image.now (512 * b)) }
-    ensures { Stands (directory image.now b) n (open_slot image.now (directory image.now b) own) result.slot result.block }
+    ensures { StandsAt (directory image.now b) n (open_slot image.now (directory image.now b) own) result }
 {
     let d = layout::directory::number_at(image, b, 0, 12);
     find_open(image, n, b, d, own)
 }
 
 // Where the entry goes, and as `first` and `size` the slot and the block where it stands; or the refusal.
-pub fn move_refusal(image: &[u8], path: &[u8], to: &[u8]) -> File
+pub fn move_refusal(image: &[u8], path: &[u8], to: &[u8]) -> Result<File, Refusal>
     requires { check image.now ≡ 0 }
-    ensures { Prepares image.now path.now to.now result.number result.slot result.block result.first result.size }
+    ensures { PreparesFor image.now path.now to.now result }
 {
-    let form = either_form(
+    either_form(
         layout::file::path_refusal(path),
         layout::file::path_refusal(to),
-    );
-    if form != 0 {
-        return layout::file::refused(form);
-    }
-    let f = layout::path::follow_path(image, path, 0x60, 0x9F);
-    let k = f.slot;
-    let b = f.block;
-    let g = layout::path::follow_used(image, to);
-    let h = g.home;
-    let named = g.slot;
-    if (k == 0) | (h == 0) {
-        return layout::file::refused(10);
-    }
-    if named != 0 {
-        return layout::file::refused(11);
+    )?;
+    let own = layout::path::find_path(image, path, 0x60, 0x9F);
+    let spot = layout::path::follow_used(image, to);
+    let (Some(own), Some(spot)) = (own, spot) else {
+        return Err(Refusal::NotFound);
+    };
+    if spot.entry.is_some() {
+        return Err(Refusal::NameTaken);
     }
     let n = image.len() / 512;
-    let e = open_slot(image, n, h, 512 * b + 128 * (k % 4));
-    let j = e.slot;
-    let a = e.block;
-    if j == 0 {
-        return layout::file::refused(13);
-    }
-    File {
-        number: 0,
-        slot: j,
-        block: a,
-        first: k,
-        size: b,
+    let place = 512 * own.block + 128 * (own.slot % 4);
+    let Some(open) = open_slot(image, n, spot.home, place) else {
+        return Err(Refusal::DirectoryFull);
+    };
+    Ok(File {
+        slot: open.slot,
+        block: open.block,
+        first: own.slot,
+        size: own.block,
         blocks: 0,
-    }
+    })
 }
 
 // Marks the blocks of both slots.
@@ -124,9 +107,9 @@ fn fill_renamed(slot: &mut [u8], head: &[u8], name: &[u8])
     requires { (length slot.old ≡ 128) × (length head.now ≡ 48) × (length name.now ≤ 80) }
     ensures { slot.new ≡ head.now ++ padded name.now }
 {
-    layout::bytes::clear(slot);
-    layout::bytes::copy_part(head, 0, slot, 0, HEAD);
-    layout::bytes::copy_part(name, 0, slot, HEAD, name.len());
+    slot.fill(0);
+    slot[..HEAD].copy_from_slice(head);
+    slot[HEAD..HEAD + name.len()].copy_from_slice(name);
 }
 
 // The same for the slot at o of a directory's block.
@@ -134,8 +117,7 @@ fn put_renamed(block: &mut [u8], o: usize, head: &[u8], name: &[u8])
     requires { (o + 128 ≤ length block.old) × (length head.now ≡ 48) × (length name.now ≤ 80) }
     ensures { block.new ≡ splice block.old o (head.now ++ padded name.now) }
 {
-    let e = o + 128;
-    fill_renamed(&mut block[o..e], head, name);
+    fill_renamed(&mut block[o..o + 128], head, name);
 }
 
 // The same for slot k of an image's directory, which is in block b.
@@ -143,10 +125,8 @@ fn put_moved(image: &mut [u8], b: usize, k: usize, head: &[u8], name: &[u8])
     requires { (512 * b + 512 ≤ length image.old) × (length head.now ≡ 48) × (length name.now ≤ 80) }
     ensures { image.new ≡ splice image.old (entry_at b k) (head.now ++ padded name.now) }
 {
-    let o = 128 * (k % 4);
     let a = 512 * b;
-    let e = a + 512;
-    put_renamed(&mut image[a..e], o, head, name);
+    put_renamed(&mut image[a..a + 512], 128 * (k % 4), head, name);
 }
 
 // Copies the bytes before the name of slot k, which is in block b.

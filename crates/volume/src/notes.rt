@@ -25,10 +25,7 @@ fn note_of(block: &[u8], k: usize) -> u8
     requires { (4 * k ≤ length block.now) × (k ≤ 128) }
     ensures { Noted (entry_in block.now) k 0 result }
 {
-    if (layout::table::used_in(block, 0, k) as usize) < k {
-        return 1;
-    }
-    0
+    u8::from((layout::table::used_in(block, 0, k) as usize) < k)
 }
 
 // Makes note i anew.
@@ -37,8 +34,7 @@ pub fn renote(image: &[u8], n: usize, i: usize, notes: &mut [u8])
     ensures { Renoted (next image.now) n i notes.old notes.new }
 {
     let rest = n - 128 * i;
-    let k = layout::content::least(128, rest);
-    notes[i] = note_of(layout::bytes::block(image, 1 + i), k);
+    notes[i] = note_of(layout::bytes::block(image, 1 + i), rest.min(128));
 }
 
 // Makes every note, where all were 0.
@@ -46,12 +42,8 @@ fn note_all(image: &[u8], n: usize, notes: &mut [u8])
     requires { (Shape image.now n) × (notes.old ≡ zeros (length notes.old)) × (n ≤ 128 * length notes.old) }
     ensures { Exact (next image.now) n notes.new }
 {
-    let mut i = 0;
-    let mut left = layout::geometry::table_blocks(n);
-    while 0 < left {
+    for i in 0..layout::geometry::table_blocks(n) {
         renote(image, n, i, notes);
-        i = i + 1;
-        left = left - 1;
     }
 }
 
@@ -80,7 +72,7 @@ pub fn search(image: &[u8], n: usize, notes: &[u8], from: usize) -> usize
         if layout::table::entry(image, b) == 0 {
             return b;
         }
-        b = b + 1;
+        b += 1;
     }
     n
 }

@@ -14,15 +14,14 @@ pub fn replace_at(image: &mut [u8], found: File, bytes: &[u8], time: u64)
     requires { (check image.old ≡ 0) × (Standing image.old (λ path. replace_refusal image.old path (length bytes.now)) found.slot found.block found.first found.size found.blocks) }
     ensures { image.new ≡ replace_at image.old (entry_at found.block found.slot) bytes.now time }
 {
-    let size = layout::content::least(found.size, bytes.len());
+    let size = found.size.min(bytes.len());
     let start = super::shorten::shorten_at(image, found, size, time);
     let short = File {
-        number: 0,
         slot: found.slot,
         block: found.block,
         first: start,
-        size: size,
-        blocks: (size + 511) / 512,
+        size,
+        blocks: size.div_ceil(512),
     };
     super::write::write_at(image, short, 0, bytes, time);
 }
@@ -32,7 +31,7 @@ pub fn replace_named(image: &[u8], found: File, count: usize, marks: &mut [u8])
     requires { (check image.now ≡ 0) × (Standing image.now (λ path. replace_refusal image.now path count) found.slot found.block found.first found.size found.blocks) × (block_count image.now ≤ length marks.old) }
     ensures { marks.new ≡ marked marks.old (replace_named image.now (entry_at found.block found.slot) count) }
 {
-    let size = layout::content::least(found.size, count);
+    let size = found.size.min(count);
     super::shorten::shorten_named(image, found, size, marks);
     super::write::write_at_named(image, found, 0, count, marks);
 }

@@ -1,12 +1,13 @@
 // Write, on an image that the caller has checked. A file that was found may be written by data of any length.
 ghost use Rattle.std.specs.Prelude.{◌≡◌, ◌+◌, ◌-◌, ◌≤◌, ◌<◌, max, length};
+ghost use Rattle.layout.specs.Reasons.{outcome};
 ghost use Rattle.layout.specs.Lists.{last_or};
 ghost use Rattle.layout.specs.Geometry.{block_count, blocks_for};
 ghost use Rattle.layout.specs.Table.{next, chain};
 ghost use Rattle.layout.specs.Check.{check};
 ghost use Rattle.layout.specs.Directory.{is_file};
 ghost use Rattle.layout.specs.Paths.{file_refusal};
-ghost use Rattle.layout.specs.Walks.Looks.{Opens};
+ghost use Rattle.layout.specs.Walks.Looks.{Opened};
 ghost use Rattle.layout.specs.Walks.Shapes.{ChainBelow};
 ghost use Rattle.layout.specs.Walks.Slots.{entry_at};
 ghost use Rattle.volume.specs.Write.{write_refusal, write_at_refusal, write_at, written, write_named};
@@ -16,57 +17,52 @@ ghost use Rattle.volume.specs.Walks.Writes.{start_of, Planned};
 
 use layout::file::File;
 use layout::limits::MAX_DATA;
-
-// The larger of two numbers.
-fn larger(a: usize, b: usize) -> usize
-    ensures { result ≡ max a b }
-{
-    if a < b { b } else { a }
-}
+use layout::refusal::Refusal;
 
 // How many blocks `count` bytes at an offset need beyond those of a file.
 fn needed(size: usize, blocks: usize, offset: usize, count: usize) -> usize
     requires { (offset ≤ size) × (size < 4294967296) × (count < 4294967296) × (blocks ≤ blocks_for size) }
     ensures { result ≡ blocks_for (max size (offset + count)) - blocks }
 {
-    let end = larger(size, offset + count);
-    (end + 511) / 512 - blocks
+    size.max(offset + count).div_ceil(512) - blocks
 }
 
 // The refusal of a write to a file that was found, 12 or 14, or 0.
-pub fn write_at_refusal(image: &[u8], found: File, offset: usize, count: usize) -> u32
+pub fn write_at_refusal(
+    image: &[u8],
+    found: File,
+    offset: usize,
+    count: usize,
+) -> Result<(), Refusal>
     requires { (check image.now ≡ 0) × (Standing image.now (file_refusal image.now) found.slot found.block found.first found.size found.blocks) × (count < 4294967296) }
-    ensures { result ≡ write_at_refusal image.now (entry_at found.block found.slot) offset count }
+    ensures { outcome result ≡ write_at_refusal image.now (entry_at found.block found.slot) offset count }
 {
-    let size = found.size;
-    let blocks = found.blocks;
-    if size < offset {
-        return 12;
+    if found.size < offset {
+        return Err(Refusal::BadOffset);
     }
-    if layout::number::header_number(image, 24) < needed(size, blocks, offset, count) {
-        return 14;
+    let free = layout::number::header_number(image, 24);
+    if free < needed(found.size, found.blocks, offset, count) {
+        return Err(Refusal::VolumeFull);
     }
-    0
+    Ok(())
 }
 
 // The file, or the refusal, 9, 17, 10, 12 or 14.
-pub fn write_refusal(image: &[u8], path: &[u8], offset: usize, count: usize) -> File
+pub fn write_refusal(
+    image: &[u8],
+    path: &[u8],
+    offset: usize,
+    count: usize,
+) -> Result<File, Refusal>
     requires { check image.now ≡ 0 }
-    ensures { Opens is_file image.now path.now (write_refusal image.now path.now offset count) result.number result.slot result.block result.first result.size result.blocks }
+    ensures { Opened is_file image.now path.now (write_refusal image.now path.now offset count) result }
 {
     if MAX_DATA < count {
-        return layout::file::refused(9);
+        return Err(Refusal::BadArgument);
     }
-    let f = layout::file::open_file(image, path);
-    let missing = f.number;
-    if missing != 0 {
-        return f;
-    }
-    let number = write_at_refusal(image, f, offset, count);
-    if number != 0 {
-        return layout::file::refused(number);
-    }
-    f
+    let file = layout::file::open_file(image, path)?;
+    write_at_refusal(image, file, offset, count)?;
+    Ok(file)
 }
 
 // The last block of a chain; 0: it has none.
@@ -84,10 +80,7 @@ fn last_block(image: &[u8], n: usize, first: usize, blocks: usize) -> usize
 fn start_block(held: usize, first: usize, taken: usize) -> usize
     ensures { result ≡ start_of held first taken }
 {
-    if held == 0 {
-        return taken;
-    }
-    first
+    if held == 0 { taken } else { first }
 }
 
 // What an accepted write does: the block to link behind, how many blocks are taken, and the file's size and blocks after it.
@@ -102,7 +95,9 @@ struct Plan {
 // The plan of an accepted write.
 fn plan_write(image: &[u8], found: File, offset: usize, count: usize) -> Plan
     requires { (check image.now ≡ 0) × (Standing image.now (file_refusal image.now) found.slot found.block found.first found.size found.blocks) × (write_at_refusal image.now (entry_at found.block found.slot) offset count ≡ 0) }
-    ensures { Planned image.now (entry_at found.block found.slot) offset count result.last result.taken found.blocks found.first result.size result.blocks }
+    ensures plan { Planned image.now (entry_at found.block found.slot) offset count result.last result.taken found.blocks found.first result.size result.blocks }
+    ensures last { result.last ≡ last_or 0 (chain (next image.now) found.first found.blocks) }
+    ensures taken { result.taken ≡ blocks_for (max found.size (offset + count)) - found.blocks }
 {
     let first = found.first;
     let size = found.size;
@@ -110,11 +105,10 @@ fn plan_write(image: &[u8], found: File, offset: usize, count: usize) -> Plan
     let n = image.len() / 512;
     let k = needed(size, blocks, offset, count);
     let last = last_block(image, n, first, blocks);
-    let end = larger(size, offset + count);
     Plan {
-        last: last,
+        last,
         taken: k,
-        size: end,
+        size: size.max(offset + count),
         blocks: blocks + k,
     }
 }
@@ -162,7 +156,7 @@ fn mark_written(
         first,
         k,
         offset / 512,
-        (offset % 512 + count + 511) / 512,
+        (offset % 512 + count).div_ceil(512),
         marks,
     );
 }
@@ -172,14 +166,9 @@ pub fn write_at_named(image: &[u8], found: File, offset: usize, count: usize, ma
     requires { (check image.now ≡ 0) × (Standing image.now (file_refusal image.now) found.slot found.block found.first found.size found.blocks) × (write_at_refusal image.now (entry_at found.block found.slot) offset count ≡ 0) × (block_count image.now ≤ length marks.old) }
     ensures { marks.new ≡ marked marks.old (write_named image.now (entry_at found.block found.slot) offset count) }
 {
-    let b = found.block;
-    let first = found.first;
-    let size = found.size;
-    let blocks = found.blocks;
+    let p = plan_write(image, found, offset, count);
     let n = image.len() / 512;
-    let last = last_block(image, n, first, blocks);
-    let more = needed(size, blocks, offset, count);
-    super::marks::mark(marks, b);
-    mark_written(image, n, first, blocks, offset, count, marks);
-    super::marks::mark_grown(image, n, last, more, marks);
+    super::marks::mark(marks, found.block);
+    mark_written(image, n, found.first, found.blocks, offset, count, marks);
+    super::marks::mark_grown(image, n, p.last, p.taken, marks);
 }

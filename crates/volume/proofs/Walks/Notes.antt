@@ -3,13 +3,14 @@ use Prim.Native.Nat.{ℕ, ◌+◌, ◌-◌, ◌*◌, ◌/◌, ◌%◌, ◌≤◌
 use mathlib.Core.Path.{◌≡◌, refl, sym, ap, subst, ◌∙◌}
 use mathlib.Core.Bool.{false, not, ◌&&◌}
 use mathlib.Core.List.{List}
-use mathlib.Core.Logic.{⊎_elim, ◌≢◌}
+use mathlib.Core.Logic.{◌⊎◌, inl, inr, ⊎_elim, ◌≢◌}
 use native.Mathlib.Decide.{ℕ_discrete}
 use native.Mathlib.Omega.{arith}
-use lib.Dec.{eqb}
+use lib.Dec.{eqb, ltb}
+use mir.Val.{bool_byte}
 use lib.ListN.{length, get_or, set, length-set}
 use lib.Seq.{get_or-set_same, get_or-set_other}
-use borrow.Author.Tests.{eq-eqb, ne_eqb}
+use borrow.Author.Tests.{eq-eqb, ne_eqb, lt-ltb, le-ltb}
 use Rattle.layout.specs.Bytes.{zeros, block}
 use Rattle.layout.specs.Geometry.{table_blocks}
 use Rattle.layout.specs.Table.{next}
@@ -22,12 +23,20 @@ use Rattle.volume.proofs.Laws.Notes.{first-is}
 
 -- the note of k entries, by the count of those in use
 module _ (v : ℕ → ℕ) (k used : ℕ) (few : k ≤ 128) (e : used ≡ count_used v 0 k) where
-  pub note-full : k ≤ used → Noted v k 0 0
+  note-full : k ≤ used → Noted v k 0 0
   note-full h = record { full = λ z b q l. count_used-all v k 0 (omega arith) b (omega arith) (omega arith); some = λ z. absurd (z refl) }
 
-  pub note-some : used < k → Noted v k 0 1
+  note-some : used < k → Noted v k 0 1
   note-some h =
       record { full = λ z. absurd (omega arith); some = λ z. let r = count_used-some v k 0 (omega arith) in (r.0, omega arith, omega arith, r.3) }
+
+  -- a test as a number: 1 if it is met, else 0
+  pub note-is : (r : ℕ) → r ≡ bool_byte (ltb used k) → Noted v k 0 r
+  note-is r q = go (lt-or-ge used k)
+    where
+      go : (used < k) ⊎ (k ≤ used) → Noted v k 0 r
+      go (inl h) = subst (Noted v k 0) (sym (q ∙ ap bool_byte (lt-ltb used k h))) (note-some h)
+      go (inr h) = subst (Noted v k 0) (sym (q ∙ ap bool_byte (le-ltb used k h))) (note-full h)
 
 -- the note of a table block of the image, by its bytes
 pub note-in-block : (s : List ℕ) (n i : ℕ) (x : List ℕ) (k r : ℕ) → x ≡ block s (1 + i) → 128 * i < n → k ≡ min 128 (n - 128 * i) → Noted (entry_in x) k 0 r → Noted (next s) n i r
@@ -57,22 +66,17 @@ renoted v n i x notes h w =
     }
 
 -- the loop that makes all of them
-pub record Noting (v : ℕ → ℕ) (n : ℕ) (notes₀ notes : List ℕ) (i left : ℕ) : Type 0 where
-  pub count : i + left ≡ table_blocks n
-  pub size : length notes ≡ length notes₀
+pub record Noting (v : ℕ → ℕ) (n : ℕ) (notes : List ℕ) (i : ℕ) : Type 0 where
   pub done : (j : ℕ) → j < i → Noted v n j (get_or notes j 0)
   pub rest : (j : ℕ) → i ≤ j → get_or notes j 0 ≡ 0
 
-pub noting : (v : ℕ → ℕ) (n left : ℕ) (notes : List ℕ) → notes ≡ zeros (length notes) → left ≡ table_blocks n → Noting v n notes notes 0 left
-noting v n left notes e h =
-    record { count = omega arith; size = refl; done = λ j l. absurd (omega arith); rest = λ j l. ap (λ (xs : List ℕ). get_or xs j 0) e ∙ get_d-zeros (length notes) j }
+pub noting : (v : ℕ → ℕ) (n : ℕ) (notes : List ℕ) → notes ≡ zeros (length notes) → Noting v n notes 0
+noting v n notes e = record { done = λ j l. absurd (omega arith); rest = λ j l. ap (λ (xs : List ℕ). get_or xs j 0) e ∙ get_d-zeros (length notes) j }
 
-module _ {v : ℕ → ℕ} {n : ℕ} {notes₀ notes : List ℕ} {i left : ℕ} (w : Noting v n notes₀ notes i left) where
-  pub note-turn : (notes' : List ℕ) → 0 < left → Renoted v n i notes notes' → Noting v n notes₀ notes' (i + 1) (left - 1)
-  note-turn notes' pos new =
+module _ {v : ℕ → ℕ} {n : ℕ} {notes : List ℕ} {i : ℕ} (w : Noting v n notes i) where
+  pub note-turn : (notes' : List ℕ) → Renoted v n i notes notes' → Noting v n notes' (i + 1)
+  note-turn notes' new =
       record {
-        count = omega (arith, w.count);
-        size = new.size ∙ w.size;
         done = λ j l. go j l (ℕ_discrete j i);
         rest = λ j l. new.others j (λ q. omega arith) ∙ w.rest j (omega arith);
       }
@@ -81,12 +85,12 @@ module _ {v : ℕ → ℕ} {n : ℕ} {notes₀ notes : List ℕ} {i left : ℕ} 
       go j l (yes e) = subst (λ (y : ℕ). Noted v n y (get_or notes' y 0)) (sym e) new.here
       go j l (no d) = subst (λ (y : ℕ). Noted v n j y) (sym (new.others j d)) (w.done j (⊎_elim (λ h. h) (λ h. absurd (d (omega arith))) (lt-or-ge j i)))
 
-  pub all_noted : left ≡ 0 → n ≤ 128 * length notes₀ → Exact v n notes
-  all_noted e h = record { room = omega (arith, w.size); right = λ j l. ⊎_elim (λ k. w.done j (omega (arith, w.count))) (λ k. past j k) (lt-or-ge j (table_blocks n)) }
+  pub all_noted : i ≡ table_blocks n → n ≤ 128 * length notes → Exact v n notes
+  all_noted e h = record { room = h; right = λ j l. ⊎_elim (λ k. w.done j (omega arith)) (λ k. past j k) (lt-or-ge j (table_blocks n)) }
     where
       past : (j : ℕ) → table_blocks n ≤ j → Noted v n j (get_or notes j 0)
       past j k =
-          subst (λ (y : ℕ). Noted v n j y) (sym (w.rest j (omega (arith, w.count))))
+          subst (λ (y : ℕ). Noted v n j y) (sym (w.rest j (omega arith)))
           (record { full = λ z b q l. absurd (omega arith); some = λ z. absurd (z refl) })
 
 -- the search: no block before b is the answer

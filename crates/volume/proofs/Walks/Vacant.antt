@@ -28,13 +28,14 @@ pub record Nearing (s : List ℕ) (n from : ℕ) (goal : List ℕ) (lowest b lef
   pub high : lowest ≤ n
   pub join : (r : ℕ) → First (λ x. has eqb x (chain (next s) b left)) from n r → First (λ x. has eqb x goal) from n (min lowest r)
 
-pub nearing : (s : List ℕ) (n from first k : ℕ) → ChainBelow s n first k → Nearing s n from (chain (next s) first k) n first k
-nearing s n from first k run =
-    record {
+pub nearing : (s : List ℕ) (n from first k left : ℕ) → ChainBelow s n first k → k ≡ left → Nearing s n from (chain (next s) first k) n first left
+nearing s n from first k left run q =
+    subst (Nearing s n from (chain (next s) first k) n first) q
+    (record {
       run = run;
       high = omega arith;
       join = λ r f. let e : min n r ≡ r = omega (arith, f.high) in subst (λ (x : ℕ). First (λ y. has eqb y (chain (next s) first k)) from n x) (sym e) f;
-    }
+    })
 
 -- block b, if it is not below `from`
 module _ (n from b : ℕ) (below : b < n) where
@@ -55,9 +56,12 @@ module _ {s : List ℕ} {n from : ℕ} {goal : List ℕ} {lowest b left : ℕ} (
       let q : min lowest n ≡ lowest = omega (arith, w.high) in
       subst (λ (x : ℕ). First (λ y. has eqb y goal) from n x) q (w.join n none)
 
-  pub near-turn : (x : ℕ) → 0 < left → First (λ y. eqb y b) from n x → Nearing s n from goal (min lowest x) (next s b) (left - 1)
-  near-turn x pos f =
-      record {
+  pub near-turn : (left' x : ℕ) → left' + 1 ≡ left → First (λ y. eqb y b) from n x → Nearing s n from goal (min lowest x) (next s b) left'
+  near-turn left' x e f =
+      let pos : 0 < left = omega arith in
+      let q : left - 1 ≡ left' = omega arith in
+      subst (Nearing s n from goal (min lowest x) (next s b)) q
+      (record {
         run = run-rest w.run pos;
         high = omega (arith, w.high);
         join = λ r g.
@@ -66,7 +70,7 @@ module _ {s : List ℕ} {n from : ℕ} {goal : List ℕ} {lowest b left : ℕ} (
             (first-same (λ y. eqb y b || has eqb y (chain (next s) (next s b) (left - 1))) (λ y. has eqb y (chain (next s) b left)) from n (min x r)
             (λ y h. ap (has eqb y) (chain-suc (next s) b left pos))
             (first_either (λ y. eqb y b) (λ y. has eqb y (chain (next s) (next s b) (left - 1))) from n x r f g)));
-      }
+      })
 
 -- a block is free, or one of those freed
 module _ (v : ℕ → ℕ) (bs : List ℕ) (b : ℕ) where

@@ -1,5 +1,8 @@
 -- Code-facing: the tests of a move.
-use Rattle.std.specs.Prelude.{ℕ, Bool, cond, ◌||◌, List, ◌≡◌, eqb}
+use Rattle.std.specs.Prelude.{Result, Ok, Err, ℕ, Bool, cond, ◌||◌, List, ◌≡◌, eqb}
+use Rattle.layout.specs.declared.file.File.{File}
+use Rattle.layout.specs.declared.refusal.Refusal.{Refusal}
+use Rattle.layout.specs.Reasons.{number_of}
 use Rattle.layout.specs.Refusals.{first_of}
 use Rattle.layout.specs.Directory.{type_of, is_free}
 use Rattle.volume.specs.Move.{move_refusal}
@@ -17,3 +20,8 @@ slot_open s own e = is_free (type_of s e) || eqb e own
 pub record Prepares (s path to : List ℕ) (number slot block oldSlot oldBlock : ℕ) : Type 0 where
   pub number_is : number ≡ move_refusal s path to
   pub moving : number ≡ 0 → Moving s path to slot block oldSlot oldBlock
+
+-- the same of an answer
+abbrev pub PreparesFor : List ℕ → List ℕ → List ℕ → Result File Refusal → Type 0
+PreparesFor s path to (Ok f) = Prepares s path to 0 f.slot f.block f.first f.size
+PreparesFor s path to (Err why) = number_of why ≡ move_refusal s path to

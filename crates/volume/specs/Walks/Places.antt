@@ -1,5 +1,8 @@
 -- Code-facing: where a new entry goes.
-use Rattle.std.specs.Prelude.{ℕ, ◌<◌, ◌≡◌, List, eqb}
+use Rattle.std.specs.Prelude.{ℕ, Result, Ok, Err, ◌<◌, ◌≡◌, List, eqb}
+use Rattle.layout.specs.declared.file.File.{File}
+use Rattle.layout.specs.declared.refusal.Refusal.{Refusal}
+use Rattle.layout.specs.Reasons.{number_of}
 use Rattle.layout.specs.Refusals.{require, first_of}
 use Rattle.layout.specs.Geometry.{block_count}
 use Rattle.layout.specs.Paths.{home}
@@ -22,3 +25,8 @@ pub record Vacant (s path : List ℕ) (h slot b : ℕ) : Type 0 where
 pub record Searched (s path : List ℕ) (refusal number h slot b : ℕ) : Type 0 where
   pub number_is : number ≡ refusal
   pub vacant : number ≡ 0 → Vacant s path h slot b
+
+-- the same of an answer: the place, or the reason of its refusal
+abbrev pub SearchedFor : List ℕ → List ℕ → ℕ → Result File Refusal → Type 0
+SearchedFor s path refusal (Ok f) = Searched s path refusal 0 f.first f.slot f.block
+SearchedFor s path refusal (Err why) = number_of why ≡ refusal

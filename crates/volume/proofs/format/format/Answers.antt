@@ -71,7 +71,6 @@ pub returns : goal.returns
 returns c = let put-root = c.put_root in
     let put-table = c.put_table in
     let put-header = c.put_header in
-    let clear = c.clear in
     let if1 = c.if-number-ne0 in
     let format-refusal = c.format_refusal-number in
     let a = c.args in
@@ -81,7 +80,7 @@ returns c = let put-root = c.put_root in
     let z = if1.false in
     let g = format-given s a.d a.name.now (sym r ∙ z) in record {
       number = sym z ∙ r;
-      bytes = put-root.ensures ∙ rw (put-table.ensures, put-header.ensures, clear.ensures, root-block.ensures)
+      bytes = put-root.ensures ∙ rw (put-table.ensures, put-header.ensures, c.fill.ensures.after (λ y h. h), root-block.ensures)
           (image-written s (block_count s) a.d a.uuid a.name.now a.time g.shape.whole)
           ∙ formatted-done s a.d a.uuid a.name.now a.time _ r z;
     }

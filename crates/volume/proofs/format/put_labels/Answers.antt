@@ -1,12 +1,13 @@
-use mathlib.Core.Path.{◌∙◌}
-use native.Mathlib.Omega.{arith}
+use Rattle.std.proofs.Common.{◌≡◌, ℕ, List, length, ap, ◌∙◌, arith}
+use Rattle.layout.specs.Bytes.{splice}
+use Rattle.layout.proofs.Laws.Bytes.{lent}
 use Rattle.volume.proofs.Walks.Format.{labels-written}
 use Rattle.volume.proofs.format.put_labels.Goals as goal
 
 pub returns : goal.returns
 returns c =
-    let copy-part2 = c.copy_part-2 in
-    let copy-part = c.copy_part in
     let a = c.args in
-    let p = c.requires in
-    copy-part2.ensures ∙ rw copy-part.ensures (labels-written a.block.now a.uuid a.name.now (omega arith) p.1 p.0)
+    let u : length a.uuid ≡ 16 = omega arith in
+    lent _ 128 128 _ a.name.now c.copy_from_slice-2.ensures.after c.requires.1
+    ∙ ap (λ (x : List ℕ). splice x 128 a.name.now) (lent a.block.now 112 16 _ a.uuid c.copy_from_slice.ensures.after u)
+    ∙ labels-written a.block.now a.uuid a.name.now u c.requires.1 c.requires.0

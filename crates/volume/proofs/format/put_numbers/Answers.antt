@@ -1,17 +1,16 @@
-use mathlib.Core.Path.{◌∙◌}
+use Rattle.std.proofs.Common.{refl, ◌∙◌, arith}
+use Rattle.std.proofs.Math.Seq.{length-take-le}
+use Rattle.layout.specs.Geometry.{signature}
+use Rattle.layout.proofs.Laws.Bytes.{lent}
 use Rattle.volume.proofs.Walks.Format.{header-written}
 use Rattle.volume.proofs.format.put_numbers.Goals as goal
 
+pub copy_from_slice-requires : goal.copy_from_slice-requires
+copy_from_slice-requires c = length-take-le 12 c.args.block.now (omega (arith, c.requires.0))
+
 pub returns : goal.returns
 returns c =
-    let put325 = c.put32-5 in
-    let put324 = c.put32-4 in
-    let put323 = c.put32-3 in
-    let put322 = c.put32-2 in
-    let put32 = c.put32 in
-    let copy-part = c.copy_part in
-    let table-blocks = c.table_blocks-t in
     let a = c.args in
-    let p = c.requires in
-    put325.ensures ∙ rw (put324.ensures, put323.ensures, put322.ensures, put32.ensures, copy-part.ensures, table-blocks.ensures)
-    (header-written a.block.now a.n a.used p.0)
+    let e = lent a.block.now 0 12 _ signature c.copy_from_slice.ensures.after refl in
+    c.put32-5.ensures ∙ rw (c.put32-4.ensures, c.put32-3.ensures, c.put32-2.ensures, c.put32.ensures, e, c.table_blocks-t.ensures)
+    (header-written a.block.now a.n a.used c.requires.0)

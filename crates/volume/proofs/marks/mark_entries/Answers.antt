@@ -1,4 +1,5 @@
-use mathlib.Core.Path.{sym, ◌∙◌}
+use Rattle.std.proofs.Common.{sym, ◌∙◌, rules}
+use Rattle.layout.specs.Table.{table_block_of}
 use Rattle.volume.proofs.Walks.Marks.{entries_none, entries-start}
 use Rattle.volume.proofs.marks.mark_entries.Goals as goal
 
@@ -6,8 +7,4 @@ pub returns-then-k-eq0 : goal.returns-then-k-eq0
 returns-then-k-eq0 c = sym (entries_none _ _ _ _ c.if-k-eq0.true)
 
 pub returns : goal.returns
-returns c =
-    let mark-tables = c.mark_tables in
-    let mark = c.mark in
-    let if1 = c.if-k-eq0 in
-    mark-tables.ensures ∙ rw mark.ensures (sym (entries-start _ _ _ _ if1.false))
+returns c = c.mark_each.ensures table_block_of (λ b r h e. search rules) ∙ rw c.mark.ensures (sym (entries-start _ _ _ _ c.if-k-eq0.false))

@@ -1,5 +1,4 @@
-use mathlib.Core.List.{[], ◌∷◌}
-use lib.ListN.{take}
+use Rattle.std.proofs.Common.{[], ◌∷◌, take, ◌-◌}
 use Rattle.layout.specs.Lists.{joined}
 use Rattle.layout.specs.Table.{next, chain, free_blocks, table_block_of}
 use Rattle.volume.specs.Walks.Marks.{marked}
@@ -7,10 +6,7 @@ use Rattle.volume.specs.Walks.Searches.{without}
 use Rattle.volume.proofs.Walks.Grow.{MarkingFree}
 use Rattle.volume.proofs.marks.mark_free.Given as goal
 
-abbrev pub invariant-loop-left : goal.invariant-loop-left
-invariant-loop-left l =
+abbrev pub invariant-loop : goal.invariant-loop
+invariant-loop l =
     let v = without (next l.image) (chain (next l.image) l.first l.k) in
-    MarkingFree v l.n (marked l.initial.marks (joined (λ x. x ∷ table_block_of x ∷ []) (take l.count (free_blocks v l.n)))) l.marks l.from l.left
-
-abbrev pub decreases-loop-left : goal.decreases-loop-left
-decreases-loop-left l = l.left
+    MarkingFree v l.n (marked l.initial.marks (joined (λ x. x ∷ table_block_of x ∷ []) (take l.count (free_blocks v l.n)))) l.marks l.from (l.count - l.counter)

@@ -1,4 +1,4 @@
-use Prim.Native.Nat.{◌-◌}
+use Rattle.std.proofs.Common.{◌-◌}
 use Rattle.layout.specs.Table.{next}
 use Rattle.volume.proofs.Walks.Vacant.{InUse}
 use Rattle.volume.proofs.marks.next_free.Given as goal

@@ -1,5 +1,4 @@
-use mathlib.Core.Path.{sym, ◌∙◌}
-use native.Mathlib.Omega.{arith}
+use Rattle.std.proofs.Common.{sym, ◌∙◌, arith}
 use Rattle.layout.specs.Table.{next}
 use Rattle.volume.proofs.Walks.Vacant.{in-use-none, in-use-entry, free-here, free-behind, free-nowhere}
 use Rattle.volume.proofs.marks.scan_free.Goals as goal
@@ -7,19 +6,9 @@ use Rattle.volume.proofs.marks.scan_free.Goals as goal
 pub loop-b-init : goal.loop-b-init
 loop-b-init c = in-use-none _ _
 
-pub entry-requires : goal.entry-requires
-entry-requires c = omega (arith, c.requires)
-
 pub returns-then-entry-eq0 : goal.returns-then-entry-eq0
 returns-then-entry-eq0 c =
-    let s = c.args.image.now in
-    free-behind c.loop-b.invariant _ _ (free-here (next s) _ _ c.loop-b-test.true (sym c.entry.ensures ∙ c.if-entry-eq0.true))
-
-pub overflow_add-b : goal.overflow_add-b
-overflow_add-b c = omega (arith, c.requires)
-
-pub loop-b-smaller : goal.loop-b-smaller
-loop-b-smaller c = omega arith
+    free-behind c.loop-b.invariant _ _ (free-here (next c.args.image.now) _ _ c.loop-b-test.true (sym c.entry.ensures ∙ c.if-entry-eq0.true))
 
 pub loop-b-preserved : goal.loop-b-preserved
 loop-b-preserved c = in-use-entry c.loop-b.invariant (λ z. c.if-entry-eq0.false (c.entry.ensures ∙ z))

@@ -1,16 +1,17 @@
-use Prim.Native.Nat.{ℕ}
-use mathlib.Core.Path.{◌≡◌, sym, ap, ◌∙◌}
-use lib.ListN.{take}
-use lib.Seq.{take-length}
-use Rattle.layout.specs.Bytes.{zeros}
+use Rattle.std.proofs.Common.{◌≡◌, ℕ, ◌+◌, ◌-◌, List, length, ap, ◌∙◌, arith}
+use Rattle.std.proofs.Math.ListN.{replicate}
+use Rattle.layout.specs.Bytes.{zeros, splice}
+use Rattle.layout.proofs.Laws.Bytes.{lent}
 use Rattle.volume.proofs.Walks.Move.{renamed-written}
 use Rattle.volume.proofs.moving.fill_renamed.Goals as goal
 
--- src/moving.rt:126:1
 pub returns : goal.returns
 unfolding zeros
 returns c =
     let a = c.args in
     let p = c.requires in
-    let q : take 48 a.head.now ≡ a.head.now = ap (λ (n : ℕ). take n a.head.now) (sym p.1) ∙ take-length a.head.now in
-    c.copy_part-2.ensures ∙ rw (take-length a.name.now, c.copy_part.ensures, q, c.clear.ensures, p.0) (renamed-written a.head.now a.name.now p.1 p.2)
+    let name = a.name.now in
+    let z : c.fill.new.self ≡ zeros 128 = c.fill.ensures.after (λ y h. h) ∙ ap (λ (n : ℕ). replicate n 0) p.0 in
+    lent _ 48 (48 + length name - 48) _ name c.copy_from_slice-2.ensures.after (omega arith)
+    ∙ ap (λ (x : List ℕ). splice x 48 name) (lent _ 0 48 _ a.head.now c.copy_from_slice.ensures.after p.1 ∙ ap (λ (x : List ℕ). splice x 0 a.head.now) z)
+    ∙ renamed-written a.head.now name p.1 p.2

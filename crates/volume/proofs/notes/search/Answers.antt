@@ -1,37 +1,15 @@
-use mathlib.Core.Path.{sym, ◌∙◌}
-use native.Mathlib.Omega.{arith}
+use Rattle.std.proofs.Common.{sym, ◌∙◌, arith}
 use Rattle.volume.proofs.Walks.Notes.{passed_none, pass-block, pass-entry, found_here, found_none}
 use Rattle.volume.proofs.notes.search.Goals as goal
 
 pub loop-b-init : goal.loop-b-init
 loop-b-init c = passed_none _ _ _
 
-pub bounds-notes-i : goal.bounds-notes-i
-bounds-notes-i c = omega (arith, c.requires.1)
-
-pub overflow_mul-b : goal.overflow_mul-b
-overflow_mul-b c = omega (arith, c.requires.0)
-
-pub overflow_add-b : goal.overflow_add-b
-overflow_add-b c = omega (arith, c.requires.0)
-
-pub loop-b-smaller-then-notes-i-eq0 : goal.loop-b-smaller-then-notes-i-eq0
-loop-b-smaller-then-notes-i-eq0 c = omega arith
-
 pub loop-b-preserved-then-notes-i-eq0 : goal.loop-b-preserved-then-notes-i-eq0
 loop-b-preserved-then-notes-i-eq0 c = pass-block c.loop-b.invariant c.if-notes-i-eq0.true
 
-pub entry-requires : goal.entry-requires
-entry-requires c = omega (arith, c.requires.0)
-
 pub returns-then-entry-eq0 : goal.returns-then-entry-eq0
 returns-then-entry-eq0 c = found_here c.loop-b.invariant _ c.loop-b-test.true c.if-notes-i-eq0.false (sym c.entry.ensures ∙ c.if-entry-eq0.true)
-
-pub overflow_add-b-in-loop-b : goal.overflow_add-b-in-loop-b
-overflow_add-b-in-loop-b c = omega (arith, c.requires.0)
-
-pub loop-b-smaller : goal.loop-b-smaller
-loop-b-smaller c = omega arith
 
 pub loop-b-preserved : goal.loop-b-preserved
 loop-b-preserved c = pass-entry c.loop-b.invariant c.if-notes-i-eq0.false (λ z. c.if-entry-eq0.false (c.entry.ensures ∙ z))

@@ -1,4 +1,4 @@
-use Prim.Native.Nat.{◌-◌}
+use Rattle.std.proofs.Common.{◌-◌}
 use Rattle.layout.specs.Table.{next}
 use Rattle.volume.proofs.Walks.Notes.{Passed}
 use Rattle.volume.proofs.notes.search.Given as goal

@@ -1,9 +1,9 @@
-use mathlib.Core.Path.{◌∙◌}
+use Rattle.std.proofs.Common.{◌∙◌}
 use Rattle.volume.proofs.Walks.Shorten.{end_none, end-some}
 use Rattle.volume.proofs.shorten.mark_tail.Goals as goal
 
-pub returns-then-tail-eq0 : goal.returns-then-tail-eq0
-returns-then-tail-eq0 c = end_none _ _ _ c.if-tail-eq0.true
+pub returns-then-tail-ne0 : goal.returns-then-tail-ne0
+returns-then-tail-ne0 c = c.mark.ensures ∙ end-some _ _ _ c.if-tail-ne0.true
 
-pub returns : goal.returns
-returns c = c.mark.ensures ∙ end-some _ _ _ c.if-tail-eq0.false
+pub returns-else-tail-ne0 : goal.returns-else-tail-ne0
+returns-else-tail-ne0 c = end_none _ _ _ c.if-tail-ne0.false

@@ -27,4 +27,8 @@ overflow_add-result c =
 pub returns : goal.returns
 returns c =
     let p = c.requires in
-    planned p.1 _ _ p.0 p.2 _ c.needed-k.ensures _ _ c.last_block-last.ensures c.larger-end.ensures
+    record {
+      plan = planned p.1 _ _ p.0 p.2 _ c.needed-k.ensures _ _ c.last_block-last.ensures c.max.ensures;
+      last = c.last_block-last.ensures;
+      taken = c.needed-k.ensures;
+    }

@@ -4,5 +4,5 @@ use Rattle.volume.proofs.write.start_block.Goals as goal
 pub returns-then-held-eq0 : goal.returns-then-held-eq0
 returns-then-held-eq0 c = start-new _ _ _ c.if-held-eq0.true
 
-pub returns : goal.returns
-returns c = start-old _ _ _ c.if-held-eq0.false
+pub returns-else-held-eq0 : goal.returns-else-held-eq0
+returns-else-held-eq0 c = start-old _ _ _ c.if-held-eq0.false

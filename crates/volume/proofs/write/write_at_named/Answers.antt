@@ -6,16 +6,8 @@ use Rattle.volume.proofs.Walks.Plan.{plan-sizes, room-given}
 use Rattle.volume.proofs.Walks.WriteNamed.{last_under, write-named}
 use Rattle.volume.proofs.write.write_at_named.Goals as goal
 
-pub last_block-last-requires : goal.last_block-last-requires
-last_block-last-requires c =
-    let p = c.requires in
-    located-below p.1.located p.1.accepted p.0
-
-pub needed-more-requires : goal.needed-more-requires
-needed-more-requires c =
-    let p = c.requires in
-    let z = plan-sizes p.1 _ _ p.0 p.2 in
-    (z.0, omega arith, z.2, omega arith)
+pub plan_write-p-requires : goal.plan_write-p-requires
+plan_write-p-requires c = let p = c.requires in (p.0, p.1, p.2)
 
 pub mark-requires : goal.mark-requires
 mark-requires c =
@@ -32,8 +24,8 @@ pub mark_grown-requires : goal.mark_grown-requires
 mark_grown-requires c =
     let p = c.requires in (
       sound-shape _ p.0,
-      rw c.last_block-last.ensures (last_under (located-below p.1.located p.1.accepted p.0)),
-      room-given p.1 _ _ p.0 p.2 _ c.needed-more.ensures,
+      rw c.plan_write-p.ensures.last (last_under (located-below p.1.located p.1.accepted p.0)),
+      room-given p.1 _ _ p.0 p.2 _ c.plan_write-p.ensures.taken,
       omega (arith, p.3),
     )
 
@@ -41,4 +33,4 @@ pub returns : goal.returns
 returns c =
     let p = c.requires in
     c.mark_grown.ensures ∙ rw (c.mark_written.ensures, c.mark.ensures)
-    (write-named p.1 _ _ p.0 p.2 _ c.needed-more.ensures _ _ c.last_block-last.ensures)
+    (write-named p.1 _ _ p.0 p.2 _ c.plan_write-p.ensures.taken _ _ c.plan_write-p.ensures.last)
