@@ -5,9 +5,10 @@ ghost use Rattle.layout.specs.Check.{check};
 ghost use Rattle.volume.specs.Walks.Marks.{marked};
 ghost use Rattle.store.specs.Change.{refusal, after, named, slot_given};
 ghost use Rattle.store.specs.Asked.{asked_in};
-ghost use Rattle.store.specs.Walks.Targets.{Target, Prepared};
+ghost use Rattle.store.specs.Walks.Targets.{Target, PreparedFor};
 
 use layout::file::File;
+use layout::refusal::Refusal;
 
 #[derive(Clone, Copy)]
 #[derive(Drop)]
@@ -17,9 +18,9 @@ pub enum Change {
 }
 
 // What the change is about, or the refusal, 9 to 26.
-pub fn refusal(image: &[u8], what: Change, directory: &[u8], path: &[u8], bytes: &[u8]) -> File
+pub fn refusal(image: &[u8], what: Change, directory: &[u8], path: &[u8], bytes: &[u8]) -> Result<File, Refusal>
     requires { check image.now ≡ 0 }
-    ensures { Prepared image.now (asked_in what directory.now path.now bytes.now) result.number result.slot result.block result.first result.size result.blocks }
+    ensures { PreparedFor image.now (asked_in what directory.now path.now bytes.now) result }
 {
     match what {
         Change::Volume(c) => volume::change::refusal(image, c, path, bytes),

@@ -1,116 +1,96 @@
 // Put, on an image that the caller has checked. Its three functions, as those of the volume's changes, are given the whole put: directory, serial number, data and time.
-ghost use Rattle.std.specs.Prelude.{◌≡◌, [], suc, ◌+◌, ◌≤◌, length};
+ghost use Rattle.std.specs.Prelude.{IfOk, ◌≡◌, [], suc, ◌+◌, ◌≤◌, length};
+ghost use Rattle.layout.specs.Reasons.{outcome};
 ghost use Rattle.layout.specs.Geometry.{block_count};
 ghost use Rattle.layout.specs.Check.{check};
 ghost use Rattle.layout.specs.Paths.{file_refusal};
 ghost use Rattle.layout.specs.Walks.Slots.{entry_at};
 ghost use Rattle.volume.specs.Write.{write_at_refusal, write_at, write_named};
 ghost use Rattle.volume.specs.Walks.Marks.{marked};
-ghost use Rattle.volume.specs.Walks.Places.{Searched};
+ghost use Rattle.volume.specs.Walks.Places.{SearchedFor};
 ghost use Rattle.volume.specs.Walks.Targets.{Standing};
 ghost use Rattle.store.specs.Settings.{max_setting, encoded, latest, added};
 ghost use Rattle.store.specs.Put.{path_of, put_refusal, put_image, put_named, put_revision};
 ghost use Rattle.store.specs.Walks.Addresses.{Addressed};
 ghost use Rattle.store.specs.Walks.Forms.{max_form};
-ghost use Rattle.store.specs.Walks.Puts.{held_at, rewritten_at, more_refusal, first_refusal, Weighed, PutTarget, PutPrepared};
+ghost use Rattle.store.specs.Walks.Puts.{held_at, rewritten_at, more_refusal, first_refusal, WeighedFor, PutTarget, PutPreparedFor};
 
 use super::form::MAX_SETTING;
 use layout::file::File;
+use layout::refusal::Refusal;
 
-// What is found out of a file before a put: the refusal, or 0, and its size with the new revision.
-#[derive(Drop)]
-struct Weight {
-    number: u32,
-    size: usize,
-}
-
-// No size.
-fn no_size(number: u32) -> Weight
-    ensures { result.number ≡ number }
-{
-    Weight { number, size: 0 }
-}
-
-// What is found out of a file, with a room for its first bytes: 24 if it is not of the form, 25 if the revision number is used up, or 0.
-fn weigh_in(image: &[u8], found: File, bytes: &[u8], room: &mut [u8]) -> Weight
+// The size of a file with the new revision, with a room for the file's first bytes; or the refusal, 24 if it is not of the form, 25 if the revision number is used up.
+fn weigh_in(
+    image: &[u8],
+    found: File,
+    bytes: &[u8],
+    room: &mut [u8],
+) -> Result<usize, Refusal>
     requires { (check image.now ≡ 0) × (Standing image.now (file_refusal image.now) found.slot found.block found.first found.size found.blocks) × (length bytes.now ≤ max_setting) × (length room.old ≡ max_form) }
-    ensures { Weighed image.now (entry_at found.block found.slot) bytes.now result.number result.size }
+    ensures { WeighedFor image.now (entry_at found.block found.slot) bytes.now result }
 {
     let Some(form) = super::load::load(image, found, room) else {
-        return no_size(24);
+        return Err(Refusal::NotSettings);
     };
     if form.last == u32::MAX {
-        return no_size(25);
+        return Err(Refusal::RevisionsUsed);
     }
     let used = super::form::length_after(form, bytes.len());
-    Weight {
-        number: 0,
-        size: found.size.max(used),
-    }
+    Ok(found.size.max(used))
 }
 
 // The same, with a room of its own.
-fn weigh(image: &[u8], found: File, bytes: &[u8]) -> Weight
+fn weigh(image: &[u8], found: File, bytes: &[u8]) -> Result<usize, Refusal>
     requires { (check image.now ≡ 0) × (Standing image.now (file_refusal image.now) found.slot found.block found.first found.size found.blocks) × (length bytes.now ≤ max_setting) }
-    ensures { Weighed image.now (entry_at found.block found.slot) bytes.now result.number result.size }
+    ensures { WeighedFor image.now (entry_at found.block found.slot) bytes.now result }
 {
     let mut room = super::form::empty_room();
     weigh_in(image, found, bytes, &mut room)
 }
 
-// The refusal of a put to a file that is there, 24, 25 or 14, or 0.
-fn more_refusal(image: &[u8], found: File, bytes: &[u8]) -> u32
+// The refusals of a put to a file that is there, 24, 25 and 14.
+fn more_refusal(image: &[u8], found: File, bytes: &[u8]) -> Result<(), Refusal>
     requires { (check image.now ≡ 0) × (Standing image.now (file_refusal image.now) found.slot found.block found.first found.size found.blocks) × (length bytes.now ≤ max_setting) }
-    ensures { result ≡ more_refusal image.now (entry_at found.block found.slot) bytes.now }
+    ensures { outcome result ≡ more_refusal image.now (entry_at found.block found.slot) bytes.now }
 {
-    let w = weigh(image, found, bytes);
-    let number = w.number;
-    if number != 0 {
-        return number;
-    }
-    volume::write::write_at_refusal(image, found, 0, w.size)
+    let size = weigh(image, found, bytes)?;
+    volume::write::write_at_refusal(image, found, 0, size)
 }
 
-// The refusal of a put that makes its file, 10, 11, 13 or 14, or 0 and its place.
-fn first_refusal(image: &[u8], directory: &[u8], serial: &[u8]) -> File
+// The place of a put that makes its file, or the refusal, 10, 11, 13 or 14.
+fn first_refusal(image: &[u8], directory: &[u8], serial: &[u8]) -> Result<File, Refusal>
     requires { (check image.now ≡ 0) × (Addressed directory.now serial.now) }
-    ensures place { Searched image.now (path_of directory.now serial.now) (first_refusal image.now (path_of directory.now serial.now)) result.number result.first result.slot result.block }
-    ensures empty { result.size ≡ 0 }
+    ensures place { SearchedFor image.now (path_of directory.now serial.now) (first_refusal image.now (path_of directory.now serial.now)) result }
+    ensures empty { IfOk result (λ f. f.size ≡ 0) }
 {
-    let p = super::serial::find_place(image, directory, serial);
-    let number = p.number;
-    if number != 0 {
-        return layout::file::refused(number);
-    }
+    let place = super::serial::find_place(image, directory, serial)?;
     if layout::number::header_number(image, 24) < 1 {
-        return layout::file::refused(14);
+        return Err(Refusal::VolumeFull);
     }
-    File {
-        number: 0,
+    Ok(File {
         size: 0,
         blocks: 0,
-        ..p
-    }
+        ..place
+    })
 }
 
-// The refusal of a put, or 0; and where its entry is, or goes.
-pub fn put_refusal(image: &[u8], directory: &[u8], serial: &[u8], bytes: &[u8], time: u64) -> File
+// Where the entry of a put is, or goes; or its refusal.
+pub fn put_refusal(
+    image: &[u8],
+    directory: &[u8],
+    serial: &[u8],
+    bytes: &[u8],
+    time: u64,
+) -> Result<File, Refusal>
     requires { check image.now ≡ 0 }
-    ensures { PutPrepared image.now directory.now serial.now time bytes.now result.number result.slot result.block result.first result.size result.blocks }
+    ensures { PutPreparedFor image.now directory.now serial.now time bytes.now result }
 {
-    let form = super::serial::address_refusal(directory, serial, bytes.len() <= MAX_SETTING);
-    if form != 0 {
-        return layout::file::refused(form);
-    }
-    let f = super::serial::open_file(image, directory, serial);
-    if f.number != 0 {
+    super::serial::address_refusal(directory, serial, bytes.len() <= MAX_SETTING)?;
+    let Ok(file) = super::serial::open_file(image, directory, serial) else {
         return first_refusal(image, directory, serial);
-    }
-    let number = more_refusal(image, f, bytes);
-    if number != 0 {
-        return layout::file::refused(number);
-    }
-    f
+    };
+    more_refusal(image, file, bytes)?;
+    Ok(file)
 }
 
 // Marks the blocks that an accepted put to a file names. Where a revision more fits into the file's blocks in any case, they are those of a write of the
@@ -123,8 +103,8 @@ fn more_named(image: &[u8], found: File, bytes: &[u8], marks: &mut [u8])
         volume::write::write_at_named(image, found, 0, found.size, marks);
         return;
     }
-    let w = weigh(image, found, bytes);
-    volume::write::write_at_named(image, found, 0, w.size, marks);
+    let size = weigh(image, found, bytes).unwrap();
+    volume::write::write_at_named(image, found, 0, size, marks);
 }
 
 // Marks the blocks that an accepted put names. What was found has size 0 if it is a place, since a file of the form has bytes; a first put fills one block.
@@ -190,7 +170,6 @@ fn put_first(image: &mut [u8], found: File, bytes: &[u8], time: u64)
     let mut new = super::form::empty_room();
     let used = super::form::rewrite(&old, super::form::no_records(), bytes, &mut new);
     let file = File {
-        number: 0,
         first: 0,
         size: 0,
         blocks: 0,

@@ -1,17 +1,19 @@
 // Serial numbers, and their paths in a directory.
 ghost use Rattle.std.specs.Prelude.{◌≡◌, ◌++◌, ◌-◌, ◌≤◌, length, take};
+ghost use Rattle.layout.specs.Reasons.{outcome};
 ghost use Rattle.layout.specs.Bytes.{zeros};
 ghost use Rattle.layout.specs.Directory.{is_file};
 ghost use Rattle.layout.specs.Check.{check};
 ghost use Rattle.layout.specs.Looks.{is_root_path};
 ghost use Rattle.layout.specs.Paths.{file_refusal};
-ghost use Rattle.layout.specs.Walks.Looks.{Opens};
+ghost use Rattle.layout.specs.Walks.Looks.{Opened};
 ghost use Rattle.volume.specs.Create.{place_refusal, create_image};
-ghost use Rattle.volume.specs.Walks.Places.{Vacant, Searched};
+ghost use Rattle.volume.specs.Walks.Places.{Vacant, SearchedFor};
 ghost use Rattle.store.specs.Put.{serial_byte, serial_ok, front, path_of, address_refusal};
 ghost use Rattle.store.specs.Walks.Addresses.{Addressed};
 
 use layout::file::File;
+use layout::refusal::Refusal;
 use volume::create::Given;
 
 // The most bytes of a serial number.
@@ -38,21 +40,20 @@ fn is_root(directory: &[u8]) -> bool
     matches!(directory, b"/")
 }
 
-// The refusal of a directory and a serial number by themselves, 22 or 17, or 0; data or buffer fit or do not.
-pub fn address_refusal(directory: &[u8], serial: &[u8], fits: bool) -> u32
-    ensures { result ≡ address_refusal directory.now serial.now fits }
+// The refusals of a directory and a serial number by themselves, 22 and 17; data or buffer fit or do not.
+pub fn address_refusal(directory: &[u8], serial: &[u8], fits: bool) -> Result<(), Refusal>
+    ensures { outcome result ≡ address_refusal directory.now serial.now fits }
 {
     if !fits || !serial_ok(serial) {
-        return 22;
+        return Err(Refusal::BadSettings);
     }
     if is_root(directory) {
-        return 0;
+        return Ok(());
     }
-    let form = layout::file::whole_path_refusal(directory);
-    if form == 9 {
-        return 22;
+    match layout::file::whole_path_refusal(directory) {
+        Err(Refusal::BadArgument) => Err(Refusal::BadSettings),
+        form => form,
     }
-    form
 }
 
 // How many bytes of a path stand before the `/` of its serial number.
@@ -102,18 +103,18 @@ fn path_of(directory: &[u8], serial: &[u8]) -> Path
 }
 
 // The file of a serial number, or the refusal 10.
-pub fn open_file(image: &[u8], directory: &[u8], serial: &[u8]) -> File
+pub fn open_file(image: &[u8], directory: &[u8], serial: &[u8]) -> Result<File, Refusal>
     requires { (check image.now ≡ 0) × (Addressed directory.now serial.now) }
-    ensures { Opens is_file image.now (path_of directory.now serial.now) (file_refusal image.now (path_of directory.now serial.now)) result.number result.slot result.block result.first result.size result.blocks }
+    ensures { Opened is_file image.now (path_of directory.now serial.now) (file_refusal image.now (path_of directory.now serial.now)) result }
 {
     let path = path_of(directory, serial);
     layout::file::open_file(image, &path.bytes[..path.length])
 }
 
 // The place for the file of a serial number, or the refusal, 10, 11 or 13.
-pub fn find_place(image: &[u8], directory: &[u8], serial: &[u8]) -> File
+pub fn find_place(image: &[u8], directory: &[u8], serial: &[u8]) -> Result<File, Refusal>
     requires { (check image.now ≡ 0) × (Addressed directory.now serial.now) }
-    ensures { Searched image.now (path_of directory.now serial.now) (place_refusal image.now (path_of directory.now serial.now)) result.number result.first result.slot result.block }
+    ensures { SearchedFor image.now (path_of directory.now serial.now) (place_refusal image.now (path_of directory.now serial.now)) result }
 {
     let path = path_of(directory, serial);
     volume::place::find_place(image, &path.bytes[..path.length])

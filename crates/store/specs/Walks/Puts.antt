@@ -1,5 +1,8 @@
 -- Code-facing: the two ways of a put, to the file that is there and to one that it makes; and where its entry is, or goes.
-use Rattle.std.specs.Prelude.{ℕ, ◌<◌, ◌≡◌, true, false, List, length, leb}
+use Rattle.std.specs.Prelude.{Result, Ok, Err, ℕ, ◌<◌, ◌≡◌, true, false, List, length, leb}
+use Rattle.layout.specs.declared.file.File.{File}
+use Rattle.layout.specs.declared.refusal.Refusal.{Refusal}
+use Rattle.layout.specs.Reasons.{number_of}
 use Rattle.layout.specs.Refusals.{require, first_of}
 use Rattle.layout.specs.Geometry.{block_count}
 use Rattle.layout.specs.Table.{next, free_blocks}
@@ -41,3 +44,12 @@ pub record PutTarget (s directory serial : List ℕ) (slot block first size bloc
 pub record PutPrepared (s directory serial : List ℕ) (time : ℕ) (bytes : List ℕ) (number slot block first size blocks : ℕ) : Type 0 where
   pub number_is : number ≡ put_refusal s directory serial time bytes
   pub target : number ≡ 0 → PutTarget s directory serial slot block first size blocks
+
+-- the same of answers: what is found, or the reason of the refusal
+abbrev pub WeighedFor : List ℕ → ℕ → List ℕ → Result ℕ Refusal → Type 0
+WeighedFor s e bytes (Ok size) = Weighed s e bytes 0 size
+WeighedFor s e bytes (Err why) = number_of why ≡ form_refusal (revisions (content s e))
+
+abbrev pub PutPreparedFor : List ℕ → List ℕ → List ℕ → ℕ → List ℕ → Result File Refusal → Type 0
+PutPreparedFor s directory serial time bytes (Ok f) = PutPrepared s directory serial time bytes 0 f.slot f.block f.first f.size f.blocks
+PutPreparedFor s directory serial time bytes (Err why) = number_of why ≡ put_refusal s directory serial time bytes

@@ -1,5 +1,8 @@
 -- Code-facing: what was found for a change, as the code hands it on.
-use Rattle.std.specs.Prelude.{ℕ, ◌≡◌, List}
+use Rattle.std.specs.Prelude.{Result, Ok, Err, ℕ, ◌≡◌, List}
+use Rattle.layout.specs.declared.file.File.{File}
+use Rattle.layout.specs.declared.refusal.Refusal.{Refusal}
+use Rattle.layout.specs.Reasons.{number_of}
 use Rattle.volume.specs.Walks.Targets as volume
 use Rattle.store.specs.Change.{Change, plain, put_in, refusal}
 use Rattle.store.specs.Walks.Puts.{PutTarget}
@@ -13,3 +16,8 @@ Target s (put_in directory serial time bytes) slot block first size blocks = Put
 pub record Prepared (s : List ℕ) (c : Change) (number slot block first size blocks : ℕ) : Type 0 where
   pub number_is : number ≡ refusal s c
   pub target : number ≡ 0 → Target s c slot block first size blocks
+
+-- the same of an answer: what it is about, or the reason of its refusal
+abbrev pub PreparedFor : List ℕ → Change → Result File Refusal → Type 0
+PreparedFor s c (Ok f) = Prepared s c 0 f.slot f.block f.first f.size f.blocks
+PreparedFor s c (Err why) = number_of why ≡ refusal s c
