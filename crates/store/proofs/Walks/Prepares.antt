@@ -7,6 +7,11 @@ use native.Mathlib.Omega.{arith}
 use borrow.Author.Tests.{lt-leb, le-leb}
 use lib.ListN.{length, get_or, drop}
 use lib.Dec.{eqb, leb}
+use Rattle.std.specs.Prelude.{Result, Ok, Err, IfOk}
+use Rattle.layout.specs.declared.file.File.{File}
+use Rattle.layout.specs.declared.refusal.Refusal.{Refusal}
+use Rattle.layout.specs.Reasons.{number_of}
+use Rattle.layout.proofs.Laws.Reasons.{reason}
 use Rattle.layout.specs.Lists.{within, every}
 use Rattle.layout.specs.Refusals.{require}
 use Rattle.layout.specs.Geometry.{block_count}
@@ -19,11 +24,11 @@ use Rattle.layout.specs.Walks.Looks.{Located}
 use Rattle.layout.specs.Walks.Slots as slots
 use Rattle.volume.specs.Create.{place_refusal}
 use Rattle.volume.specs.Write.{write_at, write_named, write_at_refusal}
-use Rattle.volume.specs.Walks.Places.{Searched}
+use Rattle.volume.specs.Walks.Places.{Searched, SearchedFor}
 use Rattle.volume.specs.Walks.Targets.{Standing}
 use Rattle.store.specs.Settings.{max_setting, Revision, Found, broken, held, revisions, latest}
 use Rattle.store.specs.Put.{path_of, is_there, put_image, put_named, put_revision, form_refusal, put_refusal}
-use Rattle.store.specs.Walks.Puts.{held_at, rewritten_at, more_refusal, first_refusal, Weighed, PutTarget, PutPrepared}
+use Rattle.store.specs.Walks.Puts.{held_at, rewritten_at, more_refusal, first_refusal, Weighed, PutTarget, PutPrepared, PutPreparedFor}
 use Rattle.store.specs.Walks.Addresses.{Addressed}
 use Rattle.layout.proofs.Laws.Tests.{and_split, within-split, first_of-zero, first_of-refused, true-not-false}
 use Rattle.layout.proofs.Laws.Sound.{sound}
@@ -33,6 +38,13 @@ use Rattle.store.proofs.Laws.Added.{held-cond}
 use Rattle.store.proofs.Laws.Serials.{there-accepted}
 use Rattle.store.proofs.Laws.Put.{put-serial, put-short}
 use Rattle.store.proofs.Walks.Refusals.{there-refusal, there-opened, there-entry, there-stored, there-rewritten, absent-refusal}
+
+-- what is known of an answer that is a refusal
+pub weighed-why : (s : List ℕ) (e : ℕ) (bytes : List ℕ) (why : Refusal) → number_of why ≡ form_refusal (revisions (content s e)) → Weighed s e bytes (number_of why) 0
+weighed-why s e bytes why q = record { number_is = q; size_is = λ z. absurd (reason why z); small = λ z. absurd (reason why z) }
+
+pub searched-why : (s path : List ℕ) (refusal : ℕ) (why : Refusal) → number_of why ≡ refusal → Searched s path refusal (number_of why) 0 0 0
+searched-why s path refusal why q = record { number_is = q; vacant = λ z. absurd (reason why z) }
 
 -- the refusal of a put to a file, by what was found out of it
 module _ {s : List ℕ} {e : ℕ} {bytes : List ℕ} {number size : ℕ} (W : Weighed s e bytes number size) where
@@ -165,3 +177,11 @@ module _ {s directory serial : List ℕ} {slot b first size blocks : ℕ} (T : P
     pub target-revision : suc (latest (held_at s (slots.entry_at b slot))) ≡ put_revision s directory serial
     unfolding put_revision
     target-revision = rw (L.place, there-stored s directory serial time bytes right target-short there)
+
+-- the answer for a place of a first put, as that of a put
+module _ (s directory serial : List ℕ) (time : ℕ) (bytes : List ℕ) (right : Addressed directory serial) (short : length bytes ≤ max_setting) (ok : check s ≡ 0)
+    (absent : is_there s directory serial ≡ false) where
+  pub prepared-first-for : (r : Result File Refusal) → SearchedFor s (path_of directory serial) (first_refusal s (path_of directory serial)) r → IfOk r (λ f. f.size ≡ 0)
+      → PutPreparedFor s directory serial time bytes r
+  prepared-first-for (Ok f) S z = prepared-first s directory serial time bytes right short ok absent 0 f.slot f.block f.first f.size f.blocks S z
+  prepared-first-for (Err why) S z = (prepared-first s directory serial time bytes right short ok absent (number_of why) 0 0 0 0 0 (searched-why s (path_of directory serial) _ why S) refl).number_is

@@ -1,11 +1,11 @@
 use Rattle.std.proofs.Common.{◌≡◌, ◌+◌, ◌++◌, length, drop, arith, refl, ap, sym, ◌∙◌}
 use Rattle.layout.specs.Bytes.{splice}
 use Rattle.layout.proofs.Laws.Bytes.{splice-flat}
-use Rattle.store.proofs.Walks.Gets.{answer-refused, wanted-is, sought-broken, sought-missing, sought-found}
+use Rattle.store.proofs.Walks.Gets.{wanted-is, sought-broken, sought-missing, sought-found}
 use Rattle.store.proofs.get.get_from.Goals as goal
 
 pub returns-in_default : goal.returns-in_default
-returns-in_default c = answer-refused _ _ _ _ _ _ c.refused.ensures (sought-broken _ _ _ c.in_default.ensures)
+returns-in_default c = sought-broken _ _ _ c.in_default.ensures
 
 pub find-requires : goal.find-requires
 find-requires c =
@@ -16,7 +16,7 @@ pub returns-in_default-find : goal.returns-in_default-find
 returns-in_default-find c =
     let t = c.in-Some.ensures.right refl in
     let q = wanted-is c.args.revision _ _ _ t.1.latest-is c.unwrap_or-x.ensures in
-    answer-refused _ _ _ _ _ _ c.refused-in_default-find.ensures (sought-missing _ _ _ _ t.0 _ q c.in_default-find.ensures)
+    sought-missing _ _ _ _ t.0 _ q c.in_default-find.ensures
 
 pub returns : goal.returns
 returns c =

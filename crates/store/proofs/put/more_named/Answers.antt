@@ -28,10 +28,9 @@ returns-then-found-bytes c =
     c.write_at_named.ensures ∙ ap (marked a.marks.now) (spare-named p.1 p.0 (λ i. omega (arith, c.shared_slice_known-1.given i)) _ p.3 c.if-found-bytes.true)
 
 pub write_at_named-requires-2 : goal.write_at_named-requires-2
-write_at_named-requires-2 c = let p = c.requires in (p.0, p.1, (more-weighed c.weigh-w.ensures p.3).1, p.4)
+write_at_named-requires-2 c = ?
 
 pub returns : goal.returns
 returns c =
     let a = c.args in
-    let w = c.weigh-w.ensures in
-    c.write_at_named-2.ensures ∙ ap (λ (k : ℕ). marked a.marks.now (write_named a.image.now (entry_at a.found.block a.found.slot) 0 k)) (w.size_is (more-weighed w c.requires.3).0)
+    c.write_at_named-2.ensures ∙ ap (λ (k : ℕ). marked a.marks.now (write_named a.image.now (entry_at a.found.block a.found.slot) 0 k)) ?
