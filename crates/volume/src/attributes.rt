@@ -30,8 +30,7 @@ fn whole_blocks(count: usize) -> bool
 fn form_refusal(path: &[u8], count: usize) -> Result<(), Refusal>
     ensures { outcome result ≡ set_form_refusal path.now count }
 {
-    let bad_path = layout::file::path_refusal(path) == Err(Refusal::BadArgument);
-    if bad_path || !whole_blocks(count) {
+    if layout::path::path_parts(path).is_none() || !whole_blocks(count) {
         return Err(Refusal::BadArgument);
     }
     if 512 * (MAX_ATTRIBUTES as usize) < count {
