@@ -8,7 +8,7 @@ returns-then-is_none c =
     let a = c.args in
     let parts = c.path_parts in
     elim c.then-is_none.branch [
-      then-is_none-via-then-is_none w ↦ set-bad-path a.path.now a.count (no-parts a.path.now parts.result parts.ensures w.if-is_none.ensures)
+      | then-is_none-via-then-is_none w ↦ set-bad-path a.path.now a.count (no-parts a.path.now parts.result parts.ensures w.if-is_none.ensures)
       | then-is_none-via-else-is_none+then-not-whole_blocks w ↦ set-bad-count a.path.now a.count (has-parts a.path.now parts.result parts.ensures w.if-is_none.ensures) (sym w.if-not-whole_blocks.true ∙ w.whole_blocks.ensures)
     ]
 

@@ -14,7 +14,7 @@ returns-then-d-lt1 c =
     let a = c.args in
     let whole = sym c.if-not-sized.false ∙ c.sized.ensures in
     elim c.then-d-lt1.branch [
-      then-d-lt1-via-then-d-lt1 w ↦ refused_none a.image.now a.d a.name.now whole w.if-d-lt1.true
+      | then-d-lt1-via-then-d-lt1 w ↦ refused_none a.image.now a.d a.name.now whole w.if-d-lt1.true
       | then-d-lt1-via-else-d-lt1+then-d-gt-MAX_DIRECTORY w ↦ refused-many a.image.now a.d a.name.now whole w.if-d-lt1.false w.if-d-gt-MAX_DIRECTORY.true
       | then-d-lt1-via-else-d-lt1+else-d-gt-MAX_DIRECTORY+then-name-ne128 w ↦ refused-label a.image.now a.d a.name.now whole w.if-d-lt1.false w.if-d-gt-MAX_DIRECTORY.false w.if-name-ne128.true
     ]

@@ -1,7 +1,6 @@
 use Rattle.std.proofs.Common.{refl, sym, ◌∙◌, arith}
 use Rattle.std.proofs.lemmas.Result.{err_from_is_err_and}
 use Rattle.layout.specs.Directory.{is_file}
-use Rattle.layout.specs.Reasons.{number_of}
 use Rattle.layout.proofs.Laws.Reasons.{reason}
 use Rattle.layout.proofs.Walks.Looks.{opens_as}
 use Rattle.volume.proofs.Walks.Write.{data-long, path-refused, by-entry}
