@@ -1,102 +1,66 @@
 // The calls that are lent a journal. Each checks the image and scans the journal once.
 ghost use Rattle.std.specs.Prelude.{◌≡◌, ◌≢◌, unwrap_or, IfSome};
+ghost use Rattle.layout.specs.Reasons.{outcome};
 ghost use Rattle.store.specs.Change.{create, write, delete, create_directory, delete_directory, set_attributes, clear_attributes, clear_flags, shorten, replace, move, put_in, put};
 ghost use Rattle.store.specs.Asked.{asked_in, asked};
 ghost use Rattle.journal.specs.Run.{after_undo, undo_answer, after_change, change_answer, state};
-ghost use Rattle.journal.specs.Walks.Changes.{Inspects, Ready, ready_refusal};
-ghost use Rattle.journal.specs.Answers.{changed_answer, undone_answer, ChangeNumbered, UndoNumbered};
+ghost use Rattle.journal.specs.Walks.Changes.{Inspected, Ready, ready_refusal};
+ghost use Rattle.journal.specs.Answers.{changed_answer, undone_answer};
 
 use super::naming::Asked;
+use layout::refusal::Refusal;
 use store::change::Change;
 use volume::change::Change as VolumeChange;
 use volume::create::Given;
 
-// What undo gives: the length of the record taken back, or the number of the refusal.
-#[derive(Drop)]
-pub enum Undone {
-    Done(u32),
-    Refused(u32),
+// What a change gives: the slot of a create, of a directory too, or of a move, or the revision of a put (0 for the others), and the length of the record added.
+#[derive(Clone, Copy, Debug, PartialEq, Eq, Drop)]
+pub struct Changed {
+    pub slot: u32,
+    pub size: u32,
 }
 
-// What a change gives: the slot of a create, of a directory too, or of a move, or the revision of a put (0 for the others), and the length of the record added, or the number of the refusal.
-#[derive(Drop)]
-pub enum Changed {
-    Done { slot: u32, size: u32 },
-    Refused(u32),
-}
-
-// What is found of an image and its journal: the refusal, 1 to 8, or 0 and the offset of the last record, if there is one.
-#[derive(Drop)]
-struct Inspected {
-    number: u32,
-    last: Option<usize>,
-}
-
-// The refusals that come first in every call.
-fn inspect(image: &[u8], journal: &[u8]) -> Inspected
-    ensures inspected { Inspects (state image.now journal.now) result.number (unwrap_or result.last 0) }
-    ensures last { IfSome result.last (λ at. at ≢ 0) }
+// The refusals that come first in every call, 1 to 8; and the offset of the journal's last record, if there is one.
+fn inspect(image: &[u8], journal: &[u8]) -> Result<Option<usize>, Refusal>
+    ensures { Inspected (state image.now journal.now) result }
 {
-    let refusal = layout::check::check(image);
-    if refusal != 0 {
-        return Inspected {
-            number: refusal,
-            last: None,
-        };
-    }
-    let n = image.len() / 512;
-    let Some(found) = super::scan::scan(journal, n) else {
-        return Inspected {
-            number: 8,
-            last: None,
-        };
+    layout::check::check(image)?;
+    let Some(found) = super::scan::scan(journal, image.len() / 512) else {
+        return Err(Refusal::BadJournal);
     };
-    Inspected {
-        number: 0,
-        last: found.last,
-    }
+    Ok(found.last)
 }
 
-// The refusal, 1 to 8, or 0.
-pub fn ready_refusal(image: &[u8], journal: &[u8]) -> u32
-    ensures { result ≡ ready_refusal (state image.now journal.now) }
+// The refusals 1 to 8 alone.
+pub fn ready_refusal(image: &[u8], journal: &[u8]) -> Result<(), Refusal>
+    ensures { outcome result ≡ ready_refusal (state image.now journal.now) }
 {
-    inspect(image, journal).number
+    inspect(image, journal)?;
+    Ok(())
 }
 
-// Undo: takes the last record back.
-pub fn undo(image: &mut [u8], journal: &mut [u8]) -> Undone
+// Undo: takes the last record back; gives its length.
+pub fn undo(image: &mut [u8], journal: &mut [u8]) -> Result<u32, Refusal>
     ensures answer { undone_answer result ≡ undo_answer (state image.old journal.old) }
     ensures state { state image.new journal.new ≡ after_undo (state image.old journal.old) }
-    ensures numbered { UndoNumbered result }
 {
-    let found = inspect(image, journal);
-    let unready = found.number;
-    if unready != 0 {
-        return Undone::Refused(unready);
-    }
-    let Some(at) = found.last else {
-        return Undone::Refused(16);
+    let last = inspect(image, journal)?;
+    let Some(at) = last else {
+        return Err(Refusal::NothingToUndo);
     };
-    let size = super::restoring::take_back(image, journal, at);
-    Undone::Done(size)
+    Ok(super::restoring::take_back(image, journal, at))
 }
 
 // A change on a sound image and a well-formed journal: its own refusals first, then its record, then the change itself. A put is in the directory beside its
 // path; the others look at their path alone.
-fn change_ready_in(image: &mut [u8], journal: &mut [u8], asked: Asked) -> Changed
+fn change_ready_in(image: &mut [u8], journal: &mut [u8], asked: Asked) -> Result<Changed, Refusal>
     requires { Ready image.old journal.old }
     ensures answer { changed_answer result ≡ change_answer (state image.old journal.old) (asked_in asked.entry.what asked.entry.directory.now asked.entry.path.now asked.entry.bytes.now) }
     ensures state { state image.new journal.new ≡ after_change (state image.old journal.old) (asked_in asked.entry.what asked.entry.directory.now asked.entry.path.now asked.entry.bytes.now) }
-    ensures numbered { ChangeNumbered result }
 {
-    let found = store::change::refusal(image, asked.what, asked.directory, asked.path, asked.bytes);
-    let refusal = found.number;
-    if refusal != 0 {
-        return Changed::Refused(refusal);
-    }
+    let found = store::change::refusal(image, asked.what, asked.directory, asked.path, asked.bytes)?;
     let Some(size) = super::naming::record_change(image, journal, asked, found) else {
-        return Changed::Refused(15);
+        return Err(Refusal::JournalFull);
     };
     let slot = store::change::make(
         image,
@@ -106,19 +70,15 @@ fn change_ready_in(image: &mut [u8], journal: &mut [u8], asked: Asked) -> Change
         asked.bytes,
         found,
     );
-    Changed::Done { slot, size }
+    Ok(Changed { slot, size })
 }
 
 // Any change: the refusals 1 to 8 first.
-fn change_in(image: &mut [u8], journal: &mut [u8], asked: Asked) -> Changed
+fn change_in(image: &mut [u8], journal: &mut [u8], asked: Asked) -> Result<Changed, Refusal>
     ensures answer { changed_answer result ≡ change_answer (state image.old journal.old) (asked_in asked.entry.what asked.entry.directory.now asked.entry.path.now asked.entry.bytes.now) }
     ensures state { state image.new journal.new ≡ after_change (state image.old journal.old) (asked_in asked.entry.what asked.entry.directory.now asked.entry.path.now asked.entry.bytes.now) }
-    ensures numbered { ChangeNumbered result }
 {
-    let unready = ready_refusal(image, journal);
-    if unready != 0 {
-        return Changed::Refused(unready);
-    }
+    ready_refusal(image, journal)?;
     change_ready_in(image, journal, asked)
 }
 
@@ -129,11 +89,10 @@ pub fn change_ready(
     what: Change,
     path: &[u8],
     bytes: &[u8],
-) -> Changed
+) -> Result<Changed, Refusal>
     requires { Ready image.old journal.old }
     ensures answer { changed_answer result ≡ change_answer (state image.old journal.old) (asked what path.now bytes.now) }
     ensures state { state image.new journal.new ≡ after_change (state image.old journal.old) (asked what path.now bytes.now) }
-    ensures numbered { ChangeNumbered result }
 {
     let asked = Asked {
         what,
@@ -151,10 +110,9 @@ pub fn change(
     what: Change,
     path: &[u8],
     bytes: &[u8],
-) -> Changed
+) -> Result<Changed, Refusal>
     ensures answer { changed_answer result ≡ change_answer (state image.old journal.old) (asked what path.now bytes.now) }
     ensures state { state image.new journal.new ≡ after_change (state image.old journal.old) (asked what path.now bytes.now) }
-    ensures numbered { ChangeNumbered result }
 {
     let asked = Asked {
         what,
@@ -176,10 +134,9 @@ pub fn create(
     permissions: u8,
     flags: u32,
     time: u64,
-) -> Changed
+) -> Result<Changed, Refusal>
     ensures answer { changed_answer result ≡ change_answer (state image.old journal.old) (create path.now kind user group permissions flags time) }
     ensures state { state image.new journal.new ≡ after_change (state image.old journal.old) (create path.now kind user group permissions flags time) }
-    ensures numbered { ChangeNumbered result }
 {
     let given = Given {
         kind,
@@ -201,20 +158,18 @@ pub fn write(
     offset: usize,
     bytes: &[u8],
     time: u64,
-) -> Changed
+) -> Result<Changed, Refusal>
     ensures answer { changed_answer result ≡ change_answer (state image.old journal.old) (write path.now offset bytes.now time) }
     ensures state { state image.new journal.new ≡ after_change (state image.old journal.old) (write path.now offset bytes.now time) }
-    ensures numbered { ChangeNumbered result }
 {
     let what = VolumeChange::Write { offset, time };
     change(image, journal, Change::Volume(what), path, bytes)
 }
 
 // Delete: frees a file's blocks and its slot.
-pub fn delete(image: &mut [u8], journal: &mut [u8], path: &[u8]) -> Changed
+pub fn delete(image: &mut [u8], journal: &mut [u8], path: &[u8]) -> Result<Changed, Refusal>
     ensures answer { changed_answer result ≡ change_answer (state image.old journal.old) (delete path.now) }
     ensures state { state image.new journal.new ≡ after_change (state image.old journal.old) (delete path.now) }
-    ensures numbered { ChangeNumbered result }
 {
     change(
         image,
@@ -237,10 +192,9 @@ pub fn create_directory(
     flags: u32,
     blocks: u32,
     time: u64,
-) -> Changed
+) -> Result<Changed, Refusal>
     ensures answer { changed_answer result ≡ change_answer (state image.old journal.old) (create_directory path.now kind user group permissions flags time blocks) }
     ensures state { state image.new journal.new ≡ after_change (state image.old journal.old) (create_directory path.now kind user group permissions flags time blocks) }
-    ensures numbered { ChangeNumbered result }
 {
     let given = Given {
         kind,
@@ -255,10 +209,9 @@ pub fn create_directory(
 }
 
 // Delete directory: frees an empty directory's blocks and its slot.
-pub fn delete_directory(image: &mut [u8], journal: &mut [u8], path: &[u8]) -> Changed
+pub fn delete_directory(image: &mut [u8], journal: &mut [u8], path: &[u8]) -> Result<Changed, Refusal>
     ensures answer { changed_answer result ≡ change_answer (state image.old journal.old) (delete_directory path.now) }
     ensures state { state image.new journal.new ≡ after_change (state image.old journal.old) (delete_directory path.now) }
-    ensures numbered { ChangeNumbered result }
 {
     change(
         image,
@@ -270,10 +223,9 @@ pub fn delete_directory(image: &mut [u8], journal: &mut [u8], path: &[u8]) -> Ch
 }
 
 // Set attributes: puts whole blocks of data beside a file, in place of those that it has.
-pub fn set_attributes(image: &mut [u8], journal: &mut [u8], path: &[u8], bytes: &[u8]) -> Changed
+pub fn set_attributes(image: &mut [u8], journal: &mut [u8], path: &[u8], bytes: &[u8]) -> Result<Changed, Refusal>
     ensures answer { changed_answer result ≡ change_answer (state image.old journal.old) (set_attributes path.now bytes.now) }
     ensures state { state image.new journal.new ≡ after_change (state image.old journal.old) (set_attributes path.now bytes.now) }
-    ensures numbered { ChangeNumbered result }
 {
     change(
         image,
@@ -285,10 +237,9 @@ pub fn set_attributes(image: &mut [u8], journal: &mut [u8], path: &[u8], bytes: 
 }
 
 // Clear attributes: frees the blocks of a file's attributes.
-pub fn clear_attributes(image: &mut [u8], journal: &mut [u8], path: &[u8]) -> Changed
+pub fn clear_attributes(image: &mut [u8], journal: &mut [u8], path: &[u8]) -> Result<Changed, Refusal>
     ensures answer { changed_answer result ≡ change_answer (state image.old journal.old) (clear_attributes path.now) }
     ensures state { state image.new journal.new ≡ after_change (state image.old journal.old) (clear_attributes path.now) }
-    ensures numbered { ChangeNumbered result }
 {
     change(
         image,
@@ -300,10 +251,9 @@ pub fn clear_attributes(image: &mut [u8], journal: &mut [u8], path: &[u8]) -> Ch
 }
 
 // Clear flags: sets a file's system flags to 0.
-pub fn clear_flags(image: &mut [u8], journal: &mut [u8], path: &[u8]) -> Changed
+pub fn clear_flags(image: &mut [u8], journal: &mut [u8], path: &[u8]) -> Result<Changed, Refusal>
     ensures answer { changed_answer result ≡ change_answer (state image.old journal.old) (clear_flags path.now) }
     ensures state { state image.new journal.new ≡ after_change (state image.old journal.old) (clear_flags path.now) }
-    ensures numbered { ChangeNumbered result }
 {
     change(
         image,
@@ -315,10 +265,9 @@ pub fn clear_flags(image: &mut [u8], journal: &mut [u8], path: &[u8]) -> Changed
 }
 
 // Shorten: a file keeps its first bytes.
-pub fn shorten(image: &mut [u8], journal: &mut [u8], path: &[u8], size: usize, time: u64) -> Changed
+pub fn shorten(image: &mut [u8], journal: &mut [u8], path: &[u8], size: usize, time: u64) -> Result<Changed, Refusal>
     ensures answer { changed_answer result ≡ change_answer (state image.old journal.old) (shorten path.now size time) }
     ensures state { state image.new journal.new ≡ after_change (state image.old journal.old) (shorten path.now size time) }
-    ensures numbered { ChangeNumbered result }
 {
     let what = VolumeChange::Shorten { size, time };
     change(image, journal, Change::Volume(what), path, b"")
@@ -331,20 +280,18 @@ pub fn replace(
     path: &[u8],
     bytes: &[u8],
     time: u64,
-) -> Changed
+) -> Result<Changed, Refusal>
     ensures answer { changed_answer result ≡ change_answer (state image.old journal.old) (replace path.now bytes.now time) }
     ensures state { state image.new journal.new ≡ after_change (state image.old journal.old) (replace path.now bytes.now time) }
-    ensures numbered { ChangeNumbered result }
 {
     let what = VolumeChange::Replace { time };
     change(image, journal, Change::Volume(what), path, bytes)
 }
 
 // Move: the file of a path is then the file of another path.
-pub fn move_file(image: &mut [u8], journal: &mut [u8], path: &[u8], to: &[u8]) -> Changed
+pub fn move_file(image: &mut [u8], journal: &mut [u8], path: &[u8], to: &[u8]) -> Result<Changed, Refusal>
     ensures answer { changed_answer result ≡ change_answer (state image.old journal.old) (move path.now to.now) }
     ensures state { state image.new journal.new ≡ after_change (state image.old journal.old) (move path.now to.now) }
-    ensures numbered { ChangeNumbered result }
 {
     change(image, journal, Change::Volume(VolumeChange::Move), path, to)
 }
@@ -357,10 +304,9 @@ pub fn put_settings_in(
     serial: &[u8],
     bytes: &[u8],
     time: u64,
-) -> Changed
+) -> Result<Changed, Refusal>
     ensures answer { changed_answer result ≡ change_answer (state image.old journal.old) (put_in directory.now serial.now time bytes.now) }
     ensures state { state image.new journal.new ≡ after_change (state image.old journal.old) (put_in directory.now serial.now time bytes.now) }
-    ensures numbered { ChangeNumbered result }
 {
     let asked = Asked {
         what: Change::Put { time },
@@ -378,10 +324,9 @@ pub fn put_settings(
     serial: &[u8],
     bytes: &[u8],
     time: u64,
-) -> Changed
+) -> Result<Changed, Refusal>
     ensures answer { changed_answer result ≡ change_answer (state image.old journal.old) (put serial.now time bytes.now) }
     ensures state { state image.new journal.new ≡ after_change (state image.old journal.old) (put serial.now time bytes.now) }
-    ensures numbered { ChangeNumbered result }
 {
     change(image, journal, Change::Put { time }, serial, bytes)
 }

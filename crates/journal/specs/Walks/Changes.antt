@@ -1,5 +1,7 @@
 -- The refusals that come first in every call that is lent a journal, and what recording a change gives.
-use Rattle.std.specs.Prelude.{ℕ, ◌+◌, ◌≡◌, ◌≢◌, Option, unwrap_or, IfSome, List, true, length, leb}
+use Rattle.std.specs.Prelude.{Err, Ok, Result, ℕ, ◌+◌, ◌≡◌, ◌≢◌, Option, unwrap_or, IfSome, List, true, length, leb}
+use Rattle.layout.specs.declared.refusal.Refusal.{Refusal}
+use Rattle.layout.specs.Reasons.{number_of}
 use Rattle.layout.specs.Refusals.{require, first_of, accept}
 use Rattle.layout.specs.Geometry.{block_count}
 use Rattle.layout.specs.Check.{check}
@@ -19,6 +21,11 @@ pub record Ready (s j : List ℕ) : Type 0 where
 pub record Inspects (p : State) (number last : ℕ) : Type 0 where
   pub number_is : number ≡ ready_refusal p
   pub found : last ≡ accept number (last_record p.journal) 0
+
+-- the same of an answer: the last record, if there is one, or the reason of the refusal
+abbrev pub Inspected : State → Result (Option ℕ) Refusal → Type 0
+Inspected p (Ok last) = Inspects p 0 (unwrap_or last 0) × IfSome last (λ at. at ≢ 0)
+Inspected p (Err why) = number_of why ≡ ready_refusal p
 
 -- the record of the blocks that are marked
 abbrev pub record_marked : List ℕ → List ℕ → List ℕ
