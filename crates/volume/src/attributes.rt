@@ -26,12 +26,11 @@ fn whole_blocks(count: usize) -> bool
     0 < count && count.is_multiple_of(512)
 }
 
-// The refusal of a set by the form of its path and the number of its bytes, 9 or 20, or 0.
+// The refusals of a set by the form of its path and the number of its bytes, 9 and 20.
 fn form_refusal(path: &[u8], count: usize) -> Result<(), Refusal>
     ensures { outcome result ≡ set_form_refusal path.now count }
 {
-    let bad_path = layout::file::path_refusal(path) == Err(Refusal::BadArgument);
-    if bad_path || !whole_blocks(count) {
+    if layout::path::path_parts(path).is_none() || !whole_blocks(count) {
         return Err(Refusal::BadArgument);
     }
     if 512 * (MAX_ATTRIBUTES as usize) < count {

@@ -27,7 +27,7 @@ fn needed(size: usize, blocks: usize, offset: usize, count: usize) -> usize
     size.max(offset + count).div_ceil(512) - blocks
 }
 
-// The refusal of a write to a file that was found, 12 or 14, or 0.
+// The refusals of a write to a file that was found, 12 and 14.
 pub fn write_at_refusal(
     image: &[u8],
     found: File,

@@ -1,11 +1,6 @@
 -- Attributes set and cleared, as the code does it: the refusals of a set, where a file's attributes are, the images step by step and the blocks named.
-use Prim.Native.Nat.{ℕ, ◌+◌, ◌*◌, ◌/◌, ◌%◌, ◌≤◌, ◌<◌}
-use mathlib.Core.Path.{◌≡◌, refl, sym, ap, ◌∙◌, subst}
-use mathlib.Core.Bool.{Bool, true, false, ◌&&◌}
-use mathlib.Core.List.{List, [], ◌∷◌}
-use native.Mathlib.Omega.{arith}
-use lib.Dec.{eqb, leb}
-use lib.ListN.{length, get_or, take, length-take}
+use Rattle.std.proofs.Common.{ℕ, ◌+◌, ◌*◌, ◌/◌, ◌%◌, ◌≤◌, ◌<◌, ◌≡◌, refl, sym, ap, ◌∙◌, subst, Bool, true, false, cond, ◌&&◌, true≢false, List, [], ◌∷◌, Option, Some, None, is_some, arith, eqb, leb, length, get_or, take}
+use lib.ListN.{length-take}
 use borrow.Author.Tests.{le-leb, lt-leb}
 use Rattle.layout.specs.Limits.{max_attributes, max_blocks}
 use Rattle.layout.specs.Refusals.{require, first_of}
@@ -15,10 +10,11 @@ use Rattle.layout.specs.Geometry.{block_count}
 use Rattle.layout.specs.Table.{next, chain, free_blocks, table_block_of, occupied, chain_ok}
 use Rattle.layout.specs.Directory.{attribute_block_of, attribute_size_of, attribute_blocks, is_file}
 use Rattle.layout.specs.Check.{check}
-use Rattle.layout.specs.Paths.{parts, path_ok, leading, shallow, entry_of, file_refusal}
-use Rattle.layout.specs.Walks.Looks.{form_refusal, Located}
+use Rattle.layout.specs.Paths.{parts, path_ok, entry_of, file_refusal}
+use Rattle.layout.specs.Walks.Looks.{Located}
+use Rattle.layout.specs.Walks.Paths.{good_parts}
 use Rattle.layout.specs.Walks.Shapes.{Shape, ChainBelow}
-use Rattle.layout.specs.Walks.Slots.{entry_at}
+use Rattle.layout.specs.Walks.Slots.{entry_at, SomeUnlessZero}
 use Rattle.volume.specs.Entries.{grown, released, blocks_named}
 use Rattle.volume.specs.Write.{put}
 use Rattle.volume.specs.Attributes.{emptied, new_attributes, set_attribute_fields, set_attributes_at, clear_attributes_at, set_attributes_named, clear_attributes_named, set_attributes_refusal}
@@ -31,6 +27,7 @@ use Rattle.layout.proofs.Laws.Lists.{select-same}
 use Rattle.layout.proofs.Laws.Files.{attributes-few}
 use Rattle.layout.proofs.Laws.Looks.{path-file}
 use Rattle.layout.proofs.Laws.Sound.{sound}
+use Rattle.layout.proofs.Walks.Homes.{some-parts}
 use Rattle.layout.proofs.Walks.Looks.{attributes-ok}
 use Rattle.layout.proofs.Walks.Shapes.{sound-shape, sound-chain}
 use Rattle.volume.proofs.Laws.Places.{SetGiven, set-path, set_given}
@@ -39,24 +36,25 @@ use Rattle.volume.proofs.Laws.Room.{room-is, room-growable, emptied-entry, set-m
 use Rattle.volume.proofs.Walks.Marks.{marked-both}
 use Rattle.volume.proofs.Walks.WriteNamed.{marked-pairs}
 
--- the path's form: 9 exactly if it is no path
-module _ (path : List ℕ) (r : ℕ) (e : r ≡ form_refusal path) where
-  pub form-nine : r ≡ 9 → path_ok path ≡ false
-  unfolding form_refusal
-  form-nine h = go (path_ok path) (shallow (leading (parts path))) refl (sym e ∙ h)
+-- whether it is a path, by the number of its parts
+module _ (path : List ℕ) where
+  pub no-parts : (r : Option ℕ) → SomeUnlessZero (good_parts path) r → is_some r ≡ false → path_ok path ≡ false
+  unfolding good_parts
+  no-parts None z h = go (path_ok path) refl z
     where
-      go : (a b : Bool) → path_ok path ≡ a → require a 9 (require b 17 0) ≡ 9 → path_ok path ≡ false
-      go true true q z = absurd (omega arith)
-      go true false q z = absurd (omega arith)
-      go false b q z = q
+      go : (t : Bool) → path_ok path ≡ t → cond t (length (parts path)) 0 ≡ 0 → path_ok path ≡ false
+      go true q z = absurd (omega (arith, some-parts path q))
+      go false q z = q
+  no-parts (Some k) z h = absurd (true≢false h)
 
-  pub form-other : (r ≡ 9 → ⊥) → path_ok path ≡ true
-  unfolding form_refusal
-  form-other h = go (path_ok path) refl
+  pub has-parts : (r : Option ℕ) → SomeUnlessZero (good_parts path) r → is_some r ≡ true → path_ok path ≡ true
+  unfolding good_parts
+  has-parts None z h = absurd (true≢false (sym h))
+  has-parts (Some k) z h = go (path_ok path) refl z
     where
-      go : (a : Bool) → path_ok path ≡ a → path_ok path ≡ true
-      go true q = q
-      go false q = absurd (h (e ∙ rw q))
+      go : (t : Bool) → path_ok path ≡ t → (k ≡ cond t (length (parts path)) 0) × (k ≡ 0 → ⊥) → path_ok path ≡ true
+      go true q z = q
+      go false q z = absurd (z.1 z.0)
 
 -- the refusals by path and data alone
 module _ (path : List ℕ) (count : ℕ) where

@@ -1,24 +1,26 @@
-use mathlib.Core.Path.{sym, ◌∙◌}
-use native.Mathlib.Omega.{arith}
+use Rattle.std.proofs.Common.{refl, sym, ◌∙◌}
+use Rattle.std.proofs.lemmas.Result.{err_from_is_err_and}
 use Rattle.layout.specs.Directory.{is_file}
-use Rattle.layout.proofs.Walks.Looks.{opens-refused, opens_as}
+use Rattle.layout.proofs.Laws.Reasons.{reason}
+use Rattle.layout.proofs.Walks.Looks.{opens_as}
 use Rattle.volume.proofs.Walks.Shorten.{shorten-missing, shorten-above, shorten-fine}
 use Rattle.volume.proofs.shorten.shorten_refusal.Goals as goal
 
-pub returns-then-missing-ne0 : goal.returns-then-missing-ne0
-returns-then-missing-ne0 c =
-    let o = c.open_file-f.ensures in
-    opens_as is_file _ _ (shorten-missing _ _ _ (λ z. c.if-missing-ne0.true (o.number_is ∙ z))) o
+pub returns-in_err-file : goal.returns-in_err-file
+returns-in_err-file c =
+    let a = c.args in
+    let why = c.in_err-file.field-0.0 in
+    let e = c.in_err-file.ensures in
+    let q = err_from_is_err_and c.from_residual.result c.from_residual.ensures.1 in
+    rw (q.1, q.2) (e ∙ shorten-missing a.image.now a.path.now a.size (λ z. reason why (e ∙ z)))
 
-pub returns-then-old-size : goal.returns-then-old-size
-returns-then-old-size c =
-    let o = c.open_file-f.ensures in
-    let z = c.if-missing-ne0.false in
-    let f = c.refused.ensures in
-    opens-refused is_file _ _ (f.0 ∙ shorten-above _ _ _ (sym o.number_is ∙ z) (o.file z) c.if-old-size.true) (λ q. omega (arith, f.0)) f.1
+pub returns-then-file-size : goal.returns-then-file-size
+returns-then-file-size c =
+    let o = c.in_ok-file.ensures in
+    shorten-above _ _ _ (sym o.number_is) (o.file refl) c.if-file-size.true
 
 pub returns : goal.returns
 returns c =
-    let o = c.open_file-f.ensures in
-    let found = sym o.number_is ∙ c.if-missing-ne0.false in
-    opens_as is_file _ _ (found ∙ shorten-fine _ _ _ found (o.file c.if-missing-ne0.false) c.if-old-size.false) o
+    let o = c.in_ok-file.ensures in
+    let found = sym o.number_is in
+    opens_as is_file _ _ (found ∙ shorten-fine _ _ _ found (o.file refl) c.if-file-size.false) o

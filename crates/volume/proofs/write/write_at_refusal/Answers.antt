@@ -3,11 +3,11 @@ use Rattle.layout.proofs.Walks.Shapes.{sound-shape}
 use Rattle.volume.proofs.Walks.Write.{offset-far, room-none, room-there, blocks-for, blocks-most}
 use Rattle.volume.proofs.write.write_at_refusal.Goals as goal
 
-pub returns-then-size-offset : goal.returns-then-size-offset
-returns-then-size-offset c = offset-far c.requires.1 _ _ c.if-size-offset.true
+pub returns-then-found-offset : goal.returns-then-found-offset
+returns-then-found-offset c = offset-far c.requires.1 _ _ c.if-found-offset.true
 
-pub header_number-requires : goal.header_number-requires
-header_number-requires c =
+pub header_number-free-requires : goal.header_number-free-requires
+header_number-free-requires c =
     let h = sound-shape c.args.image.now c.requires.0 in
     (omega arith, omega arith)
 
@@ -18,12 +18,12 @@ needed-requires c =
     let q = blocks-most p.1.located p.1.accepted p.0 in
     (omega arith, omega arith, p.2, omega arith)
 
-pub returns-then-header_number-needed : goal.returns-then-header_number-needed
-returns-then-header_number-needed c =
+pub returns-then-free-needed : goal.returns-then-free-needed
+returns-then-free-needed c =
     let p = c.requires in
-    room-none p.1 _ _ p.0 (omega arith) _ _ c.header_number.ensures c.needed.ensures c.if-header_number-needed.true
+    room-none p.1 _ _ p.0 (omega arith) _ _ c.header_number-free.ensures c.needed.ensures c.if-free-needed.true
 
 pub returns : goal.returns
 returns c =
     let p = c.requires in
-    room-there p.1 _ _ p.0 (omega arith) _ _ c.header_number.ensures c.needed.ensures c.if-header_number-needed.false
+    room-there p.1 _ _ p.0 (omega arith) _ _ c.header_number-free.ensures c.needed.ensures c.if-free-needed.false
