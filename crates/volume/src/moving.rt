@@ -95,13 +95,6 @@ pub fn move_named(found: File, marks: &mut [u8])
     super::marks::mark(marks, found.block);
 }
 
-// Room for the bytes before a name.
-fn no_head() -> [u8; HEAD]
-    ensures { result ≡ zeros 48 }
-{
-    [0u8; HEAD]
-}
-
 // Writes all the bytes of a slot: those before the name, the name, and 0 after it.
 fn fill_renamed(slot: &mut [u8], head: &[u8], name: &[u8])
     requires { (length slot.old ≡ 128) × (length head.now ≡ 48) × (length name.now ≤ 80) }
@@ -135,7 +128,7 @@ fn copy_head(image: &[u8], b: usize, k: usize, head: &mut [u8])
     ensures { head.new ≡ part image.now (entry_at b k) 48 }
 {
     let o = 128 * (k % 4);
-    layout::bytes::copy_part(layout::bytes::block(image, b), o, head, 0, HEAD);
+    head.copy_from_slice(&layout::bytes::block(image, b)[o..o + HEAD]);
 }
 
 // Moves the entry: its old slot is zeroed, and the new one written.
@@ -143,7 +136,7 @@ pub fn move_entry(image: &mut [u8], found: File, to: &[u8])
     requires { (512 * found.size + 512 ≤ length image.old) × (512 * found.block + 512 ≤ length image.old) × (path_ok to.now ≡ true) }
     ensures { image.new ≡ splice (splice image.old (entry_at found.size found.first) (zeros 128)) (entry_at found.block found.slot) (part image.old (entry_at found.size found.first) 48 ++ padded (last_part (parts to.now))) }
 {
-    let mut head = no_head();
+    let mut head = [0; HEAD];
     copy_head(image, found.size, found.first, &mut head);
     super::file::clear_slot(image, found.size, found.first);
     put_moved(

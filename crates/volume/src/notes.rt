@@ -1,6 +1,5 @@
 // Notes on the chain table, one for each table block, and the search for a free block by them. A table block's work is given its 512 bytes.
-ghost use Rattle.std.specs.Prelude.{◌≡◌, ◌*◌, ◌/◌, ◌≤◌, ◌<◌, length};
-ghost use Rattle.layout.specs.Limits.{max_blocks};
+ghost use Rattle.std.specs.Prelude.{◌≡◌, ◌*◌, ◌≤◌, ◌<◌, length};
 ghost use Rattle.layout.specs.Bytes.{zeros};
 ghost use Rattle.layout.specs.Geometry.{table_blocks};
 ghost use Rattle.layout.specs.Table.{next};
@@ -12,13 +11,6 @@ use layout::limits::MAX_BLOCKS;
 
 // One for each block of the largest table.
 const NOTES: usize = MAX_BLOCKS / 128;
-
-// Notes that are all 0.
-fn no_notes() -> [u8; NOTES]
-    ensures { result ≡ zeros (max_blocks / 128) }
-{
-    [0u8; NOTES]
-}
 
 // The note of a table block of which k entries are below n: 0 if none of these is 0, else 1.
 fn note_of(block: &[u8], k: usize) -> u8
@@ -52,7 +44,7 @@ pub fn take_notes(image: &[u8], n: usize) -> [u8; NOTES]
     requires { Shape image.now n }
     ensures { Exact (next image.now) n result }
 {
-    let mut notes = no_notes();
+    let mut notes = [0; NOTES];
     note_all(image, n, &mut notes);
     notes
 }
@@ -62,6 +54,7 @@ pub fn search(image: &[u8], n: usize, notes: &[u8], from: usize) -> usize
     requires { (Shape image.now n) × (n ≤ 128 * length notes.now) }
     ensures { result ≡ searched notes.now (next image.now) from n }
 {
+    // A `while`, since a turn goes on by one entry or by the rest of a table block.
     let mut b = from;
     while b < n {
         let i = b / 128;
