@@ -7,6 +7,8 @@ ghost use Rattle.back.specs.Marks.{marks, behind, info, journal_info};
 ghost use Rattle.back.specs.UndoTo.{back_by, backed, undo_to};
 ghost use Rattle.back.specs.Walks.Right.{Whole, Noted};
 
+use layout::refusal::Refusal;
+
 // What a journal answers: the refusal, 1 to 8, or 0 and its used length, how many records stand, and the length of the last one.
 #[repr(C)]
 #[derive(Drop)]
@@ -29,10 +31,9 @@ pub struct Backed {
 pub fn journal_info(image: &[u8], journal: &[u8]) -> Info
     ensures { info result.number result.used result.records result.last ≡ journal_info (state image.now journal.now) }
 {
-    let unready = journal::calls::ready_refusal(image, journal);
-    if unready != 0 {
+    if let Err(why) = journal::calls::ready_refusal(image, journal) {
         return Info {
-            number: unready,
+            number: why.number(),
             used: 0,
             records: 0,
             last: 0,
@@ -90,16 +91,15 @@ fn take_to(image: &mut [u8], journal: &mut [u8], mark: usize) -> u32
 pub fn undo_to(image: &mut [u8], journal: &mut [u8], mark: usize) -> Backed
     ensures { backed (state image.new journal.new) result.number result.done ≡ undo_to (state image.old journal.old) mark }
 {
-    let unready = journal::calls::ready_refusal(image, journal);
-    if unready != 0 {
+    if let Err(why) = journal::calls::ready_refusal(image, journal) {
         return Backed {
-            number: unready,
+            number: why.number(),
             done: 0,
         };
     }
     if !super::walk::had_mark(journal, mark) {
         return Backed {
-            number: 27,
+            number: Refusal::NoMark.number(),
             done: 0,
         };
     }

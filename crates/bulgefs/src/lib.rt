@@ -25,6 +25,8 @@ ghost use Rattle.journal.specs.Answers.{changed_answer};
 ghost use Rattle.bulgefs.specs.Version.{version};
 ghost use Rattle.journal.specs.Run.{State, state, changed, undone, change_answer, after_change, undo_answer, after_undo};
 
+use layout::refusal::{Refusal, outcome};
+
 // Sixteen bytes by value: C cannot pass an array so.
 #[repr(C)]
 #[derive(Drop)]
@@ -102,7 +104,7 @@ pub extern "C" fn bulgefs_version() -> u32
 pub extern "C" fn bulgefs_check(image: &[u8]) -> u32
     ensures { result ≡ check image.now }
 {
-    layout::check::check(image)
+    outcome(layout::check::check(image))
 }
 
 #[unsafe(no_mangle)]
@@ -117,14 +119,14 @@ pub extern "C" fn bulgefs_lookup(image: &[u8], path: &[u8]) -> Found
     ensures { ◌≡◌ {A = LookupAnswer} (record { number = result.number; slot = result.slot; size = result.size; blocks = result.blocks }) (lookup image.now path.now) }
 {
     match layout::reading::lookup(image, path) {
-        layout::reading::Found::File { slot, size, blocks } => Found {
+        Ok(file) => Found {
             number: 0,
-            slot: slot,
-            size: size,
-            blocks: blocks,
+            slot: file.slot,
+            size: file.size,
+            blocks: file.blocks,
         },
-        layout::reading::Found::Refused(number) => Found {
-            number: number,
+        Err(why) => Found {
+            number: why.number(),
             slot: 0,
             size: 0,
             blocks: 0,
@@ -137,12 +139,12 @@ pub extern "C" fn bulgefs_read(image: &[u8], path: &[u8], offset: u64, buffer: &
     ensures { ◌≡◌ {A = ReadAnswer} (record { number = result.number; count = result.count; buffer = buffer.new }) (read image.now path.now offset buffer.old) }
 {
     match layout::reading::read(image, path, offset as usize, buffer) {
-        layout::reading::Filled::Bytes(count) => Filled {
+        Ok(count) => Filled {
             number: 0,
             count: count as u32,
         },
-        layout::reading::Filled::Refused(number) => Filled {
-            number: number,
+        Err(why) => Filled {
+            number: why.number(),
             count: 0,
         },
     }
@@ -159,14 +161,18 @@ pub extern "C" fn bulgefs_read_next<'x>(
     ensures answer { ◌≡◌ {A = ReadAnswer} (record { number = result.number; count = result.count; buffer = buffer.new }) (read image.now path.now position.old buffer.old) }
     ensures position { position.new ≡ position.old + result.count }
 {
-    let at = *position;
-    let t = reader::reader::read_at(image, path, at as usize, buffer);
-    let next = t.next;
-    let count = t.count;
-    *position = next as u64;
-    Filled {
-        number: t.number,
-        count: count as u32,
+    match reader::reader::read_at(image, path, *position as usize, buffer) {
+        Ok(count) => {
+            *position += count as u64;
+            Filled {
+                number: 0,
+                count: count as u32,
+            }
+        }
+        Err(why) => Filled {
+            number: why.number(),
+            count: 0,
+        },
     }
 }
 
@@ -175,12 +181,12 @@ pub extern "C" fn bulgefs_read_attributes(image: &[u8], path: &[u8], buffer: &mu
     ensures { ◌≡◌ {A = ReadAnswer} (record { number = result.number; count = result.count; buffer = buffer.new }) (read_attributes image.now path.now buffer.old) }
 {
     match layout::reading::read_attributes(image, path, buffer) {
-        layout::reading::Filled::Bytes(count) => Filled {
+        Ok(count) => Filled {
             number: 0,
             count: count as u32,
         },
-        layout::reading::Filled::Refused(number) => Filled {
-            number: number,
+        Err(why) => Filled {
+            number: why.number(),
             count: 0,
         },
     }
@@ -229,7 +235,7 @@ pub extern "C" fn bulgefs_format(
     ensures bytes { image.new ≡ formatted image.old root_blocks uuid.bytes name.now time }
 {
     let bytes = uuid.bytes;
-    volume::format::format(image, root_blocks, time, bytes, name)
+    outcome(volume::format::format(image, root_blocks, time, bytes, name))
 }
 
 #[unsafe(no_mangle)]
@@ -237,7 +243,7 @@ pub extern "C" fn bulgefs_journal_start(journal: &mut [u8]) -> u32
     ensures number { result ≡ start_refusal journal.old }
     ensures bytes { journal.new ≡ after_start journal.old }
 {
-    journal::start::start(journal)
+    outcome(journal::start::start(journal))
 }
 
 #[unsafe(no_mangle)]
@@ -260,17 +266,17 @@ pub extern "C" fn bulgefs_salvage_tree(image: &mut [u8], report: &mut [u8]) -> S
 }
 
 // The answer of a change, by its fields.
-fn with_slot(c: journal::calls::Changed) -> Created
+fn with_slot(c: Result<journal::calls::Changed, Refusal>) -> Created
     ensures { changed result.number result.slot result.size ≡ changed_answer c }
 {
     match c {
-        journal::calls::Changed::Done { slot, size } => Created {
+        Ok(done) => Created {
             number: 0,
-            slot: slot,
-            size: size,
+            slot: done.slot,
+            size: done.size,
         },
-        journal::calls::Changed::Refused(number) => Created {
-            number: number,
+        Err(why) => Created {
+            number: why.number(),
             slot: 0,
             size: 0,
         },
@@ -278,16 +284,16 @@ fn with_slot(c: journal::calls::Changed) -> Created
 }
 
 // The same of a change that gives no slot.
-fn slotless(c: journal::calls::Changed) -> Changed
+fn slotless(c: Result<journal::calls::Changed, Refusal>) -> Changed
     ensures { (p : State) (x : ChangeAsked) → slot_given p.image x ≡ 0 → changed_answer c ≡ change_answer p x → changed result.number 0 result.size ≡ change_answer p x }
 {
     match c {
-        journal::calls::Changed::Done { slot: _, size } => Changed {
+        Ok(done) => Changed {
             number: 0,
-            size: size,
+            size: done.size,
         },
-        journal::calls::Changed::Refused(number) => Changed {
-            number: number,
+        Err(why) => Changed {
+            number: why.number(),
             size: 0,
         },
     }
@@ -545,12 +551,9 @@ pub extern "C" fn bulgefs_undo(image: &mut [u8], journal: &mut [u8]) -> Changed
     ensures state { state image.new journal.new ≡ after_undo (state image.old journal.old) }
 {
     match journal::calls::undo(image, journal) {
-        journal::calls::Undone::Done(size) => Changed {
-            number: 0,
-            size: size,
-        },
-        journal::calls::Undone::Refused(why) => Changed {
-            number: why,
+        Ok(size) => Changed { number: 0, size },
+        Err(why) => Changed {
+            number: why.number(),
             size: 0,
         },
     }
@@ -598,7 +601,7 @@ pub extern "C" fn bulgefs_write_list(image: &mut [u8], journal: &mut [u8], list:
 {
     let w = write_list::call::write_list(image, journal, list);
     Listed {
-        number: w.number,
+        number: outcome(w.answer),
         done: w.done,
     }
 }
@@ -608,7 +611,7 @@ pub extern "C" fn bulgefs_load_table(image: &[u8], entries: &mut [u32]) -> u32
     ensures number { result ≡ (load_table image.now entries.old).number }
     ensures entries { entries.new ≡ (load_table image.now entries.old).numbers }
 {
-    chain_table::transfer::load_table(image, entries)
+    outcome(chain_table::transfer::load_table(image, entries))
 }
 
 #[unsafe(no_mangle)]
@@ -616,7 +619,7 @@ pub extern "C" fn bulgefs_store_table(image: &mut [u8], entries: &[u32]) -> u32
     ensures number { result ≡ (store_table image.old entries.now).number }
     ensures image { image.new ≡ (store_table image.old entries.now).image }
 {
-    chain_table::transfer::store_table(image, entries)
+    outcome(chain_table::transfer::store_table(image, entries))
 }
 
 // The calls on a volume file: the whole file in memory, which the caller reads and writes.

@@ -1,5 +1,6 @@
 // The table loaded from an image into numbers, and stored back. The work on a table block is given its 512 bytes and its numbers.
 ghost use Rattle.std.specs.Prelude.{◌≡◌, ◌+◌, ◌*◌, ◌≤◌, length};
+ghost use Rattle.layout.specs.Reasons.{outcome};
 ghost use Rattle.layout.specs.Lists.{joined};
 ghost use Rattle.layout.specs.Bytes.{bytes4, splice};
 ghost use Rattle.layout.specs.Geometry.{table_blocks};
@@ -8,18 +9,17 @@ ghost use Rattle.layout.specs.Walks.Chains.{entry_in};
 ghost use Rattle.chain_table.specs.Numbers.{entries_of, stored};
 ghost use Rattle.chain_table.specs.Transfer.{table_refusal, load_table, store_table};
 
-// The number of the refusal, or 0.
-fn refusal(image: &[u8], count: usize) -> u32
-    ensures { result ≡ table_refusal image.now count }
+use layout::refusal::Refusal;
+
+// The refusals of a transfer of so many numbers.
+fn refusal(image: &[u8], count: usize) -> Result<(), Refusal>
+    ensures { outcome result ≡ table_refusal image.now count }
 {
-    let number = layout::check::check(image);
-    if number != 0 {
-        return number;
-    }
+    layout::check::check(image)?;
     if count != image.len() / 512 {
-        return 21;
+        return Err(Refusal::BadTableSize);
     }
-    0
+    Ok(())
 }
 
 // Loads the first entries of a table block, as many as there are numbers.
@@ -75,28 +75,22 @@ fn store(image: &mut [u8], numbers: &[u32])
     }
 }
 
-// Loads the table of an image of n blocks into n numbers, or gives the number of the refusal.
-pub fn load_table(image: &[u8], numbers: &mut [u32]) -> u32
-    ensures number { result ≡ (load_table image.now numbers.old).number }
+// Loads the table of an image of n blocks into n numbers.
+pub fn load_table(image: &[u8], numbers: &mut [u32]) -> Result<(), Refusal>
+    ensures number { outcome result ≡ (load_table image.now numbers.old).number }
     ensures numbers { numbers.new ≡ (load_table image.now numbers.old).numbers }
 {
-    let number = refusal(image, numbers.len());
-    if number != 0 {
-        return number;
-    }
+    refusal(image, numbers.len())?;
     load(image, numbers);
-    0
+    Ok(())
 }
 
-// Stores n numbers as the table of an image of n blocks, or gives the number of the refusal.
-pub fn store_table(image: &mut [u8], numbers: &[u32]) -> u32
-    ensures number { result ≡ (store_table image.old numbers.now).number }
+// Stores n numbers as the table of an image of n blocks.
+pub fn store_table(image: &mut [u8], numbers: &[u32]) -> Result<(), Refusal>
+    ensures number { outcome result ≡ (store_table image.old numbers.now).number }
     ensures image { image.new ≡ (store_table image.old numbers.now).image }
 {
-    let number = refusal(image, numbers.len());
-    if number != 0 {
-        return number;
-    }
+    refusal(image, numbers.len())?;
     store(image, numbers);
-    0
+    Ok(())
 }

@@ -1,11 +1,28 @@
+use Rattle.std.proofs.Common.{◌≡◌, refl, sym}
+use Rattle.std.proofs.lemmas.Result.{err_from_is_err_and}
+use Rattle.layout.specs.Reasons.{number_of}
+use Rattle.layout.proofs.Laws.Reasons.{reason}
 use Rattle.chain_table.proofs.Laws.Outcomes.{fits, store-not, store-done}
 use Rattle.chain_table.proofs.transfer.store_table.Goals as goal
 
-pub returns-then-number-ne0 : goal.returns-then-number-ne0
-returns-then-number-ne0 c = let d = store-not _ _ _ c.refusal-number.ensures c.if-number-ne0.true in record { number = d.0; image = d.1 }
+pub returns-in_err-refusal-clause-number : goal.returns-in_err-refusal-clause-number
+returns-in_err-refusal-clause-number c =
+    let a = c.args in
+    let why = c.in_err-refusal.field-0.0 in
+    let q = err_from_is_err_and c.from_residual.result c.from_residual.ensures.1 in
+    rw (q.1, q.2) (store-not a.image.now a.numbers.now (number_of why) c.in_err-refusal.ensures (reason why)).0
+
+pub returns-in_err-refusal-clause-image : goal.returns-in_err-refusal-clause-image
+returns-in_err-refusal-clause-image c =
+    let a = c.args in
+    let why = c.in_err-refusal.field-0.0 in
+    (store-not a.image.now a.numbers.now (number_of why) c.in_err-refusal.ensures (reason why)).1
 
 pub store-requires : goal.store-requires
-store-requires c = fits c.args.image.now c.args.numbers.now _ c.refusal-number.ensures c.if-number-ne0.false
+store-requires c = fits c.args.image.now c.args.numbers.now 0 c.in_ok-refusal.ensures refl
 
-pub returns : goal.returns
-returns c = let d = store-done _ _ _ c.refusal-number.ensures c.if-number-ne0.false _ c.store.ensures in record { number = d.0; image = d.1 }
+pub returns-clause-number : goal.returns-clause-number
+returns-clause-number c = (store-done _ _ 0 c.in_ok-refusal.ensures refl _ c.store.ensures).0
+
+pub returns-clause-image : goal.returns-clause-image
+returns-clause-image c = (store-done _ _ 0 c.in_ok-refusal.ensures refl _ c.store.ensures).1
