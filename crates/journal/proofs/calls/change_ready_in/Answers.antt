@@ -1,40 +1,50 @@
 -- Each exit is one law of Changes.
-use mathlib.Core.Path.{refl, sym, ◌∙◌}
-use native.Mathlib.Omega.{arith}
+use Rattle.std.proofs.Common.{◌≡◌, refl, sym, ◌∙◌}
+use Rattle.std.proofs.lemmas.Result.{err_from_is_err_and}
+use Rattle.layout.specs.Reasons.{number_of}
+use Rattle.layout.proofs.Laws.Reasons.{reason}
+use Rattle.store.specs.Asked.{asked_in}
 use Rattle.journal.proofs.Walks.Changes.{change-refused, change-full, change-done}
 use Rattle.journal.proofs.calls.change_ready_in.Goals as goal
 
 pub refusal-found-requires : goal.refusal-found-requires
 refusal-found-requires c = c.requires.sound
 
-pub returns-then-refusal-ne0 : goal.returns-then-refusal-ne0
-returns-then-refusal-ne0 c =
-    let p = c.requires in
-    let d = change-refused _ _ _ p _ c.refusal-found.ensures.number_is c.if-refusal-ne0.true in
-    record { answer = d.0; state = d.1; numbered = c.if-refusal-ne0.true }
+pub returns-in_err-found-clause-answer : goal.returns-in_err-found-clause-answer
+returns-in_err-found-clause-answer c =
+    let a = c.args in
+    let why = c.in_err-found.field-0.0 in
+    let q = err_from_is_err_and c.from_residual.result c.from_residual.ensures.1 in
+    rw (q.1, q.2) (change-refused a.image.now a.journal.now (asked_in a.asked.what a.asked.directory.now a.asked.path.now a.asked.bytes.now) c.requires (number_of why) c.in_err-found.ensures (reason why)).0
+
+pub returns-in_err-found-clause-state : goal.returns-in_err-found-clause-state
+returns-in_err-found-clause-state c =
+    let a = c.args in
+    let why = c.in_err-found.field-0.0 in
+    (change-refused a.image.now a.journal.now (asked_in a.asked.what a.asked.directory.now a.asked.path.now a.asked.bytes.now) c.requires (number_of why) c.in_err-found.ensures (reason why)).1
 
 pub record_change-requires : goal.record_change-requires
-record_change-requires c =
-    let refusal = c.refusal-found in
-    (c.requires, sym refusal.ensures.number_is ∙ c.if-refusal-ne0.false, refusal.ensures.target c.if-refusal-ne0.false)
+record_change-requires c = let f = c.in_ok-found.ensures in (c.requires, sym f.number_is, f.target refl)
 
-pub returns-in_default : goal.returns-in_default
-returns-in_default c =
-    let refusal = c.refusal-found in
-    let p = c.requires in
-    let d = change-full _ _ _ p (sym refusal.ensures.number_is ∙ c.if-refusal-ne0.false) _ _ c.in_default.ensures.recorded refl in
-    record { answer = d.0; state = d.1; numbered = λ e. omega arith }
+pub returns-in_default-clause-answer : goal.returns-in_default-clause-answer
+returns-in_default-clause-answer c =
+    (change-full _ _ _ c.requires (sym c.in_ok-found.ensures.number_is) _ _ c.in_default.ensures.recorded refl).0
+
+pub returns-in_default-clause-state : goal.returns-in_default-clause-state
+returns-in_default-clause-state c =
+    (change-full _ _ _ c.requires (sym c.in_ok-found.ensures.number_is) _ _ c.in_default.ensures.recorded refl).1
 
 pub make-slot-requires : goal.make-slot-requires
-make-slot-requires c =
-    let refusal = c.refusal-found in
-    (c.requires.sound, sym refusal.ensures.number_is ∙ c.if-refusal-ne0.false, refusal.ensures.target c.if-refusal-ne0.false)
+make-slot-requires c = let f = c.in_ok-found.ensures in (c.requires.sound, sym f.number_is, f.target refl)
 
-pub returns : goal.returns
-returns c =
+pub returns-clause-answer : goal.returns-clause-answer
+returns-clause-answer c =
     let make = c.make-slot in
-    let refusal = c.refusal-found in
-    let p = c.requires in
     let recorded = c.in-Some.ensures in
-    let d = change-done _ _ _ p (sym refusal.ensures.number_is ∙ c.if-refusal-ne0.false) _ _ recorded.recorded recorded.some _ make.ensures.slot _ make.ensures.bytes in
-    record { answer = d.0; state = d.1; numbered = tt }
+    (change-done _ _ _ c.requires (sym c.in_ok-found.ensures.number_is) _ _ recorded.recorded recorded.some _ make.ensures.slot _ make.ensures.bytes).0
+
+pub returns-clause-state : goal.returns-clause-state
+returns-clause-state c =
+    let make = c.make-slot in
+    let recorded = c.in-Some.ensures in
+    (change-done _ _ _ c.requires (sym c.in_ok-found.ensures.number_is) _ _ recorded.recorded recorded.some _ make.ensures.slot _ make.ensures.bytes).1
