@@ -15,13 +15,13 @@ returns-in_err-found-clause-answer c =
     let a = c.args in
     let why = c.in_err-found.field-0.0 in
     let q = err_from_is_err_and c.from_residual.result c.from_residual.ensures.1 in
-    rw (q.1, q.2) (change-refused a.image.now a.journal.now (asked_in a.asked.what a.asked.directory.now a.asked.path.now a.asked.bytes.now) c.requires (number_of why) c.in_err-found.ensures (reason why)).0
+    rw (q.1, q.2) (change-refused (asked_in a.asked.what a.asked.directory.now a.asked.path.now a.asked.bytes.now) a.image.now a.journal.now c.requires (number_of why) c.in_err-found.ensures (reason why)).0
 
 pub returns-in_err-found-clause-state : goal.returns-in_err-found-clause-state
 returns-in_err-found-clause-state c =
     let a = c.args in
     let why = c.in_err-found.field-0.0 in
-    (change-refused a.image.now a.journal.now (asked_in a.asked.what a.asked.directory.now a.asked.path.now a.asked.bytes.now) c.requires (number_of why) c.in_err-found.ensures (reason why)).1
+    (change-refused (asked_in a.asked.what a.asked.directory.now a.asked.path.now a.asked.bytes.now) a.image.now a.journal.now c.requires (number_of why) c.in_err-found.ensures (reason why)).1
 
 pub record_change-requires : goal.record_change-requires
 record_change-requires c = let f = c.in_ok-found.ensures in (c.requires, sym f.number_is, f.target refl)
