@@ -23,8 +23,8 @@ const HEAD: usize = 48;
 fn either_form(x: Result<(), Refusal>, y: Result<(), Refusal>) -> Result<(), Refusal>
     ensures { outcome result ≡ either_form (outcome x) (outcome y) }
 {
-    if x == Err(Refusal::BadArgument) || y == Err(Refusal::BadArgument) {
-        return Err(Refusal::BadArgument);
+    if y == Err(Refusal::BadArgument) {
+        return y;
     }
     x?;
     y
