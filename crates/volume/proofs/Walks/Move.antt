@@ -1,12 +1,18 @@
 -- What the code of a move tests and writes.
 use Prim.Native.Nat.{ℕ, zero, suc, ◌+◌, ◌-◌, ◌*◌, ◌/◌, ◌≤◌, ◌<◌}
 use mathlib.Core.Path.{◌≡◌, refl, sym, ap, ◌∙◌}
-use mathlib.Core.Bool.{Bool, true, false, not, cond, ◌&&◌, ◌||◌}
+use mathlib.Core.Bool.{Bool, true, false, not, cond, ◌&&◌, ◌||◌, or-true, or-false}
 use mathlib.Core.List.{List, [], ◌∷◌, ◌++◌, append_assoc}
 use native.Mathlib.Omega.{arith}
-use borrow.Author.Tests.{eq-eqb, ne_eqb, eqb-false}
+use borrow.Author.Tests.{eq-eqb, ne_eqb, eqb-false, eqb-true}
 use lib.Dec.{eqb}
 use lib.ListN.{length, drop, length-append}
+use Rattle.std.specs.Prelude.{Result, Ok, Err}
+use Rattle.std.specs.Result.{result_eq}
+use Rattle.layout.specs.declared.refusal.Refusal.{Refusal}
+use Rattle.layout.specs.declared.refusal.Refusal.TheVariants as refusal
+use Rattle.layout.specs.Reasons.{outcome}
+use Rattle.layout.specs.contracts.refusal.RefusalPartialEq.TheImpl.{eq-value}
 use Rattle.layout.specs.Refusals.{require, first_of}
 use Rattle.layout.specs.Bytes.{be32, part, splice, zeros}
 use Rattle.layout.specs.Geometry.{block_count}
@@ -17,7 +23,7 @@ use Rattle.layout.specs.Paths.{parts, path_ok, leading, last_part, shallow, home
 use Rattle.layout.specs.Walks.Looks.{form_refusal}
 use Rattle.layout.specs.Walks.Paths.{PathGiven, Spotted}
 use Rattle.layout.specs.Walks.Slots.{Stands, slot_from, entry_at}
-use Rattle.layout.proofs.Laws.Tests.{first_of-zero, true-not-false}
+use Rattle.layout.proofs.Laws.Tests.{first_of-zero, first_of-refused, true-not-false}
 use Rattle.layout.proofs.Laws.Bytes.{length-zeros, splice-append, splice-flat}
 use Rattle.layout.proofs.Laws.Sound.{sound}
 use Rattle.layout.proofs.Walks.Looks.{form-given}
@@ -29,21 +35,52 @@ use Rattle.volume.proofs.Walks.Slots.{drop-replicate}
 use Rattle.volume.specs.Walks.Moves.{either_form, slot_open, Prepares}
 
 -- THE FORMS of two paths
-pub either-nine : (x y : ℕ) → (eqb x 9 || eqb y 9) ≡ true → 9 ≡ either_form x y
-unfolding either_form
-either-nine x y t = rw t
+pub bad_argument : {T : Type 0} (same : T → T → Bool) (y : Result T Refusal) → result_eq same eq-value.it y (Err refusal.BadArgument) ≡ eqb (outcome y) 9
+bad_argument same (Ok given) = refl
+bad_argument same (Err refusal.BadLength) = refl
+bad_argument same (Err refusal.BadSignature) = refl
+bad_argument same (Err refusal.BadGeometry) = refl
+bad_argument same (Err refusal.BadSelf) = refl
+bad_argument same (Err refusal.BadSlot) = refl
+bad_argument same (Err refusal.BadChains) = refl
+bad_argument same (Err refusal.BadCounts) = refl
+bad_argument same (Err refusal.BadJournal) = refl
+bad_argument same (Err refusal.BadArgument) = refl
+bad_argument same (Err refusal.NotFound) = refl
+bad_argument same (Err refusal.NameTaken) = refl
+bad_argument same (Err refusal.BadOffset) = refl
+bad_argument same (Err refusal.DirectoryFull) = refl
+bad_argument same (Err refusal.VolumeFull) = refl
+bad_argument same (Err refusal.JournalFull) = refl
+bad_argument same (Err refusal.NothingToUndo) = refl
+bad_argument same (Err refusal.TooDeep) = refl
+bad_argument same (Err refusal.NotEmpty) = refl
+bad_argument same (Err refusal.BadList) = refl
+bad_argument same (Err refusal.TooManyBlocks) = refl
+bad_argument same (Err refusal.BadTableSize) = refl
+bad_argument same (Err refusal.BadSettings) = refl
+bad_argument same (Err refusal.NoRevision) = refl
+bad_argument same (Err refusal.NotSettings) = refl
+bad_argument same (Err refusal.RevisionsUsed) = refl
+bad_argument same (Err refusal.BadFlags) = refl
+bad_argument same (Err refusal.NoMark) = refl
 
-pub either_first : (x y : ℕ) → (eqb x 9 || eqb y 9) ≡ false → (x ≡ 0 → ⊥) → x ≡ either_form x y
+-- as the code takes its tests: y is 9; x refuses; only y may
+pub either-nine : (x y : ℕ) → eqb y 9 ≡ true → y ≡ either_form x y
 unfolding either_form
-either_first x y t ne = rw t (sym (first x ne))
+either-nine x y t = rw (t, or-true (eqb x 9)) (eqb-true y 9 t)
+
+pub either_first : (x y : ℕ) → eqb y 9 ≡ false → (x ≡ 0 → ⊥) → x ≡ either_form x y
+unfolding either_form
+either_first x y t ne = rw (t, or-false (eqb x 9)) (go (eqb x 9) refl)
   where
-    first : (x : ℕ) → (x ≡ 0 → ⊥) → first_of x y ≡ x
-    first zero h = absurd (h refl)
-    first (suc x) h = refl
+    go : (z : Bool) → eqb x 9 ≡ z → x ≡ cond z 9 (first_of x y)
+    go true e = eqb-true x 9 e
+    go false e = sym (first_of-refused x y ne)
 
-pub either_second : (x y : ℕ) → (eqb x 9 || eqb y 9) ≡ false → x ≡ 0 → y ≡ either_form x y
+pub either_second : (y : ℕ) → eqb y 9 ≡ false → y ≡ either_form 0 y
 unfolding either_form
-either_second x y t z = rw (t, z)
+either_second y t = rw t
 
 either-both : (a b c d : Bool) → either_form (require a 9 (require b 17 0)) (require c 9 (require d 17 0)) ≡ require (a && c) 9 (require (b && d) 17 0)
 unfolding either_form
@@ -178,9 +215,3 @@ module _ {s path to : List ℕ} {slot block k b : ℕ} (M : Moving s path to slo
 
 pub length-renamed : (head name : List ℕ) → length head ≡ 48 → length name ≤ 80 → length (head ++ padded name) ≡ 128
 length-renamed head name l h = simp (length-append, length-zeros) (omega arith)
-
--- the same of the directory that begins at block b, whose number of blocks was read
-pub open-read : (s : List ℕ) (n b own d : ℕ) → d ≡ be32 s (entry_at b 0 + 12) → (k a : ℕ)
-    → Stands (chain (next s) b d) n (open_slot s (chain (next s) b d) own) k a → Stands (directory s b) n (open_slot s (directory s b) own) k a
-unfolding directory
-open-read s n b own d e k a st = let z : entry_at b 0 + 12 ≡ 512 * b + 12 = omega arith in rw (← (e ∙ ap (be32 s) z)) st

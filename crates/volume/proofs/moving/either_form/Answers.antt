@@ -1,25 +1,18 @@
-use Rattle.std.proofs.Common.{rules, ◌≡◌, true, ◌∷◌, [], ◌++◌, ◌+◌, ◌*◌, ◌≤◌, length, ℕ, ◌-◌, ◌<◌, ◌/◌, ◌%◌, Bool, false, nat_eq, nat_lt, List, slice_index_or, slice_set, bit_and, bit_or, Fits, w8, w32, w64, Bor, MutBor}
-use Rattle.layout.specs.Reasons.{outcome}
-use Rattle.layout.specs.Bytes.{part, splice, zeros}
-use Rattle.layout.specs.Table.{next, chain}
-use Rattle.layout.specs.Directory.{blocks_of, directory, padded}
-use Rattle.layout.specs.Check.{check}
-use Rattle.layout.specs.Paths.{path_ok, parts, last_part}
-use Rattle.layout.specs.Walks.Shapes.{DirectoryAt}
-use Rattle.layout.specs.Walks.Slots.{StandsAt, entry_at}
-use Rattle.volume.specs.Move.{open_slot}
-use Rattle.volume.specs.Walks.Marks.{marked}
-use Rattle.volume.specs.Walks.Moves.{either_form, PreparesFor}
+use Rattle.std.proofs.Common.{ℕ, ◌≡◌, sym, ◌∙◌}
+use Rattle.std.proofs.lemmas.Result.{err_from_is_err_and}
+use Rattle.layout.specs.Reasons.{number_of, outcome}
+use Rattle.layout.proofs.Laws.Reasons.{reason}
+use Rattle.volume.proofs.Walks.Move.{bad_argument, either-nine, either_first, either_second}
 use Rattle.volume.proofs.moving.either_form.Goals as goal
 
--- src/moving.rt:27:9
 pub returns-then-eq : goal.returns-then-eq
-returns-then-eq c = ?
+returns-then-eq c = either-nine _ _ (sym (bad_argument _ c.args.y) ∙ sym c.if-eq.ensures)
 
--- src/moving.rt:29:5
 pub returns-in_err-x : goal.returns-in_err-x
-returns-in_err-x c = ?
+returns-in_err-x c =
+    let why = c.in_err-x.field-0.0 in
+    let q = err_from_is_err_and c.from_residual.result c.from_residual.ensures.1 in
+    rw (c.in_err-x.was, q.1, q.2) (either_first (number_of why) (outcome c.args.y) (sym (bad_argument _ c.args.y) ∙ sym c.if-eq.ensures) (reason why))
 
--- src/moving.rt:23:1
 pub returns : goal.returns
-returns c = ?
+returns c = rw c.in_ok-x.was (either_second (outcome c.args.y) (sym (bad_argument _ c.args.y) ∙ sym c.if-eq.ensures))
