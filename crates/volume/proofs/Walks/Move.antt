@@ -1,7 +1,7 @@
 -- What the code of a move tests and writes.
 use Prim.Native.Nat.{ℕ, zero, suc, ◌+◌, ◌-◌, ◌*◌, ◌/◌, ◌≤◌, ◌<◌}
 use mathlib.Core.Path.{◌≡◌, refl, sym, ap, ◌∙◌}
-use mathlib.Core.Bool.{Bool, true, false, not, cond, ◌&&◌, ◌||◌, or-true, or-false}
+use mathlib.Core.Bool.{Bool, true, false, not, cond, ◌&&◌, ◌||◌, and-false, or-true, or-false}
 use mathlib.Core.List.{List, [], ◌∷◌, ◌++◌, append_assoc}
 use native.Mathlib.Omega.{arith}
 use borrow.Author.Tests.{eq-eqb, ne_eqb, eqb-false, eqb-true}
@@ -106,19 +106,7 @@ form-first true false rest ne = refl
 form-first false b rest ne = refl
 
 -- THE REFUSALS, in the order of the code
-none_of : (a b : Bool) (rest : ℕ) → (a || b) ≡ true → 10 ≡ require (not a && not b) 10 rest
-none_of true b rest t = refl
-none_of false true rest t = refl
-none_of false false rest t = absurd (true-not-false {a = false} t refl)
-
-neither : (a b : Bool) → (a || b) ≡ false → (a ≡ false) × (b ≡ false)
-neither true b t = absurd (true-not-false {a = true} refl t)
-neither false b t = (refl, t)
-
 module _ (s path to : List ℕ) where
-  pub refused-move : {number slot block k b : ℕ} → number ≡ move_refusal s path to → (number ≡ 0 → ⊥) → Prepares s path to number slot block k b
-  refused-move e ne = record { number_is = e; moving = λ z. absurd (ne z) }
-
   module _ {x y r : ℕ} (p : x ≡ form_refusal path) (q : y ≡ form_refusal to) (e : r ≡ either_form x y) where
     pub refused-forms : (r ≡ 0 → ⊥) → r ≡ move_refusal s path to
     unfolding form_refusal move_refusal
@@ -132,47 +120,55 @@ module _ (s path to : List ℕ) where
     pub forms-fine : r ≡ 0 → check s ≡ 0 → PathGiven s path × PathGiven s to
     forms-fine z ok = let w = either-zero x y (sym e ∙ z) in (form-given s path ok (sym w.0 ∙ p), form-given s to ok (sym w.1 ∙ q))
 
-  module _ (P : PathGiven s path) (Q : PathGiven s to) {h₀ k b h named m : ℕ} (f : Spotted is_file s path h₀ k b) (g : Spotted is_used s to h named m) where
-    pub nothing-there : (eqb k 0 || eqb h 0) ≡ true → 10 ≡ move_refusal s path to
+  module _ (P : PathGiven s path) (Q : PathGiven s to) where
+    pub no-file : path_slot is_file s path ≡ 0 → 10 ≡ move_refusal s path to
     unfolding move_refusal
-    nothing-there t = rw (P.good, Q.good, P.few, Q.few, ← f.stands.slot, ← g.there) (none_of (eqb k 0) (eqb h 0) _ t)
+    no-file z = rw (P.good, Q.good, P.few, Q.few, z)
 
-    module _ (t : (eqb k 0 || eqb h 0) ≡ false) where
-      both : (eqb k 0 ≡ false) × (eqb h 0 ≡ false)
-      both = neither (eqb k 0) (eqb h 0) t
+    pub no-home : home s to ≡ 0 → 10 ≡ move_refusal s path to
+    unfolding move_refusal
+    no-home z = rw (P.good, Q.good, P.few, Q.few, z, and-false (not (eqb (path_slot is_file s path) 0)))
 
-      pub home-there : h ≡ 0 → ⊥
-      home-there = eqb-false h 0 both.1
-
-      pub is-taken : (named ≡ 0 → ⊥) → 11 ≡ move_refusal s path to
-      unfolding move_refusal
-      is-taken u = rw (P.good, Q.good, P.few, Q.few, ← f.stands.slot, ← g.there, both.0, both.1, ← g.stands.slot, ne_eqb named 0 u)
-
+    module _ {k b : ℕ} (f : Stands (directory s (home s path)) (block_count s) (path_slot is_file s path) k b) (ne : k ≡ 0 → ⊥) where
       own_block : (b < block_count s) × (entry_at b k ≡ entry_of is_file s path)
       unfolding entry_of
-      own_block = let w = f.stands.block (eqb-false k 0 both.0) in (w.0, w.1 ∙ ap (slot_at (directory s (home s path))) f.stands.slot)
+      own_block = let w = f.block ne in (w.0, w.1 ∙ ap (slot_at (directory s (home s path))) f.slot)
 
       -- where the entry begins is a number of 64 bits
       pub own-small : b < 65536
       own-small = let w = own_block.0 in let m = (sound s P.sound).most in omega arith
 
-      module _ (z : named ≡ 0) {j a : ℕ} (st : Stands (directory s h) (block_count s) (open_slot s (directory s h) (entry_at b k)) j a) where
-        slot_is : j ≡ move_slot s path to
-        unfolding move_slot
-        slot_is = st.slot ∙ rw (own_block.1, ← g.there)
-
-        pub none_open : j ≡ 0 → 13 ≡ move_refusal s path to
+      module _ {h named m : ℕ} (g : Spotted is_used s to h named m) (there : h ≡ 0 → ⊥) where
+        pub is-taken : (named ≡ 0 → ⊥) → 11 ≡ move_refusal s path to
         unfolding move_refusal
-        none_open q = rw (P.good, Q.good, P.few, Q.few, ← f.stands.slot, ← g.there, both.0, both.1, ← g.stands.slot, eq-eqb named 0 z, ← slot_is, eq-eqb j 0 q)
+        is-taken u = rw (P.good, Q.good, P.few, Q.few, ← f.slot, ← g.there, ne_eqb k 0 ne, ne_eqb h 0 there, ← g.stands.slot, ne_eqb named 0 u)
 
-        pub place-open : (j ≡ 0 → ⊥) → Prepares s path to 0 j a k b
-        unfolding move_refusal move_place
-        place-open q =
-            let w = st.block q in
-            record {
-              number_is = rw (P.good, Q.good, P.few, Q.few, ← f.stands.slot, ← g.there, both.0, both.1, ← g.stands.slot, eq-eqb named 0 z, ← slot_is, ne_eqb j 0 q);
-              moving = λ y. record { lowest = slot_is; low = st.low; inside = w.0; here = rw (← g.there, ← slot_is) w.1; old-inside = own_block.0; old = own_block.1 };
-            }
+        module _ (z : named ≡ 0) {j a : ℕ} (st : Stands (directory s h) (block_count s) (open_slot s (directory s h) (entry_at b k)) j a) where
+          slot_is : j ≡ move_slot s path to
+          unfolding move_slot
+          slot_is = st.slot ∙ rw (own_block.1, ← g.there)
+
+          pub none_open : j ≡ 0 → 13 ≡ move_refusal s path to
+          unfolding move_refusal
+          none_open q =
+              rw (P.good, Q.good, P.few, Q.few, ← f.slot, ← g.there, ne_eqb k 0 ne, ne_eqb h 0 there, ← g.stands.slot, eq-eqb named 0 z, ← slot_is, eq-eqb j 0 q)
+
+          pub place-open : (j ≡ 0 → ⊥) → Prepares s path to 0 j a k b
+          unfolding move_refusal move_place
+          place-open q =
+              let w = st.block q in
+              record {
+                number_is = rw (P.good, Q.good, P.few, Q.few, ← f.slot, ← g.there, ne_eqb k 0 ne, ne_eqb h 0 there, ← g.stands.slot, eq-eqb named 0 z, ← slot_is, ne_eqb j 0 q);
+                moving =
+                    λ y. record {
+                      lowest = slot_is;
+                      low = st.low;
+                      inside = w.0;
+                      here = rw (← g.there, ← slot_is) w.1;
+                      old-inside = own_block.0;
+                      old = own_block.1;
+                    };
+              }
 
 -- THE SLOT, turn by turn
 pub open-from : (s ds : List ℕ) (own d : ℕ) → length ds ≡ d → open_slot s ds own ≡ slot_from (slot_open s own) ds 1 (4 * d - 2)
