@@ -1,71 +1,49 @@
-use mathlib.Core.Path.{◌∙◌, sym}
-use native.Mathlib.Omega.{arith}
-use Rattle.volume.proofs.Walks.Places.{home_at}
-use Rattle.volume.proofs.Walks.Move.{refused-move, refused-forms, forms-fine, nothing-there, home-there, is-taken, none_open, place-open, own-small}
+use Rattle.std.proofs.Common.{rules, ◌≡◌, true, ◌∷◌, [], ◌++◌, ◌+◌, ◌*◌, ◌≤◌, length, ℕ, ◌-◌, ◌<◌, ◌/◌, ◌%◌, Bool, false, nat_eq, nat_lt, List, slice_index_or, slice_set, bit_and, bit_or, Fits, w8, w32, w64, Bor, MutBor}
+use Rattle.layout.specs.Reasons.{outcome}
+use Rattle.layout.specs.Bytes.{part, splice, zeros}
+use Rattle.layout.specs.Table.{next, chain}
+use Rattle.layout.specs.Directory.{blocks_of, directory, padded}
+use Rattle.layout.specs.Check.{check}
+use Rattle.layout.specs.Paths.{path_ok, parts, last_part}
+use Rattle.layout.specs.Walks.Shapes.{DirectoryAt}
+use Rattle.layout.specs.Walks.Slots.{StandsAt, entry_at}
+use Rattle.volume.specs.Move.{open_slot}
+use Rattle.volume.specs.Walks.Marks.{marked}
+use Rattle.volume.specs.Walks.Moves.{either_form, PreparesFor}
 use Rattle.volume.proofs.moving.move_refusal.Goals as goal
 
-pub returns-then-form-ne0 : goal.returns-then-form-ne0
-returns-then-form-ne0 c =
-    let a = c.args in
-    let n = c.refused.ensures.0 in
-    refused-move _ _ _ (n ∙ refused-forms a.image.now a.path.now a.to.now c.path_refusal.ensures c.path_refusal-2.ensures c.either_form-form.ensures c.if-form-ne0.true) (λ z. c.if-form-ne0.true (sym n ∙ z))
+-- src/moving.rt:63:5
+pub returns-in_err-either_form : goal.returns-in_err-either_form
+returns-in_err-either_form c = ?
 
-pub follow_path-f-requires : goal.follow_path-f-requires
-follow_path-f-requires c =
-    let a = c.args in
-    (forms-fine a.image.now a.path.now a.to.now c.path_refusal.ensures c.path_refusal-2.ensures c.either_form-form.ensures c.if-form-ne0.false c.requires).0
+-- src/moving.rt:67:9
+pub find_path-own-requires : goal.find_path-own-requires
+find_path-own-requires c = ?
 
-pub follow_used-g-requires : goal.follow_used-g-requires
-follow_used-g-requires c =
-    let a = c.args in
-    (forms-fine a.image.now a.path.now a.to.now c.path_refusal.ensures c.path_refusal-2.ensures c.either_form-form.ensures c.if-form-ne0.false c.requires).1
+-- src/moving.rt:68:9
+pub follow_used-spot-requires : goal.follow_used-spot-requires
+follow_used-spot-requires c = ?
 
-pub returns-then-k-h : goal.returns-then-k-h
-returns-then-k-h c =
-    let a = c.args in
-    let g = forms-fine a.image.now a.path.now a.to.now c.path_refusal.ensures c.path_refusal-2.ensures c.either_form-form.ensures c.if-form-ne0.false c.requires in
-    let n = c.refused-then-k-h.ensures.0 in
-    refused-move _ _ _ (n ∙ nothing-there a.image.now a.path.now a.to.now g.0 g.1 c.follow_path-f.ensures c.follow_used-g.ensures c.if-k-h.true) (λ z. omega (arith, n))
+-- src/moving.rt:70:9
+pub returns-in_default : goal.returns-in_default
+returns-in_default c = ?
 
-pub returns-then-named-ne0 : goal.returns-then-named-ne0
-returns-then-named-ne0 c =
-    let a = c.args in
-    let g = forms-fine a.image.now a.path.now a.to.now c.path_refusal.ensures c.path_refusal-2.ensures c.either_form-form.ensures c.if-form-ne0.false c.requires in
-    let n = c.refused-then-named-ne0.ensures.0 in
-    refused-move _ _ _ (n ∙ is-taken a.image.now a.path.now a.to.now g.0 g.1 c.follow_path-f.ensures c.follow_used-g.ensures c.if-k-h.false c.if-named-ne0.true) (λ z. omega (arith, n))
+-- src/moving.rt:70:9
+pub returns-in_default-2 : goal.returns-in_default-2
+returns-in_default-2 c = ?
 
-pub overflow_mul-b : goal.overflow_mul-b
-overflow_mul-b c =
-    let a = c.args in
-    let g = forms-fine a.image.now a.path.now a.to.now c.path_refusal.ensures c.path_refusal-2.ensures c.either_form-form.ensures c.if-form-ne0.false c.requires in
-    let b = own-small a.image.now a.path.now a.to.now g.0 g.1 c.follow_path-f.ensures c.follow_used-g.ensures c.if-k-h.false in
-    omega arith
+-- src/moving.rt:73:9
+pub returns-then-is_some : goal.returns-then-is_some
+returns-then-is_some c = ?
 
-pub overflow_mul-k : goal.overflow_mul-k
-overflow_mul-k c = omega arith
+-- src/moving.rt:77:22
+pub open_slot-requires : goal.open_slot-requires
+open_slot-requires c = ?
 
-pub overflow_add-b : goal.overflow_add-b
-overflow_add-b c =
-    let a = c.args in
-    let g = forms-fine a.image.now a.path.now a.to.now c.path_refusal.ensures c.path_refusal-2.ensures c.either_form-form.ensures c.if-form-ne0.false c.requires in
-    let b = own-small a.image.now a.path.now a.to.now g.0 g.1 c.follow_path-f.ensures c.follow_used-g.ensures c.if-k-h.false in
-    omega arith
+-- src/moving.rt:78:9
+pub returns-in_default-open_slot : goal.returns-in_default-open_slot
+returns-in_default-open_slot c = ?
 
-pub open_slot-e-requires : goal.open_slot-e-requires
-open_slot-e-requires c =
-    let a = c.args in
-    let g = forms-fine a.image.now a.path.now a.to.now c.path_refusal.ensures c.path_refusal-2.ensures c.either_form-form.ensures c.if-form-ne0.false c.requires in
-    home_at c.follow_used-g.ensures (home-there a.image.now a.path.now a.to.now g.0 g.1 c.follow_path-f.ensures c.follow_used-g.ensures c.if-k-h.false) g.1
-
-pub returns-then-j-eq0 : goal.returns-then-j-eq0
-returns-then-j-eq0 c =
-    let a = c.args in
-    let g = forms-fine a.image.now a.path.now a.to.now c.path_refusal.ensures c.path_refusal-2.ensures c.either_form-form.ensures c.if-form-ne0.false c.requires in
-    let n = c.refused-then-j-eq0.ensures.0 in
-    refused-move _ _ _ (n ∙ none_open a.image.now a.path.now a.to.now g.0 g.1 c.follow_path-f.ensures c.follow_used-g.ensures c.if-k-h.false c.if-named-ne0.false c.open_slot-e.ensures c.if-j-eq0.true) (λ z. omega (arith, n))
-
+-- src/moving.rt:59:1
 pub returns : goal.returns
-returns c =
-    let a = c.args in
-    let g = forms-fine a.image.now a.path.now a.to.now c.path_refusal.ensures c.path_refusal-2.ensures c.either_form-form.ensures c.if-form-ne0.false c.requires in
-    place-open a.image.now a.path.now a.to.now g.0 g.1 c.follow_path-f.ensures c.follow_used-g.ensures c.if-k-h.false c.if-named-ne0.false c.open_slot-e.ensures c.if-j-eq0.false
+returns c = ?
