@@ -23,7 +23,7 @@ returns-in_err-brought_refusal c =
     (create-directory-brought a.image.now a.path.now a.kind a.flags a.d (sym c.if-not-shaped.false ∙ c.shaped.ensures) (number_of why)
     (c.in_err-brought_refusal.ensures ∙ ap (λ (x : ℕ). brought_refusal x a.flags) c.whole_path_refusal.ensures) (reason why))
 
-pub find_place-requires : goal.find_place-place-requires
+pub find_place-requires : goal.find_place-requires
 find_place-requires c =
     let b = brought-fine (outcome c.whole_path_refusal.result) c.args.flags 0 c.in_ok-brought_refusal.ensures refl in
     whole-given _ _ c.requires (b.0 ∙ c.whole_path_refusal.ensures)

@@ -1,49 +1,71 @@
-use Rattle.std.proofs.Common.{rules, ◌≡◌, true, ◌∷◌, [], ◌++◌, ◌+◌, ◌*◌, ◌≤◌, length, ℕ, ◌-◌, ◌<◌, ◌/◌, ◌%◌, Bool, false, nat_eq, nat_lt, List, slice_index_or, slice_set, bit_and, bit_or, Fits, w8, w32, w64, Bor, MutBor}
-use Rattle.layout.specs.Reasons.{outcome}
-use Rattle.layout.specs.Bytes.{part, splice, zeros}
-use Rattle.layout.specs.Table.{next, chain}
-use Rattle.layout.specs.Directory.{blocks_of, directory, padded}
-use Rattle.layout.specs.Check.{check}
-use Rattle.layout.specs.Paths.{path_ok, parts, last_part}
-use Rattle.layout.specs.Walks.Shapes.{DirectoryAt}
-use Rattle.layout.specs.Walks.Slots.{StandsAt, entry_at}
-use Rattle.volume.specs.Move.{open_slot}
-use Rattle.volume.specs.Walks.Marks.{marked}
-use Rattle.volume.specs.Walks.Moves.{either_form, PreparesFor}
+use Rattle.std.proofs.Common.{refl, sym, ◌∙◌}
+use Rattle.std.proofs.lemmas.Result.{err_from_is_err_and}
+use Rattle.layout.specs.Directory.{is_used}
+use Rattle.layout.proofs.Laws.Reasons.{reason}
+use Rattle.volume.proofs.Walks.Places.{home_at, spotted-some, spotted-free}
+use Rattle.volume.proofs.Walks.Move.{refused-forms, forms-fine, no-file, no-home, is-taken, none_open, place-open}
 use Rattle.volume.proofs.moving.move_refusal.Goals as goal
 
--- src/moving.rt:63:5
 pub returns-in_err-either_form : goal.returns-in_err-either_form
-returns-in_err-either_form c = ?
+returns-in_err-either_form c =
+    let a = c.args in
+    let why = c.in_err-either_form.field-0.0 in
+    let q = err_from_is_err_and c.from_residual.result c.from_residual.ensures.1 in
+    rw (q.1, q.2) (refused-forms a.image.now a.path.now a.to.now c.path_refusal.ensures c.path_refusal-2.ensures c.in_err-either_form.ensures (reason why))
 
--- src/moving.rt:67:9
-pub find_path-own-requires : goal.find_path-own-requires
-find_path-own-requires c = ?
+pub find_path-requires : goal.find_path-requires
+find_path-requires c =
+    let a = c.args in
+    (forms-fine a.image.now a.path.now a.to.now c.path_refusal.ensures c.path_refusal-2.ensures c.in_ok-either_form.ensures refl c.requires).0
 
--- src/moving.rt:68:9
-pub follow_used-spot-requires : goal.follow_used-spot-requires
-follow_used-spot-requires c = ?
-
--- src/moving.rt:70:9
 pub returns-in_default : goal.returns-in_default
-returns-in_default c = ?
+returns-in_default c =
+    let a = c.args in
+    let g = forms-fine a.image.now a.path.now a.to.now c.path_refusal.ensures c.path_refusal-2.ensures c.in_ok-either_form.ensures refl c.requires in
+    no-file a.image.now a.path.now a.to.now g.0 g.1 (sym c.in_default.ensures.slot)
 
--- src/moving.rt:70:9
-pub returns-in_default-2 : goal.returns-in_default-2
-returns-in_default-2 c = ?
+pub follow_used-requires : goal.follow_used-requires
+follow_used-requires c =
+    let a = c.args in
+    (forms-fine a.image.now a.path.now a.to.now c.path_refusal.ensures c.path_refusal-2.ensures c.in_ok-either_form.ensures refl c.requires).1
 
--- src/moving.rt:73:9
+pub returns-in_default-follow_used : goal.returns-in_default-follow_used
+returns-in_default-follow_used c =
+    let a = c.args in
+    let g = forms-fine a.image.now a.path.now a.to.now c.path_refusal.ensures c.path_refusal-2.ensures c.in_ok-either_form.ensures refl c.requires in
+    no-home a.image.now a.path.now a.to.now g.0 g.1 c.in_default-follow_used.ensures
+
 pub returns-then-is_some : goal.returns-then-is_some
-returns-then-is_some c = ?
+returns-then-is_some c =
+    let a = c.args in
+    let g = forms-fine a.image.now a.path.now a.to.now c.path_refusal.ensures c.path_refusal-2.ensures c.in_ok-either_form.ensures refl c.requires in
+    let own = c.in-Some.ensures in
+    let e = c.in-Some-follow_used.ensures in
+    let t = spotted-some is_used _ _ c.in-Some-follow_used.spot e c.if-is_some.ensures in
+    is-taken a.image.now a.path.now a.to.now g.0 g.1 own.0 own.1 t.2 e.1 t.3
 
--- src/moving.rt:77:22
 pub open_slot-requires : goal.open_slot-requires
-open_slot-requires c = ?
+open_slot-requires c =
+    let a = c.args in
+    let g = forms-fine a.image.now a.path.now a.to.now c.path_refusal.ensures c.path_refusal-2.ensures c.in_ok-either_form.ensures refl c.requires in
+    let e = c.in-Some-follow_used.ensures in
+    home_at (spotted-free is_used _ _ c.in-Some-follow_used.spot e c.if-is_some.ensures) e.1 g.1
 
--- src/moving.rt:78:9
 pub returns-in_default-open_slot : goal.returns-in_default-open_slot
-returns-in_default-open_slot c = ?
+returns-in_default-open_slot c =
+    let a = c.args in
+    let g = forms-fine a.image.now a.path.now a.to.now c.path_refusal.ensures c.path_refusal-2.ensures c.in_ok-either_form.ensures refl c.requires in
+    let own = c.in-Some.ensures in
+    let e = c.in-Some-follow_used.ensures in
+    let free = spotted-free is_used _ _ c.in-Some-follow_used.spot e c.if-is_some.ensures in
+    none_open a.image.now a.path.now a.to.now g.0 g.1 own.0 own.1 free e.1 refl c.in_default-open_slot.ensures refl
 
--- src/moving.rt:59:1
 pub returns : goal.returns
-returns c = ?
+returns c =
+    let a = c.args in
+    let g = forms-fine a.image.now a.path.now a.to.now c.path_refusal.ensures c.path_refusal-2.ensures c.in_ok-either_form.ensures refl c.requires in
+    let own = c.in-Some.ensures in
+    let e = c.in-Some-follow_used.ensures in
+    let free = spotted-free is_used _ _ c.in-Some-follow_used.spot e c.if-is_some.ensures in
+    let slot = c.in-Some-open_slot.ensures in
+    place-open a.image.now a.path.now a.to.now g.0 g.1 own.0 own.1 free e.1 refl slot.0 slot.1
