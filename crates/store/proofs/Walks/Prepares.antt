@@ -22,6 +22,10 @@ use Rattle.layout.specs.Check.{check}
 use Rattle.layout.specs.Paths.{file_refusal}
 use Rattle.layout.specs.Walks.Looks.{Located}
 use Rattle.layout.specs.Walks.Slots as slots
+use Rattle.volume.specs.Change as volume
+use Rattle.volume.specs.Walks.Targets as found
+use Rattle.store.specs.Change.{plain, put_in, refusal}
+use Rattle.store.specs.Walks.Targets.{Target, PreparedFor}
 use Rattle.volume.specs.Create.{place_refusal}
 use Rattle.volume.specs.Write.{write_at, write_named, write_at_refusal}
 use Rattle.volume.specs.Walks.Places.{Searched, SearchedFor}
@@ -185,3 +189,15 @@ module _ (s directory serial : List ℕ) (time : ℕ) (bytes : List ℕ) (right 
       → PutPreparedFor s directory serial time bytes r
   prepared-first-for (Ok f) S z = prepared-first s directory serial time bytes right short ok absent 0 f.slot f.block f.first f.size f.blocks S z
   prepared-first-for (Err why) S z = (prepared-first s directory serial time bytes right short ok absent (number_of why) 0 0 0 0 0 (searched-why s (path_of directory serial) _ why S) refl).number_is
+
+-- what is found for a change of the volume, and for a put, as what a change is about
+pub prepared-volume : (s : List ℕ) (c : volume.Change) (r : Result File Refusal) → found.PreparedFor s c r → PreparedFor s (plain c) r
+unfolding refusal Target
+prepared-volume s c (Ok f) p = record { number_is = p.number_is; target = p.target }
+prepared-volume s c (Err why) p = p
+
+pub prepared-put : (s directory serial : List ℕ) (time : ℕ) (bytes : List ℕ) (r : Result File Refusal) → PutPreparedFor s directory serial time bytes r
+    → PreparedFor s (put_in directory serial time bytes) r
+unfolding refusal Target
+prepared-put s directory serial time bytes (Ok f) p = record { number_is = p.number_is; target = p.target }
+prepared-put s directory serial time bytes (Err why) p = p
