@@ -1,33 +1,29 @@
-use Rattle.std.proofs.Common.{rules, ◌≡◌, ◌++◌, ◌-◌, ◌≤◌, length, take, ℕ, ◌+◌, ◌*◌, ◌<◌, ◌/◌, ◌%◌, Bool, true, false, nat_eq, nat_lt, List, [], ◌∷◌, slice_index_or, slice_set, bit_and, bit_or, Fits, w8, w32, w64, Bor, MutBor}
-use Rattle.layout.specs.Reasons.{outcome}
-use Rattle.layout.specs.Bytes.{zeros}
-use Rattle.layout.specs.Directory.{is_file}
-use Rattle.layout.specs.Check.{check}
-use Rattle.layout.specs.Looks.{is_root_path}
-use Rattle.layout.specs.Paths.{file_refusal}
-use Rattle.layout.specs.Walks.Looks.{Opened}
-use Rattle.volume.specs.Create.{place_refusal, create_image}
-use Rattle.volume.specs.Walks.Places.{Vacant, SearchedFor}
-use Rattle.store.specs.Put.{serial_byte, serial_ok, front, path_of, address_refusal}
-use Rattle.store.specs.Walks.Addresses.{Addressed}
+use Rattle.std.proofs.Common.{◌≡◌, refl, sym, ◌∙◌}
+use Rattle.layout.proofs.Walks.Looks.{whole-bad}
+use Rattle.store.proofs.Walks.Serials.{address-unfit, address_unnamed, address-root, address-form, address-levels, whole-right}
+use Rattle.store.proofs.serial.address_refusal.Goals.{then-not-fits-via-then-not-fits, then-not-fits-via-else-not-fits+then-not-serial_ok}
 use Rattle.store.proofs.serial.address_refusal.Goals as goal
 
--- src/serial.rt:48:9
 pub returns-then-not-fits : goal.returns-then-not-fits
-returns-then-not-fits c = ?
+returns-then-not-fits c =
+    let a = c.args in
+    elim c.then-not-fits.branch [
+      | then-not-fits-via-then-not-fits w ↦ address-unfit a.directory.now a.serial.now a.fits w.if-not-fits.true
+      | then-not-fits-via-else-not-fits+then-not-serial_ok w ↦ address_unnamed a.directory.now a.serial.now a.fits (sym w.serial_ok.ensures ∙ w.if-not-serial_ok.true)
+    ]
 
--- src/serial.rt:51:9
 pub returns-then-is_root : goal.returns-then-is_root
-returns-then-is_root c = ?
+returns-then-is_root c = let a = c.args in address-root a.directory.now a.serial.now a.fits c.if-not-fits.false (sym c.serial_ok.ensures ∙ c.if-not-serial_ok.false) (sym c.is_root.ensures ∙ c.if-is_root.true)
 
--- src/serial.rt:44:1
-pub returns-in-Err-BadArgument : goal.returns-in-Err-BadArgument
-returns-in-Err-BadArgument c = ?
-
--- src/serial.rt:44:1
 pub returns-in_default : goal.returns-in_default
-returns-in_default c = ?
+returns-in_default c =
+    let a = c.args in
+    address-form a.directory.now a.serial.now a.fits c.if-not-fits.false (sym c.serial_ok.ensures ∙ c.if-not-serial_ok.false) (sym c.is_root.ensures ∙ c.if-is_root.false) 9
+    (whole-bad a.directory.now 0 (sym c.in_default.ensures) refl) refl
 
--- src/serial.rt:44:1
-pub returns-in_default-2 : goal.returns-in_default-2
-returns-in_default-2 c = ?
+pub returns : goal.returns
+returns c =
+    let a = c.args in
+    let e = c.in-Some.ensures in
+    address-levels a.directory.now a.serial.now a.fits c.if-not-fits.false (sym c.serial_ok.ensures ∙ c.if-not-serial_ok.false) (sym c.is_root.ensures ∙ c.if-is_root.false) _ c.whole_path_refusal.ensures
+    (λ z. whole-right a.directory.now (λ y. e.1 (e.0 ∙ y)) (sym c.whole_path_refusal.ensures ∙ z))
