@@ -1,28 +1,25 @@
 -- The refusals and the counts.
-use Prim.Native.Nat.{ℕ, zero, suc, ◌+◌, ◌-◌, ◌*◌, ◌/◌, ◌%◌, ◌^◌, ◌≤◌, ◌<◌}
-use mathlib.Core.Bool.{Bool, true, false, not, cond, ◌&&◌, ◌||◌}
+use Prim.Native.Nat.{ℕ, zero, suc, ◌+◌, ◌*◌, ◌/◌, ◌%◌, ◌^◌, ◌≤◌, ◌<◌}
+use mathlib.Core.Bool.{Bool, true, false, not, ◌&&◌, ◌||◌}
 use mathlib.Core.List.{List, [], ◌∷◌, ◌++◌}
-use mathlib.Core.Logic.{◌⊎◌, ⊎_elim}
 use mathlib.Core.Path.{◌≡◌, refl, sym, ap, ◌∙◌}
 use native.Mathlib.Decide.{ℕ_discrete}
 use native.Mathlib.Omega.{arith}
 use lib.Bits.{bit_and}
 use lib.Dec.{eqb, leb}
-use lib.ListN.{length, get_or, set, drop, take, replicate, length-set}
-use lib.Seq.{drop-cons, drop-length, get_or-set_same, get_or-set_other}
+use lib.ListN.{length, get_or, drop, replicate}
 use borrow.Author.Tests.{eq-eqb, ne_eqb, le-leb, lt-leb, leb-true}
 use Rattle.std.specs.List.{filter, range_with_len}
 use Rattle.std.proofs.lemmas.List.FromFn.{length-range_with_len}
 use Rattle.std.proofs.lemmas.Nat.Bits.{shr_and_one, bit_at_lowest}
-use Rattle.layout.specs.Lists.{within, interval, keep, select, same}
-use Rattle.layout.specs.Limits.{min_blocks, max_blocks}
-use Rattle.layout.specs.Bytes.{be32, zeros, splice}
-use Rattle.layout.specs.Geometry.{signature, block_count, table_blocks}
+use Rattle.layout.specs.Lists.{within, interval, keep, select}
+use Rattle.layout.specs.Bytes.{zeros, splice}
+use Rattle.layout.specs.Geometry.{block_count}
 use Rattle.layout.specs.Directory.{is_free, type_of}
-use Rattle.layout.specs.Check.{stage1, stage2}
+use Rattle.layout.specs.Check.{stage1}
 use Rattle.layout.specs.Walks.Slots.{entry_at}
 use Rattle.layout.proofs.Laws.Tests.{is_false, within-join, within-split, require-zero, accept-refused}
-use Rattle.layout.proofs.Laws.Lists.{interval-from, select-same}
+use Rattle.layout.proofs.Laws.Lists.{select-same}
 use Rattle.layout.proofs.Laws.Joins.{select-agree}
 use Rattle.layout.proofs.Laws.Bytes.{lent}
 use Rattle.salvage_tree.specs.SalvageTree.{other_length, tree_refusal, number, hung_over, salvaged, TreeAnswer, salvage_tree}

@@ -11,7 +11,7 @@ use Rattle.layout.specs.Directory.{slot_at, slots}
 use Rattle.layout.proofs.Laws.Lists.{interval-from}
 use Rattle.salvage.specs.Walks.{MarksOf}
 use Rattle.salvage_tree.specs.SalvageTree.{State, coded, take_slot, take_slots, take_child}
-use Rattle.salvage_tree.specs.Walks.{st, Reached, Ready, Own, EntryTaken, Entered, SlotDone, SlotsDone}
+use Rattle.salvage_tree.specs.Walks.{st, Reached, Ready, EntryTaken, Entered, SlotDone, SlotsDone}
 use Rattle.salvage_tree.proofs.Walks.Entries.{dropped-is}
 
 reached-state : (q : State) (s m c : List ℕ) → Reached q s m c → st s q.claimed c ≡ q

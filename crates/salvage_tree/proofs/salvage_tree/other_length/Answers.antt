@@ -1,6 +1,5 @@
-use Rattle.std.proofs.Common.{◌≡◌, arith, ◌∙◌, sym}
+use Rattle.std.proofs.Common.{◌≡◌, arith, ◌∙◌}
 use Rattle.std.proofs.lemmas.Grind.{common_steps}
-use Rattle.layout.specs.Geometry.{block_count}
 use Rattle.layout.specs.Check.{stage2}
 use Rattle.layout.proofs.Walks.Shapes.{shape-block_count}
 use Rattle.salvage_tree.specs.SalvageTree.{other_length}
