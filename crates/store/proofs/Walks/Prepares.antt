@@ -7,7 +7,7 @@ use native.Mathlib.Omega.{arith}
 use borrow.Author.Tests.{lt-leb, le-leb}
 use lib.ListN.{length, get_or, drop}
 use lib.Dec.{eqb, leb}
-use Rattle.std.specs.Prelude.{Result, Ok, Err, IfOk}
+use Rattle.std.specs.Prelude.{Result, Ok, Err, IfOk, IsOk}
 use Rattle.layout.specs.declared.file.File.{File}
 use Rattle.layout.specs.declared.refusal.Refusal.{Refusal}
 use Rattle.layout.specs.Reasons.{number_of}
@@ -32,7 +32,7 @@ use Rattle.volume.specs.Walks.Places.{Searched, SearchedFor}
 use Rattle.volume.specs.Walks.Targets.{Standing}
 use Rattle.store.specs.Settings.{max_setting, Revision, Found, broken, held, revisions, latest}
 use Rattle.store.specs.Put.{path_of, is_there, put_image, put_named, put_revision, form_refusal, put_refusal}
-use Rattle.store.specs.Walks.Puts.{held_at, rewritten_at, more_refusal, first_refusal, Weighed, PutTarget, PutPrepared, PutPreparedFor}
+use Rattle.store.specs.Walks.Puts.{held_at, rewritten_at, more_refusal, first_refusal, Weighed, WeighedFor, PutTarget, PutPrepared, PutPreparedFor}
 use Rattle.store.specs.Walks.Addresses.{Addressed}
 use Rattle.layout.proofs.Laws.Tests.{and_split, within-split, first_of-zero, first_of-refused, true-not-false}
 use Rattle.layout.proofs.Laws.Sound.{sound}
@@ -67,6 +67,11 @@ module _ {s : List ℕ} {e : ℕ} {bytes : List ℕ} {number size : ℕ} (W : We
       let a = first_of-zero (form_refusal (revisions (content s e))) _ r in
       let z : number ≡ 0 = W.number_is ∙ a.0 in
       (z, ap (write_at_refusal s e 0) (W.size_is z) ∙ a.1)
+
+-- of an accepted put the size is found
+pub weighed-ok : (s : List ℕ) (e : ℕ) (bytes : List ℕ) (r : Result ℕ Refusal) → WeighedFor s e bytes r → more_refusal s e bytes ≡ 0 → IsOk r
+weighed-ok s e bytes (Ok size) w z = tt
+weighed-ok s e bytes (Err why) w z = absurd (reason why (more-weighed (weighed-why s e bytes why w) z).0)
 
 -- the place of a first put, by the place found and the free blocks
 module _ (s path : List ℕ) (ok : check s ≡ 0) {n h slot b : ℕ} (S : Searched s path (place_refusal s path) n h slot b) where
