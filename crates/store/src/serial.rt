@@ -50,10 +50,10 @@ pub fn address_refusal(directory: &[u8], serial: &[u8], fits: bool) -> Result<()
     if is_root(directory) {
         return Ok(());
     }
-    let Some(_) = layout::path::path_parts(directory) else {
-        return Err(Refusal::BadSettings);
-    };
-    layout::file::whole_path_refusal(directory)
+    match layout::path::path_parts(directory) {
+        Some(_) => layout::file::whole_path_refusal(directory),
+        None => Err(Refusal::BadSettings),
+    }
 }
 
 // How many bytes of a path stand before the `/` of its serial number.

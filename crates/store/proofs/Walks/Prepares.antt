@@ -70,7 +70,7 @@ module _ {s : List ℕ} {e : ℕ} {bytes : List ℕ} {number size : ℕ} (W : We
 
 -- of an accepted put the size is found
 pub weighed-ok : (s : List ℕ) (e : ℕ) (bytes : List ℕ) (r : Result ℕ Refusal) → WeighedFor s e bytes r → more_refusal s e bytes ≡ 0 → IsOk r
-weighed-ok s e bytes (Ok size) w z = tt
+weighed-ok s e bytes (Ok size) w z = refl
 weighed-ok s e bytes (Err why) w z = absurd (reason why (more-weighed (weighed-why s e bytes why w) z).0)
 
 -- the place of a first put, by the place found and the free blocks

@@ -15,14 +15,14 @@ returns-then-not-fits c =
 pub returns-then-is_root : goal.returns-then-is_root
 returns-then-is_root c = let a = c.args in address-root a.directory.now a.serial.now a.fits c.if-not-fits.false (sym c.serial_ok.ensures ∙ c.if-not-serial_ok.false) (sym c.is_root.ensures ∙ c.if-is_root.true)
 
-pub returns-in_default : goal.returns-in_default
-returns-in_default c =
+pub returns-in-None : goal.returns-in-None
+returns-in-None c =
     let a = c.args in
     address-form a.directory.now a.serial.now a.fits c.if-not-fits.false (sym c.serial_ok.ensures ∙ c.if-not-serial_ok.false) (sym c.is_root.ensures ∙ c.if-is_root.false) 9
-    (whole-bad a.directory.now 0 (sym c.in_default.ensures) refl) refl
+    (whole-bad a.directory.now 0 (sym c.in-None.ensures) refl) refl
 
-pub returns : goal.returns
-returns c =
+pub returns-in-Some : goal.returns-in-Some
+returns-in-Some c =
     let a = c.args in
     let e = c.in-Some.ensures in
     address-levels a.directory.now a.serial.now a.fits c.if-not-fits.false (sym c.serial_ok.ensures ∙ c.if-not-serial_ok.false) (sym c.is_root.ensures ∙ c.if-is_root.false) _ c.whole_path_refusal.ensures
