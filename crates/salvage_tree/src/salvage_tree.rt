@@ -116,13 +116,7 @@ fn repair(image: &mut [u8], t: usize, n: usize, marks: &mut [u8], codes: &mut [u
 }
 
 // An accepted salvage, with two bytes for each entry of the table, the first 0; the codes are all there is of the report.
-fn answer(
-    image: &mut [u8],
-    n: usize,
-    marks: &mut [u8],
-    used: &mut [u8],
-    codes: &mut [u8],
-) -> Counts
+fn answer(image: &mut [u8], n: usize, marks: &mut [u8], used: &mut [u8], codes: &mut [u8]) -> Counts
     requires { (Shape image.old n) × (128 * table_blocks n ≤ length marks.old) × (marks.old ≡ zeros (length marks.old)) × (n ≤ length used.old) × (length codes.old ≡ 4 * n) }
     ensures { Answered image.old result.zeroed result.freed image.new codes.new }
 {
