@@ -1,6 +1,5 @@
 use mathlib.Core.Path.{refl}
 use native.Mathlib.Omega.{arith}
-use borrow.Author.Tests.{not-true, not-false}
 use Rattle.layout.specs.Walks.Slots.{entry_at}
 use Rattle.layout.proofs.Walks.Shapes.{shape-block_count}
 use Rattle.salvage.proofs.Walks.Slots.{claimed-as, file-cleared, file-kept}
