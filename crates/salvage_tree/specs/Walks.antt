@@ -1,6 +1,6 @@
 -- What the contracts of private functions say. The blocks claimed are known by a mark for each block, so what a function does is said for every list of
 -- blocks that the marks are those of; the codes are the front of the report.
-use Rattle.std.specs.Prelude.{ℕ, suc, ◌+◌, ◌-◌, ◌*◌, ◌/◌, ◌%◌, ◌≤◌, ◌<◌, List, [], ◌∷◌, ◌++◌, Bool, true, false, not, ◌&&◌, ◌||◌, cond, ◌≡◌, eqb, ltb, length, get_or, take, Result, Ok, Err}
+use Rattle.std.specs.Prelude.{ℕ, suc, ◌+◌, ◌-◌, ◌*◌, ◌/◌, ◌%◌, ◌≤◌, ◌<◌, List, [], ◌∷◌, ◌++◌, Bool, true, false, not, ◌&&◌, ◌||◌, cond, ◌≡◌, eqb, ltb, length, get_or, take}
 use Rattle.layout.specs.Lists.{within, interval, every, has, distinct, same}
 use Rattle.layout.specs.Limits.{max_directory, max_levels}
 use Rattle.layout.specs.Bytes.{part, splice}
@@ -9,12 +9,9 @@ use Rattle.layout.specs.Table.{next}
 use Rattle.layout.specs.Directory.{slot_at, slots, type_of, is_free, name_of, name_ok, first_block, self_of, parent_of, blocks_of, directory}
 use Rattle.layout.specs.Check.{stage1, stage2}
 use Rattle.layout.specs.Walks.Shapes.{Room}
-use Rattle.layout.specs.Reasons.{number_of}
-use Rattle.layout.specs.declared.refusal.Refusal.{Refusal}
 use Rattle.salvage.specs.Walks.{MarksOf}
 pub use Rattle.salvage.specs.Walks.{IsGood}
-use Rattle.salvage_tree.specs.declared.salvage_tree.Counts.{Counts}
-use Rattle.salvage_tree.specs.SalvageTree.{State, run, row_right, directory_blocks, put_directory, sized, take_file_at, take_slot, take_slots, witness, take_child, ones_put, blocks_freed, padding_put, freed_codes, rest, adopt, coded, tree_done, hung_at, hang, folders_hung, number, hung_over, salvaged, TreeAnswer}
+use Rattle.salvage_tree.specs.SalvageTree.{State, run, row_right, directory_blocks, put_directory, sized, take_file_at, take_slot, take_slots, witness, take_child, ones_put, blocks_freed, padding_put, freed_codes, rest, adopt, coded, tree_done, hung_at, hang, folders_hung, number, hung_over, salvaged}
 
 abbrev pub st : List ℕ → List ℕ → List ℕ → State
 st s cs codes = record { image = s; claimed = cs; codes = codes }
@@ -229,8 +226,3 @@ pub record Answered (s : List ℕ) (zeroed freed : ℕ) (s' codes : List ℕ) : 
   pub codes-are : codes ≡ (salvaged s).codes
   pub zeroed-are : zeroed ≡ number (λ c. eqb c 1 || eqb c 2) (salvaged s).codes + hung_over s (salvaged s).codes
   pub freed-are : freed ≡ number (λ c. eqb c 5) (salvaged s).codes
-
--- the answer of a salvage, with the image and the report after it; a refused one zeroed and freed nothing
-abbrev pub tree_answer : Result Counts Refusal → List ℕ → List ℕ → TreeAnswer
-tree_answer (Ok done) s report = record { number = 0; zeroed = done.zeroed; freed = done.freed; image = s; report = report }
-tree_answer (Err why) s report = record { number = number_of why; zeroed = 0; freed = 0; image = s; report = report }

@@ -8,7 +8,8 @@ ghost use Rattle.layout.specs.Geometry.{table_blocks};
 ghost use Rattle.layout.specs.Directory.{is_free};
 ghost use Rattle.layout.specs.Walks.Shapes.{Shape};
 ghost use Rattle.salvage_tree.specs.SalvageTree.{other_length, tree_refusal, number, salvaged, salvage_tree};
-ghost use Rattle.salvage_tree.specs.Walks.{Ready, one, UsedOf, used_bits, was_used, hung_here, Answered, tree_answer};
+ghost use Rattle.salvage_tree.specs.Answers.{tree_answer};
+ghost use Rattle.salvage_tree.specs.Walks.{Ready, one, UsedOf, used_bits, was_used, hung_here, Answered};
 
 use super::rest::SIGNATURE;
 use layout::limits::{MAX_BLOCKS, MIN_BLOCKS, SMALL_BLOCKS};
