@@ -1,5 +1,4 @@
-use mathlib.Core.Path.{ap}
-use native.Mathlib.Omega.{arith}
+use Rattle.std.proofs.Common.{ℕ, ◌≡◌, ap, arith}
 use Rattle.layout.specs.Looks.{ReadAnswer}
 use Rattle.layout.proofs.Laws.Looks.{count_small}
 use Rattle.bulgefs.proofs.bulgefs_read_next.Goals as goal
@@ -7,8 +6,5 @@ use Rattle.bulgefs.proofs.bulgefs_read_next.Goals as goal
 pub overflow_cast-result : goal.overflow_cast-result
 overflow_cast-result c =
     let a = c.args in
-    let e = ap (λ (x : ReadAnswer). x.count) c.read_at-t.ensures.answer in
-    omega (arith, e, count_small a.image.now a.path.now a.position.now a.buffer.now (λ i. omega (arith, c.shared_slice_known-1.given i)))
-
-pub returns : goal.returns
-returns c = let t = c.read_at-t.ensures in record { answer = t.answer; position = t.next }
+    let e = ap (λ (x : ReadAnswer). x.count) c.in-Ok.ensures.answer in
+    omega (arith, e, count_small a.image.now a.path.now a.position.now a.buffer.now (λ i. omega (arith, c.type_inv.image i)))
