@@ -55,13 +55,9 @@ fn file_lines(image: &[u8], n: usize, first: usize, d: usize, out: &mut [u8], at
 {
     let mut p = at;
     let mut b = first;
-    let mut k = 1;
-    let mut left = 4 * d - 2;
-    while 0 < left {
+    for k in 1..4 * d - 1 {
         p = slot_line(image, b, k, out, p);
-        k = k + 1;
-        b = layout::directory::following(image, b, k);
-        left = left - 1;
+        b = layout::directory::following(image, b, k + 1);
     }
     p
 }

@@ -19,9 +19,9 @@ pub fn put_bytes(out: &mut [u8], at: usize, bytes: &[u8]) -> usize
     requires { at + length bytes.now ≤ length out.old }
     ensures { TextPut out.old at bytes.now out.new result }
 {
-    let count = bytes.len();
-    layout::bytes::copy_part(bytes, 0, out, at, count);
-    at + count
+    let end = at + bytes.len();
+    out[at..end].copy_from_slice(bytes);
+    end
 }
 
 // The character of a digit.
@@ -68,13 +68,10 @@ pub fn put_labelled(out: &mut [u8], at: usize, label: &[u8], x: usize) -> usize
 fn shown(x: u8) -> u8
     ensures { result ≡ cond (within 0x21 0x7E x) x 63 }
 {
-    if x < 0x21 {
-        return b'?';
+    match x {
+        0x21..=0x7E => x,
+        _ => b'?',
     }
-    if 0x7E < x {
-        return b'?';
-    }
-    x
 }
 
 // The name in a field.
@@ -83,11 +80,11 @@ pub fn put_name(out: &mut [u8], at: usize, field: &[u8]) -> usize
     ensures { TextPut out.old at (printed (unpadded field.now)) out.new result }
 {
     let mut p = at;
-    for i in 0..field.len() {
-        if field[i] == 0 {
+    for x in field {
+        if *x == 0 {
             return p;
         }
-        p = put_byte(out, p, shown(field[i]));
+        p = put_byte(out, p, shown(*x));
     }
     p
 }

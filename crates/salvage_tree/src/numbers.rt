@@ -41,8 +41,7 @@ pub fn has_field(image: &[u8], at: usize, field: &[u8]) -> bool
     requires { (at + 80 ≤ length image.now) × (length field.now ≡ 80) }
     ensures { result ≡ same (part image.now at 80) field.now }
 {
-    let e = at + 80;
-    layout::bytes::equal(&image[at..e], field)
+    &image[at..at + 80] == field
 }
 
 // The field at `at`.
@@ -53,7 +52,7 @@ pub fn put_field(image: &mut [u8], at: usize, field: &[u8])
     if has_field(image, at, field) {
         return;
     }
-    layout::bytes::copy_part(field, 0, image, at, 80);
+    image[at..at + 80].copy_from_slice(field);
 }
 
 // The value v of entry b.
@@ -75,8 +74,7 @@ pub fn note(codes: &mut [u8], b: usize, i: usize, right: bool)
     if right {
         return;
     }
-    let at = 4 * b + i;
-    codes[at] = 3;
+    codes[4 * b + i] = 3;
 }
 
 // The code of slot k, which is in block b.
@@ -87,6 +85,5 @@ pub fn put_code(codes: &mut [u8], b: usize, k: usize, code: u8)
     if code == 0 {
         return;
     }
-    let at = 4 * b + k % 4;
-    codes[at] = code;
+    codes[4 * b + k % 4] = code;
 }

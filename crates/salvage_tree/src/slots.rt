@@ -1,5 +1,6 @@
 // One slot: what is dropped, files, and the directory of an entry as far as its own blocks.
-ghost use Rattle.std.specs.Prelude.{◌≡◌, ◌+◌, ◌*◌, ◌/◌, ◌≤◌, ◌<◌, length, get_or};
+ghost use Rattle.std.specs.Prelude.{◌≡◌, ◌+◌, ◌*◌, ◌/◌, ◌≤◌, ◌<◌, length, get_or, IfSome};
+ghost use Rattle.std.specs.Option.{unwrap_or};
 ghost use Rattle.layout.specs.Limits.{max_directory};
 ghost use Rattle.layout.specs.Bytes.{zeros, splice};
 ghost use Rattle.layout.specs.Directory.{first_block};
@@ -76,23 +77,16 @@ fn is_witnessed(image: &[u8], n: usize, b: usize, k: usize, blocks: &[usize]) ->
     ensures { result ≡ witness image.now (entry_at b k) blocks.now }
 {
     let first = blocks[0];
-    if layout::directory::number_at(image, first, 0, 4) == first {
-        return true;
-    }
-    if layout::bytes::equal(
-        layout::directory::field_at(image, first, 0),
-        layout::directory::field_at(image, b, k),
-    ) {
-        return true;
-    }
-    if layout::directory::number_at(image, b, k, 12) != blocks.len() {
-        return false;
-    }
     let last = blocks[blocks.len() - 1];
-    layout::directory::type_at(image, last, 3) == 0xFF
+    let own_number = layout::directory::number_at(image, first, 0, 4) == first;
+    let own_name = layout::directory::field_at(image, first, 0)
+        == layout::directory::field_at(image, b, k);
+    let own_size = layout::directory::number_at(image, b, k, 12) == blocks.len();
+    let ended = layout::directory::type_at(image, last, 3) == 0xFF;
+    own_number || own_name || own_size && ended
 }
 
-// The blocks of the directory of the entry in slot k of block b; how many, 0 if it has none or no witness.
+// The blocks of the directory of the entry in slot k of block b; how many, or none if it has none or no witness.
 fn find_blocks(
     image: &[u8],
     t: usize,
@@ -101,25 +95,25 @@ fn find_blocks(
     k: usize,
     marks: &[u8],
     blocks: &mut [usize],
-) -> usize
+) -> Option<usize>
     requires { (Room image.now t n marks.now) × (b < n) × (length blocks.old ≡ max_directory) }
-    ensures { Found image.now n (entry_at b k) marks.now result blocks.new }
+    ensures found { Found image.now n (entry_at b k) marks.now (unwrap_or result 0) blocks.new }
+    ensures some { IfSome result (λ d. 0 < d) }
 {
     let first = layout::directory::number_at(image, b, k, 4);
     let said = layout::directory::number_at(image, b, k, 12);
     if !super::blocks::is_good(t, n, marks, first) {
-        return 0;
+        return None;
     }
     let sure = layout::directory::number_at(image, first, 0, 12) == said;
     let d = super::blocks::choose(image, t, n, first, said, sure, marks, blocks);
-    let z = 0;
-    if !is_witnessed(image, n, b, k, &blocks[z..d]) {
-        return 0;
+    if !is_witnessed(image, n, b, k, &blocks[..d]) {
+        return None;
     }
-    d
+    Some(d)
 }
 
-// The child directory of the entry in slot k of block b is put right; it gives how many blocks it has, 0 if the entry is zeroed.
+// The child directory of the entry in slot k of block b is put right; it gives how many blocks it has, or none if the entry is zeroed.
 pub fn enter(
     image: &mut [u8],
     t: usize,
@@ -130,16 +124,15 @@ pub fn enter(
     blocks: &mut [usize],
     marks: &mut [u8],
     codes: &mut [u8],
-) -> usize
+) -> Option<usize>
     requires { (Ready image.old t n marks.old codes.old) × (parent < n) × (b < n) × (length blocks.old ≡ max_directory) }
-    ensures { Entered image.old n parent (entry_at b k) marks.old codes.old result blocks.new image.new marks.new codes.new }
+    ensures entered { Entered image.old n parent (entry_at b k) marks.old codes.old (unwrap_or result 0) blocks.new image.new marks.new codes.new }
+    ensures some { IfSome result (λ d. 0 < d) }
 {
-    let d = find_blocks(image, t, n, b, k, marks, blocks);
-    if d == 0 {
+    let Some(d) = find_blocks(image, t, n, b, k, marks, blocks) else {
         drop_slot(image, b, k, 2, codes);
-        return 0;
-    }
-    let z = 0;
-    super::put::adopt(image, t, n, b, k, &blocks[z..d], parent, marks, codes);
-    d
+        return None;
+    };
+    super::put::adopt(image, t, n, b, k, &blocks[..d], parent, marks, codes);
+    Some(d)
 }

@@ -17,12 +17,8 @@ pub fn take_slots(
     requires { (Ready image.old t n marks.old codes.old) × (Own n blocks.now) × (left ≤ max_levels) }
     ensures { SlotsDone image.old blocks.now left marks.old codes.old image.new marks.new codes.new }
 {
-    let mut k = 1;
-    let mut slots = 4 * blocks.len() - 2;
-    while 0 < slots {
+    for k in 1..4 * blocks.len() - 1 {
         take_slot(image, t, n, blocks, k, left, marks, codes);
-        k = k + 1;
-        slots = slots - 1;
     }
 }
 
@@ -50,10 +46,8 @@ fn take_slot(
         return;
     }
     let mut own = super::blocks::no_blocks();
-    let d = super::slots::enter(image, t, n, blocks[0], b, k, &mut own, marks, codes);
-    if d == 0 {
+    let Some(d) = super::slots::enter(image, t, n, blocks[0], b, k, &mut own, marks, codes) else {
         return;
-    }
-    let z = 0;
-    take_slots(image, t, n, &own[z..d], left - 1, marks, codes);
+    };
+    take_slots(image, t, n, &own[..d], left - 1, marks, codes);
 }

@@ -1,21 +1,10 @@
-use mathlib.Core.Path.{sym}
-use native.Mathlib.Omega.{arith}
-use lib.ListN.{take}
-use lib.Seq.{length-take-le}
+use Rattle.std.proofs.Common.{take, sym, arith}
+use Rattle.std.proofs.Math.Seq.{length-take-le}
 use Rattle.lister.proofs.Bounds.{listing-short}
 use Rattle.lister.proofs.main.Goals as goal
 
 pub slice_bounds-out-end : goal.slice_bounds-out-end
-slice_bounds-out-end c =
-    omega (
-      arith,
-      listing-short (take c.read_full-got.result c.read_full-got.new.buf),
-      c.render-count.ensures.1,
-      c.render-count.auto.out,
-      c.listing_buffer-out.ensures,
-    )
+slice_bounds-out-end c = omega (arith, listing-short (take c.read_full-got.result c.read_full-got.new.buf), c.render-count.ensures.1, c.render-count.auto.out)
 
 pub slice_bounds-write_all-end : goal.slice_bounds-write_all-end
-slice_bounds-write_all-end c =
-    sym (length-take-le c.render-count.result c.render-count.new.out
-    (omega (arith, listing-short (take c.read_full-got.result c.read_full-got.new.buf), c.render-count.ensures.1, c.render-count.auto.out, c.listing_buffer-out.ensures)))
+slice_bounds-write_all-end c = sym (length-take-le c.render-count.result c.render-count.new.out (omega (arith, listing-short (take c.read_full-got.result c.read_full-got.new.buf), c.render-count.ensures.1, c.render-count.auto.out)))

@@ -1,62 +1,39 @@
 -- The refusals and the counts.
-use Prim.Native.Nat.{ℕ, suc, ◌+◌, ◌-◌, ◌*◌, ◌/◌, ◌%◌, ◌≤◌, ◌<◌}
-use mathlib.Core.Bool.{Bool, true, false, not, cond, ◌&&◌, ◌||◌}
-use mathlib.Core.List.{List, ◌∷◌, ◌++◌}
-use mathlib.Core.Logic.{◌⊎◌, ⊎_elim}
+use Prim.Native.Nat.{ℕ, zero, suc, ◌+◌, ◌*◌, ◌/◌, ◌%◌, ◌^◌, ◌≤◌, ◌<◌}
+use mathlib.Core.Bool.{Bool, true, false, not, ◌&&◌, ◌||◌}
+use mathlib.Core.List.{List, [], ◌∷◌, ◌++◌}
 use mathlib.Core.Path.{◌≡◌, refl, sym, ap, ◌∙◌}
 use native.Mathlib.Decide.{ℕ_discrete}
 use native.Mathlib.Omega.{arith}
+use lib.Bits.{bit_and}
 use lib.Dec.{eqb, leb}
-use lib.ListN.{length, get_or, set, drop, take, replicate, length-set}
-use lib.Seq.{drop-cons, drop-length, get_or-set_same, get_or-set_other}
+use lib.ListN.{length, get_or, drop, replicate}
 use borrow.Author.Tests.{eq-eqb, ne_eqb, le-leb, lt-leb, leb-true}
-use Rattle.layout.specs.Lists.{within, interval, select, same}
-use Rattle.layout.specs.Limits.{min_blocks, max_blocks}
-use Rattle.layout.specs.Bytes.{be32, zeros, splice}
-use Rattle.layout.specs.Geometry.{signature, block_count, table_blocks}
+use Rattle.std.specs.List.{filter, range_with_len}
+use Rattle.std.proofs.lemmas.List.FromFn.{length-range_with_len}
+use Rattle.std.proofs.lemmas.Nat.Bits.{shr_and_one, bit_at_lowest}
+use Rattle.layout.specs.Lists.{within, interval, keep, select}
+use Rattle.layout.specs.Bytes.{zeros, splice}
+use Rattle.layout.specs.Geometry.{block_count}
 use Rattle.layout.specs.Directory.{is_free, type_of}
-use Rattle.layout.specs.Check.{stage1, stage2}
+use Rattle.layout.specs.Check.{stage1}
 use Rattle.layout.specs.Walks.Slots.{entry_at}
 use Rattle.layout.proofs.Laws.Tests.{is_false, within-join, within-split, require-zero, accept-refused}
-use Rattle.layout.proofs.Laws.Lists.{interval-from, select-same}
+use Rattle.layout.proofs.Laws.Lists.{select-same}
 use Rattle.layout.proofs.Laws.Joins.{select-agree}
 use Rattle.layout.proofs.Laws.Bytes.{lent}
 use Rattle.salvage_tree.specs.SalvageTree.{other_length, tree_refusal, number, hung_over, salvaged, TreeAnswer, salvage_tree}
 use Rattle.salvage_tree.specs.Walks.{one, used_bits, UsedOf, was_used, hung_here, Answered}
 
 -- A BIT FOR EACH SLOT
-bit_is : (t : Bool) → cond {A = ℕ} t 0 1 ≡ one (not t)
-bit_is true = refl
-bit_is false = refl
+abbrev pub used_at : List ℕ → ℕ → ℕ → ℕ
+used_at s b k = one (not (is_free (type_of s (entry_at b k))))
 
-pub used-is : (s : List ℕ) (b x y z w t₀ t₁ t₂ t₃ : ℕ) → t₀ ≡ type_of s (entry_at b 0) → t₁ ≡ type_of s (entry_at b 1) → t₂ ≡ type_of s (entry_at b 2) → t₃ ≡ type_of s (entry_at b 3)
-    → x ≡ cond (is_free t₀) 0 1 → y ≡ cond (is_free t₁) 0 1 → z ≡ cond (is_free t₂) 0 1 → w ≡ cond (is_free t₃) 0 1 → x + 2 * y + 4 * z + 8 * w ≡ used_bits s b
+pub used-is : (s : List ℕ) (b x y z w : ℕ) → x ≡ used_at s b 0 → y ≡ used_at s b 1 → z ≡ used_at s b 2 → w ≡ used_at s b 3 → x + 2 * y + 4 * z + 8 * w ≡ used_bits s b
 unfolding used_bits
-used-is s b x y z w t₀ t₁ t₂ t₃ e₀ e₁ e₂ e₃ ex ey ez ew =
+used-is s b x y z w ex ey ez ew =
     let q : entry_at b 0 ≡ 512 * b = omega arith in
-    rw (ex ∙ bit_is (is_free t₀), ey ∙ bit_is (is_free t₁), ez ∙ bit_is (is_free t₂), ew ∙ bit_is (is_free t₃), e₀ ∙ ap (λ (a : ℕ). type_of s a) q, e₁, e₂, e₃)
-
-pub record UsedUp (s : List ℕ) (n : ℕ) (used₀ used : List ℕ) (b left : ℕ) : Type 0 where
-  pub sum : b + left ≡ n
-  pub size : length used ≡ length used₀
-  pub at : (x : ℕ) → x < b → get_or used x 0 ≡ used_bits s x
-
-pub used_start : (s : List ℕ) (n : ℕ) (used : List ℕ) → UsedUp s n used used 0 n
-used_start s n used = record { sum = omega arith; size = refl; at = λ x h. absurd (omega arith) }
-
-pub used-more : {s : List ℕ} {n : ℕ} {used₀ used : List ℕ} {b left : ℕ} → UsedUp s n used₀ used b left → 0 < left → n ≤ length used₀ → (v : ℕ) → v ≡ used_bits s b → UsedUp s n used₀ (set used b v) (b + 1) (left - 1)
-used-more {s} {n} {used₀} {used} {b} {left} w h l v e =
-    record {
-      sum = omega (arith, w.sum);
-      size = length-set used b v ∙ w.size;
-      at = λ x g. elim (ℕ_discrete x b) [
-        | yes p ↦ rw (p, get_or-set_same used b v 0 (omega (arith, w.sum, w.size))) e
-        | no p ↦ rw (get_or-set_other used b x v 0 p) (w.at x (omega arith))
-      ];
-    }
-
-pub used-end : {s : List ℕ} {n : ℕ} {used₀ used : List ℕ} {b left : ℕ} → UsedUp s n used₀ used b left → left ≡ 0 → UsedOf s n used
-used-end w e = record { at = λ x h. w.at x (omega (arith, w.sum)) }
+    rw (ex ∙ ap (λ (a : ℕ). one (not (is_free (type_of s a)))) q, ey, ez, ew)
 
 -- ONE SLOT'S BIT, by its place in the block
 module _ (x j : ℕ) where
@@ -75,6 +52,20 @@ module _ (x j : ℕ) where
   pub was-3 : (j ≡ 0 → ⊥) → (j ≡ 1 → ⊥) → (j ≡ 2 → ⊥) → eqb (x / 8 % 2) 1 ≡ was_used x j
   unfolding was_used
   was-3 a b c = rw (ne_eqb j 0 a, ne_eqb j 1 b, ne_eqb j 2 c)
+
+pub was-bit : (x j : ℕ) → j < 4 → eqb (bit_and (x / 2 ^ j) 1) 1 ≡ was_used x j
+was-bit x j h =
+    let q : bit_and (x / 2 ^ j) 1 ≡ x / 2 ^ j % 2 = shr_and_one x j in
+    rw q (elim (ℕ_discrete j 0) [
+      | yes p ↦ rw p (ap (λ (y : ℕ). eqb y 1) (bit_at_lowest x) ∙ was-0 x 0 refl)
+      | no a ↦ elim (ℕ_discrete j 1) [
+        | yes p ↦ rw p (was-1 x 1 (λ z. omega arith) refl)
+        | no b ↦ elim (ℕ_discrete j 2) [
+          | yes p ↦ rw p (was-2 x 2 (λ z. omega arith) (λ z. omega arith) refl)
+          | no d ↦ let p : j ≡ 3 = omega arith in rw p (was-3 x 3 (λ z. omega arith) (λ z. omega arith) (λ z. omega arith))
+        ]
+      ]
+    ])
 
 one-most : (t : Bool) → one t ≤ 1
 one-most true = omega arith
@@ -112,61 +103,33 @@ was-is s n used i U h =
       ]
     ]
 
-pub over-code : (codes used : List ℕ) (i : ℕ) → (get_or codes i 0 ≡ 6 → ⊥) → (◌≡◌ {A = ℕ} 0 (one (hung_here codes used i))) × (0 ≤ 1)
-unfolding hung_here
-over-code codes used i z = (rw (ne_eqb (get_or codes i 0) 6 z), omega arith)
-
-pub over-was : (codes used : List ℕ) (i : ℕ) → get_or codes i 0 ≡ 6 → (r : Bool) → r ≡ was_used (get_or used (i / 4) 0) (i % 4) → (v : ℕ) → v ≡ one r → (v ≡ one (hung_here codes used i)) × (v ≤ 1)
-unfolding hung_here
-over-was codes used i z r er v ev = (ev ∙ rw (eq-eqb (get_or codes i 0) 6 z, ← er), (let k = one-most r in omega arith))
-
 -- HOW MANY PASS
-keep-length : (p : ℕ → Bool) (x : ℕ) (xs : List ℕ) → length (select p (x ∷ xs)) ≡ one (p x) + length (select p xs)
-keep-length p x xs = go (p x) refl
+-- a list that passes a test, by the names of the library and of the definitions
+filter-select : (p : ℕ → Bool) (xs : List ℕ) → filter p xs ≡ select p xs
+filter-select p [] = refl
+filter-select p (x ∷ xs) = go (p x) refl (filter-select p xs)
   where
-    go : (t : Bool) → p x ≡ t → length (select p (x ∷ xs)) ≡ one (p x) + length (select p xs)
-    go true e = rw e (omega arith)
-    go false e = rw e (omega arith)
+    go : (t : Bool) → p x ≡ t → filter p xs ≡ select p xs → filter p (x ∷ xs) ≡ select p (x ∷ xs)
+    go true e h = rw e (ap (λ (ys : List ℕ). x ∷ ys) h)
+    go false e h = rw e h
 
-pub record Tally (p : ℕ → Bool) (xs : List ℕ) (count i : ℕ) : Type 0 where
-  pub most : i ≤ length xs
-  pub few : count ≤ i
-  pub is : length (select p xs) ≡ count + length (select p (drop i xs))
+select-few : (p : ℕ → Bool) (xs : List ℕ) → length (select p xs) ≤ length xs
+select-few p [] = omega arith
+select-few p (x ∷ xs) = go (p x) (select-few p xs)
+  where
+    go : (t : Bool) → length (select p xs) ≤ length xs → length (keep t x (select p xs)) ≤ suc (length xs)
+    go true h = omega arith
+    go false h = omega arith
 
-pub tally-start : (p : ℕ → Bool) (xs : List ℕ) → Tally p xs 0 0
-tally-start p xs = record { most = omega arith; few = omega arith; is = omega arith }
+pub counted : (p : ℕ → Bool) (xs : List ℕ) (n : ℕ) → n ≡ length (filter p xs) → (n ≡ length (select p xs)) × (n ≤ length xs)
+counted p xs n e = let q : n ≡ length (select p xs) = e ∙ ap length (filter-select p xs) in (q, omega (arith, select-few p xs))
 
-pub tally-more : (p : ℕ → Bool) (xs : List ℕ) (count i : ℕ) → Tally p xs count i → i < length xs → (v : ℕ) → (v ≡ one (p (get_or xs i 0))) × (v ≤ 1) → Tally p xs (count + v) (i + 1)
-tally-more p xs count i w h v e =
-    let q : i + 1 ≡ suc i = omega arith in
-    let k : length (select p (drop i xs)) ≡ one (p (get_or xs i 0)) + length (select p (drop (suc i) xs)) = ap (λ (ys : List ℕ). length (select p ys)) (drop-cons xs i 0 h) ∙ keep-length p (get_or xs i 0) (drop (suc i) xs) in
-    rw q (record { most = omega arith; few = omega (arith, w.few, e.1); is = omega (arith, w.is, k, e.0) })
+range-interval : (a k : ℕ) → range_with_len a k ≡ interval a k
+range-interval a zero = refl
+range-interval a (suc k) = let q : a + 1 ≡ suc a = omega arith in rw q (ap (λ (ys : List ℕ). a ∷ ys) (range-interval (suc a) k))
 
-pub tally-end : (p : ℕ → Bool) (xs : List ℕ) (count i : ℕ) → Tally p xs count i → length xs ≤ i → (count ≡ number p xs) × (count ≤ length xs)
-unfolding number
-tally-end p xs count i w h =
-    let q : i ≡ length xs = omega (arith, w.most) in
-    let k : length (select p (drop i xs)) ≡ 0 = ap (λ (j : ℕ). length (select p (drop j xs))) q ∙ ap (λ (ys : List ℕ). length (select p ys)) (drop-length xs) in
-    (omega (arith, w.is, k), omega (arith, w.few))
-
-pub record Over (p : ℕ → Bool) (n count i : ℕ) : Type 0 where
-  pub most : i ≤ n
-  pub few : count ≤ i
-  pub is : length (select p (interval 0 n)) ≡ count + length (select p (interval i (n - i)))
-
-pub over-start : (p : ℕ → Bool) (n : ℕ) → Over p n 0 0
-over-start p n = let q : n - 0 ≡ n = omega arith in record { most = omega arith; few = omega arith; is = rw q (omega arith) }
-
-pub over-more : (p : ℕ → Bool) (n count i : ℕ) → Over p n count i → i < n → (v : ℕ) → (v ≡ one (p i)) × (v ≤ 1) → Over p n (count + v) (i + 1)
-over-more p n count i w h v e =
-    let k : length (select p (interval i (n - i))) ≡ one (p i) + length (select p (interval (i + 1) (n - (i + 1)))) = ap (λ (ys : List ℕ). length (select p ys)) (interval-from n i h) ∙ keep-length p i (interval (i + 1) (n - (i + 1))) in
-    record { most = omega arith; few = omega (arith, w.few, e.1); is = omega (arith, w.is, k, e.0) }
-
-pub over-end : (p : ℕ → Bool) (n count i : ℕ) → Over p n count i → n ≤ i → (count ≡ length (select p (interval 0 n))) × (count ≤ n)
-over-end p n count i w h =
-    let q : n - i ≡ 0 = omega arith in
-    let k : length (select p (interval i (n - i))) ≡ 0 = ap (λ (j : ℕ). length (select p (interval i j))) q in
-    (omega (arith, w.is, k), omega (arith, w.few, w.most))
+pub counted-range : (p : ℕ → Bool) (k n : ℕ) → n ≡ length (filter p (range_with_len 0 k)) → (n ≡ length (select p (interval 0 k))) × (n ≤ k)
+counted-range p k n e = let w = counted p (range_with_len 0 k) n e in (w.0 ∙ ap (λ (xs : List ℕ). length (select p xs)) (range-interval 0 k), omega (arith, w.1, length-range_with_len 0 k))
 
 pub over-is : (s : List ℕ) (n : ℕ) (codes used : List ℕ) → UsedOf s n used → length codes ≡ 4 * n → length (select (hung_here codes used) (interval 0 (length codes))) ≡ hung_over s codes
 unfolding hung_over hung_here
@@ -197,48 +160,7 @@ zeroed-number codes = ap length (select-agree (λ c. eqb c 1 || eqb c 2) (within
       ]
     ]
 
--- A TYPE'S BIT, A CODE'S
-pub bit-free : (type : ℕ) → type ≡ 0 → (◌≡◌ {A = ℕ} 0 (cond (is_free type) 0 1)) × (0 ≤ 1)
-bit-free type e = (rw (eq-eqb type 0 e), omega arith)
-
-pub bit-used : (type : ℕ) → (type ≡ 0 → ⊥) → (◌≡◌ {A = ℕ} 1 (cond (is_free type) 0 1)) × (1 ≤ 1)
-bit-used type e = (rw (ne_eqb type 0 e), omega arith)
-
-pub code_out : (code lo hi : ℕ) → (code < lo) ⊎ (hi < code) → (◌≡◌ {A = ℕ} 0 (one (within lo hi code))) × (0 ≤ 1)
-code_out code lo hi o =
-    let z : within lo hi code ≡ false = is_false _ (λ e. let w = within-split lo hi code e in ⊎_elim (λ p. omega arith) (λ p. omega arith) o) in
-    (rw z, omega arith)
-
-pub code_in : (code lo hi : ℕ) → lo ≤ code → code ≤ hi → (◌≡◌ {A = ℕ} 1 (one (within lo hi code))) × (1 ≤ 1)
-code_in code lo hi l h = (rw (within-join lo hi code l h), omega arith)
-
 -- THE REFUSALS
-module _ (s : List ℕ) (n : ℕ) (c : block_count s ≡ n) (x : Bool) (ex : x ≡ same (take 12 s) signature) where
-  pub other-signed : x ≡ false → false ≡ other_length s
-  unfolding other_length stage2
-  other-signed z = rw (sym ex ∙ z)
-
-  module _ (ok : x ≡ true) (m : ℕ) (em : m ≡ be32 s 12) where
-    pub other-same : m ≡ n → false ≡ other_length s
-    unfolding other_length stage2
-    other-same z = rw (sym ex ∙ ok, c, ← em, eq-eqb m n z)
-
-    module _ (ne : m ≡ n → ⊥) where
-      pub other-range : (m < min_blocks) ⊎ (max_blocks < m) → false ≡ other_length s
-      unfolding other_length stage2
-      other-range o =
-          let z : within min_blocks max_blocks m ≡ false = is_false _ (λ e. let w = within-split min_blocks max_blocks m e in ⊎_elim (λ p. omega arith) (λ p. omega arith) o) in
-          rw (sym ex ∙ ok, c, ← em, ne_eqb m n ne, z)
-
-      module _ (low : min_blocks ≤ m) (high : m ≤ max_blocks) (t : ℕ) (et : t ≡ table_blocks m) (u : ℕ) (eu : u ≡ be32 s 16) where
-        pub other-table : (u ≡ t → ⊥) → false ≡ other_length s
-        unfolding other_length stage2
-        other-table z = rw (sym ex ∙ ok, c, ← em, ne_eqb m n ne, within-join min_blocks max_blocks m low high, ← eu, ← et, ne_eqb u t z)
-
-        pub other-root : u ≡ t → (v : ℕ) → v ≡ be32 s 28 → eqb v (t + 1) ≡ other_length s
-        unfolding other_length stage2
-        other-root z v ev = rw (sym ex ∙ ok, c, ← em, ne_eqb m n ne, within-join min_blocks max_blocks m low high, ← eu, ← et, eq-eqb u t z, ← ev)
-
 module _ (s : List ℕ) (size : ℕ) (x : Bool) (ex : x ≡ stage1 s) where
   pub refusal-1 : x ≡ false → 1 ≡ tree_refusal s size
   unfolding tree_refusal
@@ -270,6 +192,10 @@ pub cleared : (n : ℕ) (c c' : List ℕ) → c' ≡ replicate (length c) 0 → 
 unfolding zeros
 cleared n c c' e l = e ∙ ap (λ (k : ℕ). replicate k 0) l
 
+pub zeros-are : (n : ℕ) → replicate n 0 ≡ zeros n
+unfolding zeros
+zeros-are n = refl
+
 pub answered : (s : List ℕ) (n : ℕ) (used s' codes : List ℕ) → UsedOf s n used → length codes ≡ 4 * n → s' ≡ (salvaged s).image → codes ≡ (salvaged s).codes → (a b d : ℕ) → a ≡ number (within 1 2) codes
     → b ≡ length (select (hung_here codes used) (interval 0 (length codes))) → d ≡ number (within 5 5) codes → Answered s 0 (a + b) d s' codes
 answered s n used s' codes U l ei ec a b d ea eb ed =
@@ -292,5 +218,5 @@ tree-accepted s report why e z num a d s' codes r' A er = rw (sym e ∙ z, A.non
 
 -- the report, whose front was lent
 pub tree_lent : (s report : List ℕ) (why : ℕ) → why ≡ tree_refusal s (length report) → why ≡ 0 → (num a d : ℕ) (s' codes : List ℕ) (k : ℕ) → Answered s num a d s' codes → length codes ≡ k
-    → ◌≡◌ {A = TreeAnswer} (record { number = num; zeroed = a; freed = d; image = s'; report = take 0 report ++ (codes ++ drop k (drop 0 report)) }) (salvage_tree s report)
-tree_lent s report why e z num a d s' codes k A l = tree-accepted s report why e z num a d s' codes (take 0 report ++ (codes ++ drop k (drop 0 report))) A (lent report 0 k codes codes refl l)
+    → ◌≡◌ {A = TreeAnswer} (record { number = num; zeroed = a; freed = d; image = s'; report = codes ++ drop k report }) (salvage_tree s report)
+tree_lent s report why e z num a d s' codes k A l = tree-accepted s report why e z num a d s' codes (codes ++ drop k report) A (lent report 0 k codes codes refl l)

@@ -1,6 +1,6 @@
 -- One slot: what is dropped, files, and the directory of an entry.
 use Prim.Native.Nat.{ℕ, ◌+◌, ◌-◌, ◌*◌, ◌/◌, ◌≤◌, ◌<◌}
-use mathlib.Core.Bool.{Bool, true, false, not, cond, ◌&&◌}
+use mathlib.Core.Bool.{Bool, true, false, not, cond, ◌&&◌, ◌||◌}
 use mathlib.Core.List.{List, [], ◌++◌}
 use mathlib.Core.Path.{◌≡◌, refl, sym, ap, ◌∙◌, subst}
 use native.Mathlib.Omega.{arith}
@@ -8,6 +8,7 @@ use lib.Dec.{eqb, ltb}
 use lib.ListN.{length, get_or, take, drop}
 use lib.Seq.{length-take-le}
 use borrow.Author.Tests.{eq-eqb, ne_eqb, lt-ltb, ltb-true, not-true}
+use Rattle.std.specs.Cmp.Lexicographic.{pointwise}
 use Rattle.layout.specs.Lists.{same, has}
 use Rattle.layout.specs.Limits.{max_directory}
 use Rattle.layout.specs.Bytes.{be32, part, zeros, splice}
@@ -25,6 +26,7 @@ use Rattle.salvage_tree.specs.SalvageTree.{State, coded, dropped, keep_file, tak
 use Rattle.salvage_tree.specs.Walks.{st, Reached, IsGood, Chose, Own, Adopted, readied, FileDone, EntryTaken, child_blocks, Found, Entered}
 use Rattle.salvage_tree.proofs.Laws.Chosen.{Chosen, chosen, blocks-some}
 use Rattle.salvage_tree.proofs.Walks.Names.{slot_is}
+use Rattle.salvage_tree.proofs.Walks.Numbers.{pointwise-same, eqb_turned}
 use Rattle.salvage_tree.proofs.Walks.Puts.{end_is}
 use Rattle.salvage_tree.proofs.Walks.Blocks.{some-marks, chose-own, chose-first}
 
@@ -129,28 +131,13 @@ module _ (s : List ℕ) (e : ℕ) (ds : List ℕ) (some : 1 ≤ length ds) (firs
   self-is : self_of s (512 * first) ≡ self
   self-is = let q : entry_at first 0 + 4 ≡ 512 * first + 4 = omega arith in sym (es ∙ ap (be32 s) q)
 
-  pub witness-self : self ≡ first → true ≡ witness s e ds
+  pub witness-is : (f g : List ℕ) → f ≡ part s (entry_at first 0 + 48) 80 → g ≡ part s (e + 48) 80 → (r : Bool) → r ≡ pointwise eqb f g → (size : ℕ) → size ≡ be32 s (e + 12) → (last : ℕ) → last ≡ get_or ds (length ds - 1) 0
+      → (type : ℕ) → type ≡ type_of s (entry_at last 3) → eqb self first || (r || eqb size (length ds) && eqb type 255) ≡ witness s e ds
   unfolding witness
-  witness-self z = rw (b-is, self-is, eq-eqb self first z)
-
-  module _ (ne : self ≡ first → ⊥) (r : Bool) (f g : List ℕ) (ef : f ≡ part s (entry_at first 0 + 48) 80) (eg : g ≡ part s (e + 48) 80) (er : r ≡ same f g) where
-    name-is : same (part s (512 * first + 48) 80) (part s (e + 48) 80) ≡ r
-    name-is = let q : entry_at first 0 + 48 ≡ 512 * first + 48 = omega arith in sym (er ∙ ap (λ (x : List ℕ). same x g) (ef ∙ ap (λ (x : ℕ). part s x 80) q) ∙ ap (same (part s (512 * first + 48) 80)) eg)
-
-    pub witness-name : r ≡ true → true ≡ witness s e ds
-    unfolding witness
-    witness-name z = rw (b-is, self-is, ne_eqb self first ne, name-is ∙ z)
-
-    module _ (no : r ≡ false) (size : ℕ) (ez : size ≡ be32 s (e + 12)) where
-      pub witness-size : (size ≡ length ds → ⊥) → false ≡ witness s e ds
-      unfolding witness
-      witness-size nz = rw (b-is, self-is, ne_eqb self first ne, name-is ∙ no, ne_eqb (length ds) (blocks_of s e) (λ z. nz (ez ∙ sym z)))
-
-      pub witness-end : size ≡ length ds → (last : ℕ) → last ≡ get_or ds (length ds - 1) 0 → (type : ℕ) → type ≡ type_of s (entry_at last 3) → eqb type 255 ≡ witness s e ds
-      unfolding witness
-      witness-end z last el type et =
-          let q : end_at ds ≡ entry_at last 3 = end_is ds some ∙ ap (λ (x : ℕ). 512 * x + 384) (sym el) in
-          rw (b-is, self-is, ne_eqb self first ne, name-is ∙ no, eq-eqb (length ds) (blocks_of s e) (sym (sym ez ∙ z)), q, ← et)
+  witness-is f g ef eg r er size ez last el type et =
+      let n : same (part s (512 * first + 48) 80) (part s (e + 48) 80) ≡ r = let q : entry_at first 0 + 48 ≡ 512 * first + 48 = omega arith in sym (er ∙ pointwise-same f g ∙ ap (λ (x : List ℕ). same x g) (ef ∙ ap (λ (x : ℕ). part s x 80) q) ∙ ap (same (part s (512 * first + 48) 80)) eg) in
+      let q : end_at ds ≡ entry_at last 3 = end_is ds some ∙ ap (λ (x : ℕ). 512 * x + 384) (sym el) in
+      rw (b-is, self-is, n, q, ← et, eqb_turned (length ds) (blocks_of s e), ← ez)
 
 -- the first numbers, as they are lent
 pub front : (d : ℕ) (xs : List ℕ) → take (d - 0) (drop 0 xs) ≡ take d xs
@@ -187,25 +174,25 @@ module _ (s : List ℕ) (n e : ℕ) (m : List ℕ) (first said : ℕ) (ef : firs
         let t : eqb (blocks_of s (512 * first_block s e)) (blocks_of s e) ≡ sure = sym (es ∙ rw (eo, q, ef, ed)) in
         rw (t, ← ef, ← ed) (C.is cs M)
 
-    pub lent-own : 0 < r → Own n (take (r - 0) (drop 0 xs))
-    lent-own h = subst (Own n) (sym (front r xs)) (chose-own s n first said sure m r xs C h)
+    pub lent-own : 0 < r → Own n (take r xs)
+    lent-own h = chose-own s n first said sure m r xs C h
 
-    pub lent-first : 0 < r → first_block s e ≡ get_or (take (r - 0) (drop 0 xs)) 0 0
-    lent-first h = sym ef ∙ sym (chose-first s n first said sure m r xs C h) ∙ ap (λ (ys : List ℕ). get_or ys 0 0) (sym (front r xs))
+    pub lent-first : 0 < r → first_block s e ≡ get_or (take r xs) 0 0
+    lent-first h = sym ef ∙ sym (chose-first s n first said sure m r xs C h)
 
-    pub found_none : 0 < r → (w : Bool) → w ≡ witness s e (take (r - 0) (drop 0 xs)) → w ≡ false → Found s n e m 0 xs
+    pub found_none : 0 < r → (w : Bool) → w ≡ witness s e (take r xs) → w ≡ false → Found s n e m 0 xs
     found_none h w ew z =
         record {
           most = omega arith;
           size = C.size;
-          none = λ q cs M. is_false _ (λ t. true-not-false (subst (λ (ys : List ℕ). witness s e ys ≡ true) (blocks-are cs M ∙ sym (front r xs)) (and_split (ltb 0 (length (child_blocks s n cs e))) (witness s e (child_blocks s n cs e)) t).1) (sym ew ∙ z));
+          none = λ q cs M. is_false _ (λ t. true-not-false (subst (λ (ys : List ℕ). witness s e ys ≡ true) (blocks-are cs M) (and_split (ltb 0 (length (child_blocks s n cs e))) (witness s e (child_blocks s n cs e)) t).1) (sym ew ∙ z));
           own = λ o. absurd (omega arith);
           is = λ o. absurd (omega arith);
           witnessed = λ o. absurd (omega arith);
           first = λ o. absurd (omega arith);
         }
 
-    pub found_some : 0 < r → (w : Bool) → w ≡ witness s e (take (r - 0) (drop 0 xs)) → w ≡ true → Found s n e m r xs
+    pub found_some : 0 < r → (w : Bool) → w ≡ witness s e (take r xs) → w ≡ true → Found s n e m r xs
     found_some h w ew z =
         record {
           most = C.most;
@@ -213,7 +200,7 @@ module _ (s : List ℕ) (n e : ℕ) (m : List ℕ) (first said : ℕ) (ef : firs
           none = λ q. absurd (omega arith);
           own = λ o. chose-own s n first said sure m r xs C h;
           is = λ o. blocks-are;
-          witnessed = λ o. subst (λ (ys : List ℕ). witness s e ys ≡ true) (front r xs) (sym ew ∙ z);
+          witnessed = λ o. sym ew ∙ z;
           first = λ o. sym ef ∙ sym (chose-first s n first said sure m r xs C h);
         }
 
@@ -229,9 +216,9 @@ module _ (s : List ℕ) (n parent e : ℕ) (m codes : List ℕ) (r : ℕ) (xs : 
         some = λ h. absurd (omega arith);
       }
 
-  entered-same : 0 < r → first_block s e ≡ get_or (take r xs) 0 0 → (s' m' c' : List ℕ) → Adopted s parent e (take r xs) m codes s' m' c' → Entered s n parent e m codes r xs s' m' c'
+  pub entered-some : 0 < r → (s' m' c' : List ℕ) → Adopted s parent e (take r xs) m codes s' m' c' → Entered s n parent e m codes r xs s' m' c'
   unfolding take_child
-  entered-same h ef s' m' c' A =
+  entered-some h s' m' c' A =
       record {
         most = F.most;
         own = λ o. F.own h;
@@ -241,18 +228,12 @@ module _ (s : List ℕ) (n parent e : ℕ) (m codes : List ℕ) (r : ℕ) (xs : 
             let l : 0 < length (take r xs) = (F.own h).some in (
               (readied parent (st s cs codes) e (take r xs)).claimed,
               R.marks,
-              rw (count, F.is h cs M, lt-ltb 0 (length (take r xs)) l, F.witnessed h, ← ef) (ap (λ (q : State). take_slots (take_child left (first_block s e)) (take r xs) q (slots (take r xs))) (sym (state-is (readied parent (st s cs codes) e (take r xs)) s' c' [] R.image R.codes-are))),
+              rw (count, F.is h cs M, lt-ltb 0 (length (take r xs)) l, F.witnessed h, ← F.first h) (ap (λ (q : State). take_slots (take_child left (first_block s e)) (take r xs) q (slots (take r xs))) (sym (state-is (readied parent (st s cs codes) e (take r xs)) s' c' [] R.image R.codes-are))),
             );
       }
     where
       state-is : (q : State) (a c : List ℕ) → (cs : List ℕ) → a ≡ q.image → c ≡ q.codes → st a q.claimed c ≡ q
       state-is q a c cs ea ec = rw (ea, ec)
-
-  pub entered-some : 0 < r → (s' m' c' : List ℕ) → Adopted s parent e (take (r - 0) (drop 0 xs)) m codes s' m' c' → Entered s n parent e m codes r xs s' m' c'
-  entered-some h s' m' c' A = entered-same h (F.first h) s' m' c' (subst (λ (ys : List ℕ). Adopted s parent e ys m codes s' m' c') (front r xs) A)
-
-  pub entered-own : 0 < r → Own n (take (r - 0) (drop 0 xs))
-  entered-own h = subst (Own n) (sym (front r xs)) (F.own h)
 
 -- the chain that a claim has walked, by the numbers that were read
 pub below_as : (s : List ℕ) (n e f k : ℕ) → Shape s n → f ≡ first_block s e → k ≡ blocks_of s e → ((i : ℕ) → i < k → get_or (chain (next s) f k) i 0 < n) → ChainBelow s n (first_block s e) (blocks_of s e)

@@ -53,11 +53,14 @@ root-same : (s : List ℕ) (t n : ℕ) (codes ds : List ℕ) → block_count s �
 unfolding tree_done
 root-same s t n codes ds c er eb f q ec = rw (f, q, ec, eb, er, c)
 
+pub root-own : (s : List ℕ) (t n b said : ℕ) (m : List ℕ) (d : ℕ) (xs : List ℕ) → t ≡ table_blocks n → t < b → b < n → get_or m b 0 ≡ 0 → Chose s n b said false m d xs → Own n (take d xs)
+root-own s t n b said m d xs et low high clear C = chose-own s n b said false m d xs C (folder-some s t n b said m d xs et low high clear C)
+
 pub root-done : (s : List ℕ) (t n said : ℕ) (m codes : List ℕ) (d : ℕ) (xs : List ℕ) → Shape s n → t ≡ table_blocks n → m ≡ zeros (length m) → codes ≡ zeros (4 * n) → said ≡ be32 s (entry_at (t + 1) 0 + 12)
-    → Chose s n (t + 1) said false m d xs → (s₁ m₁ c₁ s₂ m₂ c₂ : List ℕ) → PutDone s (take (d - 0) (drop 0 xs)) (t + 1) (part s (entry_at (t + 1) 0 + 48) 80) m codes s₁ m₁ c₁
-    → SlotsDone s₁ (take (d - 0) (drop 0 xs)) max_levels m₁ c₁ s₂ m₂ c₂ → RootDone s m codes s₂ m₂ c₂
+    → Chose s n (t + 1) said false m d xs → (s₁ m₁ c₁ s₂ m₂ c₂ : List ℕ) → PutDone s (take d xs) (t + 1) (part s (entry_at (t + 1) 0 + 48) 80) m codes s₁ m₁ c₁
+    → SlotsDone s₁ (take d xs) max_levels m₁ c₁ s₂ m₂ c₂ → RootDone s m codes s₂ m₂ c₂
 root-done s t n said m codes d xs H et em ec es C s₁ m₁ c₁ s₂ m₂ c₂ P D =
-    let ds : List ℕ = take (d - 0) (drop 0 xs) in
+    let ds : List ℕ = take d xs in
     let c = shape-block_count s n H in
     let er : root_block (block_count s) ≡ t + 1 = omega (arith, c, et) in
     let M = no-marks m em in
@@ -65,8 +68,8 @@ root-done s t n said m codes d xs H et em ec es C s₁ m₁ c₁ s₂ m₂ c₂ 
     let hi : t + 1 < n = omega (arith, et, H.low) in
     let q : entry_at (t + 1) 0 ≡ 512 * (t + 1) = omega arith in
     let es' : said ≡ blocks_of s (512 * (t + 1)) = es ∙ ap (λ (x : ℕ). be32 s (x + 12)) q in
-    let b : directory_blocks s n [] (t + 1) said false ≡ ds = folder-is s t n (t + 1) said m d xs et (omega arith) hi z C [] M in
-    let f : get_or ds 0 0 ≡ t + 1 = folder-first s t n (t + 1) said m d xs et (omega arith) hi z C in
+    let b : directory_blocks s n [] (t + 1) said false ≡ ds = C.is [] M in
+    let f : get_or ds 0 0 ≡ t + 1 = chose-first s n (t + 1) said false m d xs C (folder-some s t n (t + 1) said m d xs et (omega arith) hi z C) in
     let R = P.reached [] M in
     let p₁ : State = put_directory (st s [] codes) ds (t + 1) (part s (entry_at (t + 1) 0 + 48) 80) in
     let S = D.reached p₁.claimed R.marks in

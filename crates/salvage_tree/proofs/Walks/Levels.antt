@@ -4,15 +4,15 @@ use mathlib.Core.Bool.{Bool, true, false}
 use mathlib.Core.List.{List}
 use mathlib.Core.Path.{◌≡◌, refl, sym, ap, ◌∙◌, subst}
 use native.Mathlib.Omega.{arith}
-use lib.ListN.{length, get_or, take, drop}
+use lib.ListN.{length, get_or, take}
 use Rattle.layout.specs.Lists.{interval}
 use Rattle.layout.specs.Bytes.{zeros, splice}
 use Rattle.layout.specs.Directory.{slot_at, slots}
-use Rattle.layout.proofs.Laws.Lists.{interval-next}
+use Rattle.layout.proofs.Laws.Lists.{interval-from}
 use Rattle.salvage.specs.Walks.{MarksOf}
 use Rattle.salvage_tree.specs.SalvageTree.{State, coded, take_slot, take_slots, take_child}
-use Rattle.salvage_tree.specs.Walks.{st, Reached, Ready, Own, EntryTaken, Entered, SlotDone, SlotsDone}
-use Rattle.salvage_tree.proofs.Walks.Entries.{dropped-is, front}
+use Rattle.salvage_tree.specs.Walks.{st, Reached, Ready, EntryTaken, Entered, SlotDone, SlotsDone}
+use Rattle.salvage_tree.proofs.Walks.Entries.{dropped-is}
 
 reached-state : (q : State) (s m c : List ℕ) → Reached q s m c → st s q.claimed c ≡ q
 reached-state q s m c R = rw (R.image, R.codes-are)
@@ -41,47 +41,38 @@ module _ (s ds : List ℕ) (k left : ℕ) (m codes : List ℕ) (r : Bool) (s₁ 
       pub slot-dropped : d ≡ 0 → SlotDone s ds k left m codes s₂ m₂ c₂
       slot-dropped l = record { reached = λ cs M. subst (λ (q : State). Reached q s₂ m₂ c₂) (sym (child-left cs)) (N.none l (left - 1) cs (marks-are cs M)) }
 
-      slot-entered : 0 < d → (ys : List ℕ) → ys ≡ take d xs → (s' m' c' : List ℕ) → SlotsDone s₂ ys (left - 1) m₂ c₂ s' m' c' → SlotDone s ds k left m codes s' m' c'
-      slot-entered l ys ey s' m' c' D =
+      pub slot-entered : 0 < d → (s' m' c' : List ℕ) → SlotsDone s₂ (take d xs) (left - 1) m₂ c₂ s' m' c' → SlotDone s ds k left m codes s' m' c'
+      slot-entered l s' m' c' D =
           record {
             reached = λ cs M.
                 let W = N.some l (left - 1) cs (marks-are cs M) in
-                let G : SlotsDone s₂ (take d xs) (left - 1) m₂ c₂ s' m' c' = rw ey at D in
-                subst (λ (q : State). Reached q s' m' c') (sym (child-left cs ∙ W.2)) (G.reached W.0 W.1);
+                subst (λ (q : State). Reached q s' m' c') (sym (child-left cs ∙ W.2)) (D.reached W.0 W.1);
           }
 
-      pub slot_lent : 0 < d → (s' m' c' : List ℕ) → SlotsDone s₂ (take (d - 0) (drop 0 xs)) (left - 1) m₂ c₂ s' m' c' → SlotDone s ds k left m codes s' m' c'
-      slot_lent l s' m' c' D = slot-entered l (take (d - 0) (drop 0 xs)) (front d xs) s' m' c' D
-
-pub entered-lent : {s : List ℕ} {n parent e : ℕ} {m codes : List ℕ} {d : ℕ} {xs s' m' c' : List ℕ} → Entered s n parent e m codes d xs s' m' c' → 0 < d → Own n (take (d - 0) (drop 0 xs))
-entered-lent {d = d} {xs = xs} E h = subst (Own _) (sym (front d xs)) (E.own h)
-
 -- ALL SLOTS, when those before k are done
-pub record Slotting (s ds : List ℕ) (left : ℕ) (m codes s₁ m₁ c₁ : List ℕ) (k more : ℕ) : Type 0 where
-  pub sum : k + more ≡ 4 * length ds - 1
-  pub some : 1 ≤ k
+pub record Slotting (s ds : List ℕ) (left : ℕ) (m codes s₁ m₁ c₁ : List ℕ) (k : ℕ) : Type 0 where
   pub long : length s₁ ≡ length s
   pub marked : length m₁ ≡ length m
   pub coded-all : length c₁ ≡ length codes
-  pub is : (cs : List ℕ) → MarksOf m cs → (cs₁ : List ℕ) × MarksOf m₁ cs₁ × (take_slots (take_child left (get_or ds 0 0)) ds (st s cs codes) (slots ds) ≡ take_slots (take_child left (get_or ds 0 0)) ds (st s₁ cs₁ c₁) (interval k more))
+  pub is : (cs : List ℕ) → MarksOf m cs → (cs₁ : List ℕ) × MarksOf m₁ cs₁ × (take_slots (take_child left (get_or ds 0 0)) ds (st s cs codes) (slots ds) ≡ take_slots (take_child left (get_or ds 0 0)) ds (st s₁ cs₁ c₁) (interval k (4 * length ds - 1 - k)))
 
-pub slotting-start : (s ds : List ℕ) (left : ℕ) (m codes : List ℕ) → 1 ≤ length ds → Slotting s ds left m codes s m codes 1 (4 * length ds - 2)
-slotting-start s ds left m codes h = record { sum = omega arith; some = omega arith; long = refl; marked = refl; coded-all = refl; is = λ cs M. (cs, M, refl) }
+pub slotting-start : (s ds : List ℕ) (left : ℕ) (m codes : List ℕ) → Slotting s ds left m codes s m codes 1
+slotting-start s ds left m codes =
+    let q : 4 * length ds - 1 - 1 ≡ 4 * length ds - 2 = omega arith in
+    record { long = refl; marked = refl; coded-all = refl; is = λ cs M. (cs, M, ap (λ (j : ℕ). take_slots (take_child left (get_or ds 0 0)) ds (st s cs codes) (interval 1 j)) (sym q)) }
 
-slots_next : (child : State → ℕ → State) (ds : List ℕ) (p : State) (k more : ℕ) → 0 < more → take_slots child ds p (interval k more) ≡ take_slots child ds (take_slot child ds p k) (interval (k + 1) (more - 1))
+slots_next : (child : State → ℕ → State) (ds : List ℕ) (p : State) (k e : ℕ) → k < e → take_slots child ds p (interval k (e - k)) ≡ take_slots child ds (take_slot child ds p k) (interval (k + 1) (e - (k + 1)))
 unfolding take_slots
-slots_next child ds p k more h = ap (take_slots child ds p) (interval-next k more h)
+slots_next child ds p k e h = ap (take_slots child ds p) (interval-from e k h)
 
 slots-none : (child : State → ℕ → State) (ds : List ℕ) (p : State) (k more : ℕ) → more ≡ 0 → take_slots child ds p (interval k more) ≡ p
 unfolding take_slots
 slots-none child ds p k more e = ap (λ (j : ℕ). take_slots child ds p (interval k j)) e
 
-module _ {s ds : List ℕ} {left : ℕ} {m codes s₁ m₁ c₁ : List ℕ} {k more : ℕ} (w : Slotting s ds left m codes s₁ m₁ c₁ k more) where
-  pub slotting-more : 0 < more → (s₂ m₂ c₂ : List ℕ) → length s₂ ≡ length s₁ → length m₂ ≡ length m₁ → length c₂ ≡ length c₁ → SlotDone s₁ ds k left m₁ c₁ s₂ m₂ c₂ → Slotting s ds left m codes s₂ m₂ c₂ (k + 1) (more - 1)
+module _ {s ds : List ℕ} {left : ℕ} {m codes s₁ m₁ c₁ : List ℕ} {k : ℕ} (w : Slotting s ds left m codes s₁ m₁ c₁ k) where
+  pub slotting-more : k < 4 * length ds - 1 → (s₂ m₂ c₂ : List ℕ) → length s₂ ≡ length s₁ → length m₂ ≡ length m₁ → length c₂ ≡ length c₁ → SlotDone s₁ ds k left m₁ c₁ s₂ m₂ c₂ → Slotting s ds left m codes s₂ m₂ c₂ (k + 1)
   slotting-more h s₂ m₂ c₂ ls lm lc D =
       record {
-        sum = omega (arith, w.sum);
-        some = omega arith;
         long = ls ∙ w.long;
         marked = lm ∙ w.marked;
         coded-all = lc ∙ w.coded-all;
@@ -91,17 +82,19 @@ module _ {s ds : List ℕ} {left : ℕ} {m codes s₁ m₁ c₁ : List ℕ} {k m
             let R = D.reached W.0 W.1 in (
               (take_slot child ds (st s₁ W.0 c₁) k).claimed,
               R.marks,
-              W.2 ∙ slots_next child ds (st s₁ W.0 c₁) k more h ∙ ap (λ (q : State). take_slots child ds q (interval (k + 1) (more - 1))) (sym (reached-state (take_slot child ds (st s₁ W.0 c₁) k) s₂ m₂ c₂ R)),
+              W.2 ∙ slots_next child ds (st s₁ W.0 c₁) k (4 * length ds - 1) h
+                  ∙ ap (λ (q : State). take_slots child ds q (interval (k + 1) (4 * length ds - 1 - (k + 1)))) (sym (reached-state (take_slot child ds (st s₁ W.0 c₁) k) s₂ m₂ c₂ R)),
             );
       }
 
-  pub slotting-end : more ≡ 0 → SlotsDone s ds left m codes s₁ m₁ c₁
-  slotting-end e =
+  pub slotting-end : 4 * length ds - 1 ≤ k → SlotsDone s ds left m codes s₁ m₁ c₁
+  slotting-end h =
       record {
         reached = λ cs M.
             let W = w.is cs M in
             let child = take_child left (get_or ds 0 0) in
-            subst (λ (q : State). Reached q s₁ m₁ c₁) (sym (W.2 ∙ slots-none child ds (st s₁ W.0 c₁) k more e)) (record { image = refl; marks = W.1; codes-are = refl });
+            let e : 4 * length ds - 1 - k ≡ 0 = omega arith in
+            subst (λ (q : State). Reached q s₁ m₁ c₁) (sym (W.2 ∙ slots-none child ds (st s₁ W.0 c₁) k (4 * length ds - 1 - k) e)) (record { image = refl; marks = W.1; codes-are = refl });
       }
 
 -- what a call keeps of an image with its marks and codes

@@ -3,10 +3,12 @@ use Prim.Native.Nat.{ℕ, ◌+◌, ◌*◌, ◌/◌, ◌%◌, ◌≤◌, ◌<◌
 use mathlib.Core.Bool.{Bool, true, false, cond}
 use mathlib.Core.List.{List, [], ◌∷◌}
 use mathlib.Core.Path.{◌≡◌, refl, sym, ap, ◌∙◌, subst}
+use native.Mathlib.Decide.{ℕ_discrete}
 use native.Mathlib.Omega.{arith}
 use lib.Dec.{eqb}
 use lib.ListN.{length, get_or, set}
 use borrow.Author.Tests.{eq-eqb, ne_eqb, eqb-true}
+use Rattle.std.specs.Cmp.Lexicographic.{pointwise}
 use Rattle.layout.specs.Lists.{same}
 use Rattle.layout.specs.Bytes.{be32, bytes4, part, splice}
 use Rattle.layout.specs.Table.{next, set_next}
@@ -21,6 +23,22 @@ use Rattle.salvage_tree.proofs.Laws.Puts.{number_is, byte-is}
 pub both_ways : (a b : Bool) → (a ≡ true → b ≡ true) → (b ≡ true → a ≡ true) → a ≡ b
 both_ways true b f g = sym (f refl)
 both_ways false b f g = sym (is_false b (λ e. true-not-false (g e) refl))
+
+-- `==` of two byte strings, in the words of the definitions
+pub pointwise-same : (xs ys : List ℕ) → pointwise eqb xs ys ≡ same xs ys
+pointwise-same [] [] = refl
+pointwise-same [] (y ∷ ys) = refl
+pointwise-same (x ∷ xs) [] = refl
+pointwise-same (x ∷ xs) (y ∷ ys) = rw (pointwise-same xs ys)
+
+pub eqb_turned : (x y : ℕ) → eqb x y ≡ eqb y x
+eqb_turned x y = elim (ℕ_discrete x y) [ yes p ↦ rw p | no p ↦ ne_eqb x y p ∙ sym (ne_eqb y x (λ z. p (sym z))) ]
+
+pub same-turned : (xs ys : List ℕ) → same xs ys ≡ same ys xs
+same-turned [] [] = refl
+same-turned [] (y ∷ ys) = refl
+same-turned (x ∷ xs) [] = refl
+same-turned (x ∷ xs) (y ∷ ys) = rw (eqb_turned x y, same-turned xs ys)
 
 pub one_set : (s : List ℕ) (at v : ℕ) → at < length s → set s at v ≡ splice s at (v ∷ [])
 one_set s at v h = sets-splice s at (v ∷ []) (omega arith)

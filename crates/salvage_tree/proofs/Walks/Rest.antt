@@ -1,15 +1,13 @@
 -- The rest: codes of freed blocks, the table, the header, and whether anything of them was different.
 use Prim.Native.Nat.{ℕ, zero, suc, ◌+◌, ◌-◌, ◌*◌, ◌/◌, ◌≤◌, ◌<◌}
 use mathlib.Core.Bool.{Bool, true, false, cond, ◌&&◌, ◌||◌}
-use mathlib.Core.List.{List, [], ◌∷◌, ◌++◌}
+use mathlib.Core.List.{List, ◌++◌}
 use mathlib.Core.Logic.{◌≢◌}
 use mathlib.Core.Path.{◌≡◌, refl, sym, ap, ◌∙◌, subst}
-use native.Mathlib.Decide.{ℕ_discrete}
 use native.Mathlib.Omega.{arith}
 use lib.Dec.{eqb}
 use lib.ListN.{length, get_or, set, take, drop}
-use borrow.Author.Tests.{eq-eqb, ne_eqb, eqb-true}
-use Rattle.std.specs.Cmp.Lexicographic.{pointwise}
+use borrow.Author.Tests.{eq-eqb, eqb-true}
 use Rattle.std.specs.List.{list_all, range_with_len, starts_with}
 use Rattle.layout.specs.Lists.{interval, every, has, same}
 use Rattle.layout.specs.Limits.{min_blocks, max_blocks}
@@ -31,7 +29,7 @@ use Rattle.salvage.proofs.Walks.Claims.{unmarked-out, marked-in}
 use Rattle.salvage_tree.specs.SalvageTree.{coded, put_number, ones_put, blocks_freed, padding_put, head_put, freed_codes, rest}
 use Rattle.salvage_tree.specs.Walks.{FreedNoted, IsFree, AllFree, signed, BlocksPut, PaddingPut, RestPut}
 use Rattle.salvage_tree.proofs.Laws.Rest.{HeadIs, head-is}
-use Rattle.salvage_tree.proofs.Walks.Numbers.{both_ways, number-left, one_set}
+use Rattle.salvage_tree.proofs.Walks.Numbers.{both_ways, pointwise-same, same-turned, number-left, one_set}
 
 shape-stage1 : (s : List ℕ) (n : ℕ) → Shape s n → stage1 s ≡ true
 unfolding stage1
@@ -205,19 +203,10 @@ rest_put s m codes s₁ c₁ s₂ s₃ c₃ x y z B P ez e₃ ec =
     }
 
 -- the signature
-eqb_turned : (x y : ℕ) → eqb x y ≡ eqb y x
-eqb_turned x y = elim (ℕ_discrete x y) [ yes p ↦ rw p | no p ↦ ne_eqb x y p ∙ sym (ne_eqb y x (λ z. p (sym z))) ]
-
-begins-same : (xs ys : List ℕ) → pointwise eqb xs ys ≡ same ys xs
-begins-same [] [] = refl
-begins-same [] (y ∷ ys) = refl
-begins-same (x ∷ xs) [] = refl
-begins-same (x ∷ xs) (y ∷ ys) = rw (eqb_turned x y, begins-same xs ys)
-
 -- `starts_with` in the words of the definitions
 pub begins-is : (s : List ℕ) → starts_with eqb s signature ≡ stage2 s
 unfolding stage2
-begins-is s = begins-same signature (take 12 s)
+begins-is s = pointwise-same signature (take 12 s) ∙ same-turned signature (take 12 s)
 
 module _ (s : List ℕ) (r : Bool) (e : r ≡ starts_with eqb s signature) where
   pub signed-left : r ≡ true → s ≡ signed s

@@ -1,56 +1,25 @@
-use mathlib.Core.Path.{refl}
-use mathlib.Core.List.{[], ◌∷◌}
-use native.Mathlib.Omega.{arith}
+use Rattle.std.proofs.Common.{[], ◌∷◌, refl, arith}
 use Rattle.lister.proofs.Pieces.{begin, room, more, finish}
 use Rattle.lister.proofs.Lines.{name-end, name-stop, name-more}
 use Rattle.lister.proofs.text.put_name.Goals as goal
 
-pub loop-i-init : goal.loop-i-init
-loop-i-init c = (begin c.args.out.now _ _ _ c.requires refl, omega arith, omega arith)
+pub loop-x-init : goal.loop-x-init
+loop-x-init c = begin c.args.out.now _ _ _ c.requires refl
 
-pub bounds-field-i : goal.bounds-field-i
-bounds-field-i c = omega arith
+pub shape_of-out-then-x-eq0 : goal.shape_of-out-then-x-eq0
+shape_of-out-then-x-eq0 c = c.loop-x.invariant.size
 
-pub shape_of-out-then-field-i-eq0 : goal.shape_of-out-then-field-i-eq0
-shape_of-out-then-field-i-eq0 c = c.loop-i.invariant.0.size
-
-pub returns-then-field-i-eq0 : goal.returns-then-field-i-eq0
-returns-then-field-i-eq0 c =
-    let l = c.loop-i in
-    let a = c.args in
-    finish l.invariant.0 (name-stop a.field.now l.i (omega arith) c.if-field-i-eq0.true)
-
-pub bounds-field-i-in-loop-i : goal.bounds-field-i-in-loop-i
-bounds-field-i-in-loop-i c = omega arith
+pub returns-then-x-eq0 : goal.returns-then-x-eq0
+returns-then-x-eq0 c = finish c.loop-x.invariant (name-stop c.args.field.now c.loop-x.x-index (omega arith) c.if-x-eq0.true)
 
 pub put_byte-p-requires : goal.put_byte-p-requires
-put_byte-p-requires c =
-    let if1 = c.if-field-i-eq0 in
-    let l = c.loop-i in
-    let a = c.args in
-    room l.invariant.0 (c.shown.result ∷ []) _ (name-more a.field.now l.i (omega arith) c.shown.result c.shown.ensures if1.false)
+put_byte-p-requires c = room c.loop-x.invariant (c.shown.result ∷ []) _ (name-more c.args.field.now c.loop-x.x-index (omega arith) c.shown.result c.shown.ensures c.if-x-eq0.false)
 
-pub overflow_step-i : goal.overflow_step-i
-overflow_step-i c = omega arith
-
-pub loop-i-smaller : goal.loop-i-smaller
-loop-i-smaller c = omega arith
-
-pub loop-i-preserved : goal.loop-i-preserved
-loop-i-preserved c =
-    let put_byte = c.put_byte-p in
-    let shown = c.shown in
-    let if1 = c.if-field-i-eq0 in
-    let l = c.loop-i in
-    let a = c.args in (
-      more l.invariant.0 put_byte.ensures _ (name-more a.field.now l.i (omega arith) shown.result shown.ensures if1.false),
-      omega
-          arith,
-      omega arith,
-    )
+pub loop-x-preserved : goal.loop-x-preserved
+loop-x-preserved c = more c.loop-x.invariant c.put_byte-p.ensures _ (name-more c.args.field.now c.loop-x.x-index (omega arith) c.shown.result c.shown.ensures c.if-x-eq0.false)
 
 pub shape_of-out : goal.shape_of-out
-shape_of-out c = c.loop-i.invariant.0.size
+shape_of-out c = c.loop-x.invariant.size
 
 pub returns : goal.returns
-returns c = finish c.loop-i.invariant.0 (name-end c.args.field.now c.loop-i.i (omega arith))
+returns c = finish c.loop-x.invariant (name-end c.args.field.now c.loop-x.x-index (omega arith))

@@ -1,9 +1,6 @@
-use native.Mathlib.Omega.{arith}
-use mathlib.Core.Path.{ap, ◌∙◌}
-use mathlib.Core.List.{List}
-use Prim.Native.Nat.{ℕ}
-use lib.Seq.{take_all}
+use Rattle.std.proofs.Common.{◌≡◌, ◌+◌, ◌-◌, length, ap, ◌∙◌, arith}
 use Rattle.layout.specs.Bytes.{splice}
+use Rattle.layout.proofs.Laws.Bytes.{put_mid-splice}
 use Rattle.salvage_tree.proofs.Walks.Numbers.{field-left, field-set}
 use Rattle.salvage_tree.proofs.numbers.put_field.Goals as goal
 
@@ -13,4 +10,6 @@ returns-then-has_field c = field-left _ _ _ _ c.has_field.ensures c.if-has_field
 pub returns : goal.returns
 returns c =
     let a = c.args in
-    c.copy_part.ensures ∙ ap (λ (f : List ℕ). splice a.image.now a.at f) (take_all 80 a.field.now (omega (arith, c.requires.1))) ∙ field-set _ _ _ _ c.has_field.ensures c.if-has_field.false
+    let q : a.at + 80 - a.at ≡ 80 = omega arith in
+    let l : length c.copy_from_slice.new.self ≡ a.at + 80 - a.at = omega (arith, ap length c.copy_from_slice.ensures.after, c.requires.1) in
+    put_mid-splice a.image.now a.at _ _ l ∙ ap (splice a.image.now a.at) c.copy_from_slice.ensures.after ∙ field-set _ _ _ _ c.has_field.ensures c.if-has_field.false

@@ -1,4 +1,4 @@
-use Rattle.std.proofs.Common.{rules, tests, ◌-◌, ◌||◌, eqb, refl, ◌∙◌, arith}
+use Rattle.std.proofs.Common.{rules, tests, ◌-◌, ◌||◌, eqb, refl, ◌∙◌}
 use Rattle.std.proofs.lemmas.Iterator.{YieldsList-from_range}
 use Rattle.std.proofs.lemmas.Iterator.Search.{all_from_yields_List}
 use Rattle.layout.specs.Lists.{has}

@@ -1,4 +1,3 @@
-use Rattle.std.proofs.Common.{ap, ◌∙◌}
 use Rattle.salvage_tree.proofs.Walks.Rest.{signed-left, signed-set}
 use Rattle.salvage_tree.proofs.rest.sign.Goals as goal
 

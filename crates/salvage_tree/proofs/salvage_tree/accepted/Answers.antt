@@ -1,13 +1,8 @@
+use Rattle.std.proofs.Common.{arith}
 use Rattle.salvage_tree.proofs.salvage_tree.accepted.Goals as goal
 
-pub small_answer-requires : goal.small_answer-requires
-small_answer-requires c = (c.requires.0, c.if-n-le-SMALL_BLOCKS.true, c.requires.1)
+pub answer_in-requires : goal.answer_in-requires
+answer_in-requires c = (omega arith, c.requires.0, omega (arith, c.requires.0), c.requires.1)
 
-pub returns-then-n-le-SMALL_BLOCKS : goal.returns-then-n-le-SMALL_BLOCKS
-returns-then-n-le-SMALL_BLOCKS c = c.small_answer.ensures
-
-pub large_answer-requires : goal.large_answer-requires
-large_answer-requires c = (c.requires.0, c.requires.1)
-
-pub returns : goal.returns
-returns c = c.large_answer.ensures
+pub answer_in-requires-2 : goal.answer_in-requires-2
+answer_in-requires-2 c = (omega arith, c.requires.0, omega (arith, c.requires.0), c.requires.1)

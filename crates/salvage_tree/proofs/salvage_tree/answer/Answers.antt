@@ -1,4 +1,5 @@
-use native.Mathlib.Omega.{arith}
+use Rattle.std.proofs.Common.{◌≡◌, ◌*◌, arith}
+use Rattle.layout.specs.Bytes.{zeros}
 use Rattle.salvage_tree.proofs.Walks.Counts.{cleared, answered}
 use Rattle.salvage_tree.proofs.salvage_tree.answer.Goals as goal
 
@@ -10,7 +11,7 @@ table_blocks-t-requires c = c.requires.0.high
 
 pub repair-requires : goal.repair-requires
 repair-requires c =
-    let z = cleared c.args.n c.args.codes.now _ c.clear.ensures c.requires.4 in
+    let z : c.fill.new.self ≡ zeros (4 * c.args.n) = cleared c.args.n c.args.codes.now _ (c.fill.ensures.after (λ y e. e)) c.requires.4 in
     (record { room = record { shape = c.requires.0; table = c.table_blocks-t.ensures; marks = omega (arith, c.requires.1, c.table_blocks-t.ensures) }; sized = omega (arith, c.requires.4) }, c.requires.2, z)
 
 pub count_codes-requires : goal.count_codes-requires

@@ -1,8 +1,6 @@
-use Rattle.salvage_tree.proofs.Walks.Counts.{UsedUp}
+use Rattle.std.proofs.Common.{◌≡◌, ℕ, ◌<◌, get_or}
+use Rattle.salvage_tree.specs.Walks.{used_bits}
 use Rattle.salvage_tree.proofs.salvage_tree.note_used.Given as goal
 
-abbrev pub invariant-loop-left : goal.invariant-loop-left
-invariant-loop-left l = UsedUp l.image l.n l.initial.used l.used l.b l.left
-
-abbrev pub decreases-loop-left : goal.decreases-loop-left
-decreases-loop-left l = l.left
+abbrev pub invariant-loop-b : goal.invariant-loop-b
+invariant-loop-b l = (x : ℕ) → x < l.b → get_or l.slots-items x 0 ≡ used_bits l.image x

@@ -1,3 +1,4 @@
+use Rattle.std.proofs.Common.{length-take}
 use native.Mathlib.Omega.{arith}
 use mathlib.Core.Path.{refl}
 use borrow.Author.Tests.{not-true, not-false}
@@ -14,8 +15,8 @@ number_at-said-requires c = (omega (arith, c.requires.0.shape, c.requires.1), om
 pub is_good-requires : goal.is_good-requires
 is_good-requires c = (c.requires.0.table, omega (arith, c.requires.0))
 
-pub returns-then-not-is_good : goal.returns-then-not-is_good
-returns-then-not-is_good c = found-bad _ _ (entry_at c.args.b c.args.k) _ _ _ c.number_at-first.ensures c.number_at-said.ensures _ c.requires.2 _ c.is_good.ensures (not-true _ c.if-not-is_good.true-raw)
+pub returns-then-not-is_good-clause-found : goal.returns-then-not-is_good-clause-found
+returns-then-not-is_good-clause-found c = found-bad _ _ (entry_at c.args.b c.args.k) _ _ _ c.number_at-first.ensures c.number_at-said.ensures _ c.requires.2 _ c.is_good.ensures (not-true _ c.if-not-is_good.true-raw)
 
 pub number_at-requires : goal.number_at-requires
 number_at-requires c = let g = c.is_good.ensures.below (not-false _ c.if-not-is_good.false-raw) in (omega (arith, c.requires.0.shape, g), omega arith)
@@ -23,26 +24,26 @@ number_at-requires c = let g = c.is_good.ensures.below (not-false _ c.if-not-is_
 pub choose-d-requires : goal.choose-d-requires
 choose-d-requires c = (c.requires.0, c.requires.2)
 
-pub slice_bounds-is_witnessed-count : goal.slice_bounds-is_witnessed-count
-slice_bounds-is_witnessed-count c = omega arith
-
-pub slice_bounds-is_witnessed-start : goal.slice_bounds-is_witnessed-start
-slice_bounds-is_witnessed-start c = omega arith
-
 pub slice_bounds-is_witnessed-end : goal.slice_bounds-is_witnessed-end
 slice_bounds-is_witnessed-end c = omega (arith, c.choose-d.ensures.most, c.choose-d.ensures.size)
+
+pub slice_bounds-is_witnessed-end-2 : goal.slice_bounds-is_witnessed-end-2
+slice_bounds-is_witnessed-end-2 c = simp length-take (omega (arith, c.choose-d.ensures.most, c.choose-d.ensures.size))
 
 pub is_witnessed-requires : goal.is_witnessed-requires
 is_witnessed-requires c =
     let h = chose-some _ _ _ _ _ _ _ _ _ c.is_good.ensures (not-false _ c.if-not-is_good.false-raw) c.choose-d.ensures in
     (c.requires.0.shape, lent-own _ _ (entry_at c.args.b c.args.k) _ _ _ c.number_at-first.ensures c.number_at-said.ensures _ _ c.number_at.ensures refl _ _ c.choose-d.ensures h, c.requires.1, lent-first _ _ (entry_at c.args.b c.args.k) _ _ _ c.number_at-first.ensures c.number_at-said.ensures _ _ c.number_at.ensures refl _ _ c.choose-d.ensures h)
 
-pub returns-then-not-is_witnessed : goal.returns-then-not-is_witnessed
-returns-then-not-is_witnessed c =
+pub returns-then-not-is_witnessed-clause-found : goal.returns-then-not-is_witnessed-clause-found
+returns-then-not-is_witnessed-clause-found c =
     let h = chose-some _ _ _ _ _ _ _ _ _ c.is_good.ensures (not-false _ c.if-not-is_good.false-raw) c.choose-d.ensures in
     found_none _ _ (entry_at c.args.b c.args.k) _ _ _ c.number_at-first.ensures c.number_at-said.ensures _ _ c.number_at.ensures refl _ _ c.choose-d.ensures h _ c.is_witnessed.ensures (not-true _ c.if-not-is_witnessed.true-raw)
 
-pub returns : goal.returns
-returns c =
+pub returns-clause-found : goal.returns-clause-found
+returns-clause-found c =
     let h = chose-some _ _ _ _ _ _ _ _ _ c.is_good.ensures (not-false _ c.if-not-is_good.false-raw) c.choose-d.ensures in
     found_some _ _ (entry_at c.args.b c.args.k) _ _ _ c.number_at-first.ensures c.number_at-said.ensures _ _ c.number_at.ensures refl _ _ c.choose-d.ensures h _ c.is_witnessed.ensures (not-false _ c.if-not-is_witnessed.false-raw)
+
+pub returns-clause-some : goal.returns-clause-some
+returns-clause-some c = chose-some _ _ _ _ _ _ _ _ _ c.is_good.ensures (not-false _ c.if-not-is_good.false-raw) c.choose-d.ensures
