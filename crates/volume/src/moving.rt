@@ -23,8 +23,8 @@ const HEAD: usize = 48;
 fn either_form(x: Result<(), Refusal>, y: Result<(), Refusal>) -> Result<(), Refusal>
     ensures { outcome result ≡ either_form (outcome x) (outcome y) }
 {
-    if x == Err(Refusal::BadArgument) || y == Err(Refusal::BadArgument) {
-        return Err(Refusal::BadArgument);
+    if y == Err(Refusal::BadArgument) {
+        return y;
     }
     x?;
     y
@@ -64,9 +64,10 @@ pub fn move_refusal(image: &[u8], path: &[u8], to: &[u8]) -> Result<File, Refusa
         layout::file::path_refusal(path),
         layout::file::path_refusal(to),
     )?;
-    let own = layout::path::find_path(image, path, 0x60, 0x9F);
-    let spot = layout::path::follow_used(image, to);
-    let (Some(own), Some(spot)) = (own, spot) else {
+    let Some(own) = layout::path::find_path(image, path, 0x60, 0x9F) else {
+        return Err(Refusal::NotFound);
+    };
+    let Some(spot) = layout::path::follow_used(image, to) else {
         return Err(Refusal::NotFound);
     };
     if spot.entry.is_some() {

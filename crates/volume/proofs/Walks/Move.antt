@@ -1,12 +1,18 @@
 -- What the code of a move tests and writes.
 use Prim.Native.Nat.{ℕ, zero, suc, ◌+◌, ◌-◌, ◌*◌, ◌/◌, ◌≤◌, ◌<◌}
 use mathlib.Core.Path.{◌≡◌, refl, sym, ap, ◌∙◌}
-use mathlib.Core.Bool.{Bool, true, false, not, cond, ◌&&◌, ◌||◌}
+use mathlib.Core.Bool.{Bool, true, false, not, cond, ◌&&◌, ◌||◌, and-false, or-true, or-false}
 use mathlib.Core.List.{List, [], ◌∷◌, ◌++◌, append_assoc}
 use native.Mathlib.Omega.{arith}
-use borrow.Author.Tests.{eq-eqb, ne_eqb, eqb-false}
+use borrow.Author.Tests.{eq-eqb, ne_eqb, eqb-false, eqb-true}
 use lib.Dec.{eqb}
 use lib.ListN.{length, drop, length-append}
+use Rattle.std.specs.Prelude.{Result, Ok, Err}
+use Rattle.std.specs.Result.{result_eq}
+use Rattle.layout.specs.declared.refusal.Refusal.{Refusal}
+use Rattle.layout.specs.declared.refusal.Refusal.TheVariants as refusal
+use Rattle.layout.specs.Reasons.{outcome}
+use Rattle.layout.specs.contracts.refusal.RefusalPartialEq.TheImpl.{eq-value}
 use Rattle.layout.specs.Refusals.{require, first_of}
 use Rattle.layout.specs.Bytes.{be32, part, splice, zeros}
 use Rattle.layout.specs.Geometry.{block_count}
@@ -17,7 +23,7 @@ use Rattle.layout.specs.Paths.{parts, path_ok, leading, last_part, shallow, home
 use Rattle.layout.specs.Walks.Looks.{form_refusal}
 use Rattle.layout.specs.Walks.Paths.{PathGiven, Spotted}
 use Rattle.layout.specs.Walks.Slots.{Stands, slot_from, entry_at}
-use Rattle.layout.proofs.Laws.Tests.{first_of-zero, true-not-false}
+use Rattle.layout.proofs.Laws.Tests.{first_of-zero, first_of-refused, true-not-false}
 use Rattle.layout.proofs.Laws.Bytes.{length-zeros, splice-append, splice-flat}
 use Rattle.layout.proofs.Laws.Sound.{sound}
 use Rattle.layout.proofs.Walks.Looks.{form-given}
@@ -29,21 +35,52 @@ use Rattle.volume.proofs.Walks.Slots.{drop-replicate}
 use Rattle.volume.specs.Walks.Moves.{either_form, slot_open, Prepares}
 
 -- THE FORMS of two paths
-pub either-nine : (x y : ℕ) → (eqb x 9 || eqb y 9) ≡ true → 9 ≡ either_form x y
-unfolding either_form
-either-nine x y t = rw t
+pub bad_argument : {T : Type 0} (same : T → T → Bool) (y : Result T Refusal) → result_eq same eq-value.it y (Err refusal.BadArgument) ≡ eqb (outcome y) 9
+bad_argument same (Ok given) = refl
+bad_argument same (Err refusal.BadLength) = refl
+bad_argument same (Err refusal.BadSignature) = refl
+bad_argument same (Err refusal.BadGeometry) = refl
+bad_argument same (Err refusal.BadSelf) = refl
+bad_argument same (Err refusal.BadSlot) = refl
+bad_argument same (Err refusal.BadChains) = refl
+bad_argument same (Err refusal.BadCounts) = refl
+bad_argument same (Err refusal.BadJournal) = refl
+bad_argument same (Err refusal.BadArgument) = refl
+bad_argument same (Err refusal.NotFound) = refl
+bad_argument same (Err refusal.NameTaken) = refl
+bad_argument same (Err refusal.BadOffset) = refl
+bad_argument same (Err refusal.DirectoryFull) = refl
+bad_argument same (Err refusal.VolumeFull) = refl
+bad_argument same (Err refusal.JournalFull) = refl
+bad_argument same (Err refusal.NothingToUndo) = refl
+bad_argument same (Err refusal.TooDeep) = refl
+bad_argument same (Err refusal.NotEmpty) = refl
+bad_argument same (Err refusal.BadList) = refl
+bad_argument same (Err refusal.TooManyBlocks) = refl
+bad_argument same (Err refusal.BadTableSize) = refl
+bad_argument same (Err refusal.BadSettings) = refl
+bad_argument same (Err refusal.NoRevision) = refl
+bad_argument same (Err refusal.NotSettings) = refl
+bad_argument same (Err refusal.RevisionsUsed) = refl
+bad_argument same (Err refusal.BadFlags) = refl
+bad_argument same (Err refusal.NoMark) = refl
 
-pub either_first : (x y : ℕ) → (eqb x 9 || eqb y 9) ≡ false → (x ≡ 0 → ⊥) → x ≡ either_form x y
+-- as the code takes its tests: y is 9; x refuses; only y may
+pub either-nine : (x y : ℕ) → eqb y 9 ≡ true → y ≡ either_form x y
 unfolding either_form
-either_first x y t ne = rw t (sym (first x ne))
+either-nine x y t = rw (t, or-true (eqb x 9)) (eqb-true y 9 t)
+
+pub either_first : (x y : ℕ) → eqb y 9 ≡ false → (x ≡ 0 → ⊥) → x ≡ either_form x y
+unfolding either_form
+either_first x y t ne = rw (t, or-false (eqb x 9)) (go (eqb x 9) refl)
   where
-    first : (x : ℕ) → (x ≡ 0 → ⊥) → first_of x y ≡ x
-    first zero h = absurd (h refl)
-    first (suc x) h = refl
+    go : (z : Bool) → eqb x 9 ≡ z → x ≡ cond z 9 (first_of x y)
+    go true e = eqb-true x 9 e
+    go false e = sym (first_of-refused x y ne)
 
-pub either_second : (x y : ℕ) → (eqb x 9 || eqb y 9) ≡ false → x ≡ 0 → y ≡ either_form x y
+pub either_second : (y : ℕ) → eqb y 9 ≡ false → y ≡ either_form 0 y
 unfolding either_form
-either_second x y t z = rw (t, z)
+either_second y t = rw t
 
 either-both : (a b c d : Bool) → either_form (require a 9 (require b 17 0)) (require c 9 (require d 17 0)) ≡ require (a && c) 9 (require (b && d) 17 0)
 unfolding either_form
@@ -69,19 +106,7 @@ form-first true false rest ne = refl
 form-first false b rest ne = refl
 
 -- THE REFUSALS, in the order of the code
-none_of : (a b : Bool) (rest : ℕ) → (a || b) ≡ true → 10 ≡ require (not a && not b) 10 rest
-none_of true b rest t = refl
-none_of false true rest t = refl
-none_of false false rest t = absurd (true-not-false {a = false} t refl)
-
-neither : (a b : Bool) → (a || b) ≡ false → (a ≡ false) × (b ≡ false)
-neither true b t = absurd (true-not-false {a = true} refl t)
-neither false b t = (refl, t)
-
 module _ (s path to : List ℕ) where
-  pub refused-move : {number slot block k b : ℕ} → number ≡ move_refusal s path to → (number ≡ 0 → ⊥) → Prepares s path to number slot block k b
-  refused-move e ne = record { number_is = e; moving = λ z. absurd (ne z) }
-
   module _ {x y r : ℕ} (p : x ≡ form_refusal path) (q : y ≡ form_refusal to) (e : r ≡ either_form x y) where
     pub refused-forms : (r ≡ 0 → ⊥) → r ≡ move_refusal s path to
     unfolding form_refusal move_refusal
@@ -95,47 +120,55 @@ module _ (s path to : List ℕ) where
     pub forms-fine : r ≡ 0 → check s ≡ 0 → PathGiven s path × PathGiven s to
     forms-fine z ok = let w = either-zero x y (sym e ∙ z) in (form-given s path ok (sym w.0 ∙ p), form-given s to ok (sym w.1 ∙ q))
 
-  module _ (P : PathGiven s path) (Q : PathGiven s to) {h₀ k b h named m : ℕ} (f : Spotted is_file s path h₀ k b) (g : Spotted is_used s to h named m) where
-    pub nothing-there : (eqb k 0 || eqb h 0) ≡ true → 10 ≡ move_refusal s path to
+  module _ (P : PathGiven s path) (Q : PathGiven s to) where
+    pub no-file : path_slot is_file s path ≡ 0 → 10 ≡ move_refusal s path to
     unfolding move_refusal
-    nothing-there t = rw (P.good, Q.good, P.few, Q.few, ← f.stands.slot, ← g.there) (none_of (eqb k 0) (eqb h 0) _ t)
+    no-file z = rw (P.good, Q.good, P.few, Q.few, z)
 
-    module _ (t : (eqb k 0 || eqb h 0) ≡ false) where
-      both : (eqb k 0 ≡ false) × (eqb h 0 ≡ false)
-      both = neither (eqb k 0) (eqb h 0) t
+    pub no-home : home s to ≡ 0 → 10 ≡ move_refusal s path to
+    unfolding move_refusal
+    no-home z = rw (P.good, Q.good, P.few, Q.few, z, and-false (not (eqb (path_slot is_file s path) 0)))
 
-      pub home-there : h ≡ 0 → ⊥
-      home-there = eqb-false h 0 both.1
-
-      pub is-taken : (named ≡ 0 → ⊥) → 11 ≡ move_refusal s path to
-      unfolding move_refusal
-      is-taken u = rw (P.good, Q.good, P.few, Q.few, ← f.stands.slot, ← g.there, both.0, both.1, ← g.stands.slot, ne_eqb named 0 u)
-
+    module _ {k b : ℕ} (f : Stands (directory s (home s path)) (block_count s) (path_slot is_file s path) k b) (ne : k ≡ 0 → ⊥) where
       own_block : (b < block_count s) × (entry_at b k ≡ entry_of is_file s path)
       unfolding entry_of
-      own_block = let w = f.stands.block (eqb-false k 0 both.0) in (w.0, w.1 ∙ ap (slot_at (directory s (home s path))) f.stands.slot)
+      own_block = let w = f.block ne in (w.0, w.1 ∙ ap (slot_at (directory s (home s path))) f.slot)
 
       -- where the entry begins is a number of 64 bits
       pub own-small : b < 65536
       own-small = let w = own_block.0 in let m = (sound s P.sound).most in omega arith
 
-      module _ (z : named ≡ 0) {j a : ℕ} (st : Stands (directory s h) (block_count s) (open_slot s (directory s h) (entry_at b k)) j a) where
-        slot_is : j ≡ move_slot s path to
-        unfolding move_slot
-        slot_is = st.slot ∙ rw (own_block.1, ← g.there)
-
-        pub none_open : j ≡ 0 → 13 ≡ move_refusal s path to
+      module _ {h named m : ℕ} (g : Spotted is_used s to h named m) (there : h ≡ 0 → ⊥) where
+        pub is-taken : (named ≡ 0 → ⊥) → 11 ≡ move_refusal s path to
         unfolding move_refusal
-        none_open q = rw (P.good, Q.good, P.few, Q.few, ← f.stands.slot, ← g.there, both.0, both.1, ← g.stands.slot, eq-eqb named 0 z, ← slot_is, eq-eqb j 0 q)
+        is-taken u = rw (P.good, Q.good, P.few, Q.few, ← f.slot, ← g.there, ne_eqb k 0 ne, ne_eqb h 0 there, ← g.stands.slot, ne_eqb named 0 u)
 
-        pub place-open : (j ≡ 0 → ⊥) → Prepares s path to 0 j a k b
-        unfolding move_refusal move_place
-        place-open q =
-            let w = st.block q in
-            record {
-              number_is = rw (P.good, Q.good, P.few, Q.few, ← f.stands.slot, ← g.there, both.0, both.1, ← g.stands.slot, eq-eqb named 0 z, ← slot_is, ne_eqb j 0 q);
-              moving = λ y. record { lowest = slot_is; low = st.low; inside = w.0; here = rw (← g.there, ← slot_is) w.1; old-inside = own_block.0; old = own_block.1 };
-            }
+        module _ (z : named ≡ 0) {j a : ℕ} (st : Stands (directory s h) (block_count s) (open_slot s (directory s h) (entry_at b k)) j a) where
+          slot_is : j ≡ move_slot s path to
+          unfolding move_slot
+          slot_is = st.slot ∙ rw (own_block.1, ← g.there)
+
+          pub none_open : j ≡ 0 → 13 ≡ move_refusal s path to
+          unfolding move_refusal
+          none_open q =
+              rw (P.good, Q.good, P.few, Q.few, ← f.slot, ← g.there, ne_eqb k 0 ne, ne_eqb h 0 there, ← g.stands.slot, eq-eqb named 0 z, ← slot_is, eq-eqb j 0 q)
+
+          pub place-open : (j ≡ 0 → ⊥) → Prepares s path to 0 j a k b
+          unfolding move_refusal move_place
+          place-open q =
+              let w = st.block q in
+              record {
+                number_is = rw (P.good, Q.good, P.few, Q.few, ← f.slot, ← g.there, ne_eqb k 0 ne, ne_eqb h 0 there, ← g.stands.slot, eq-eqb named 0 z, ← slot_is, ne_eqb j 0 q);
+                moving =
+                    λ y. record {
+                      lowest = slot_is;
+                      low = st.low;
+                      inside = w.0;
+                      here = rw (← g.there, ← slot_is) w.1;
+                      old-inside = own_block.0;
+                      old = own_block.1;
+                    };
+              }
 
 -- THE SLOT, turn by turn
 pub open-from : (s ds : List ℕ) (own d : ℕ) → length ds ≡ d → open_slot s ds own ≡ slot_from (slot_open s own) ds 1 (4 * d - 2)
@@ -178,9 +211,3 @@ module _ {s path to : List ℕ} {slot block k b : ℕ} (M : Moving s path to slo
 
 pub length-renamed : (head name : List ℕ) → length head ≡ 48 → length name ≤ 80 → length (head ++ padded name) ≡ 128
 length-renamed head name l h = simp (length-append, length-zeros) (omega arith)
-
--- the same of the directory that begins at block b, whose number of blocks was read
-pub open-read : (s : List ℕ) (n b own d : ℕ) → d ≡ be32 s (entry_at b 0 + 12) → (k a : ℕ)
-    → Stands (chain (next s) b d) n (open_slot s (chain (next s) b d) own) k a → Stands (directory s b) n (open_slot s (directory s b) own) k a
-unfolding directory
-open-read s n b own d e k a st = let z : entry_at b 0 + 12 ≡ 512 * b + 12 = omega arith in rw (← (e ∙ ap (be32 s) z)) st

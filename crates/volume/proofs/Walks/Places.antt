@@ -9,9 +9,14 @@ use Rattle.layout.specs.Refusals.{require, first_of}
 use Rattle.layout.specs.Geometry.{block_count}
 use Rattle.layout.specs.Directory.{blocks_of, is_used, free_slot, directory}
 use Rattle.layout.specs.Walks.Shapes.{DirectoryAt}
-use Rattle.layout.specs.Walks.Paths.{PathGiven, Spotted}
-use Rattle.layout.specs.Walks.Slots.{Stands}
-use Rattle.layout.proofs.Laws.Tests.{require-zero, first_of-zero}
+use Rattle.std.specs.Prelude.{Option, Some, None}
+use Rattle.std.specs.Option.{is_some}
+use Rattle.layout.specs.declared.directory.Entry.{Entry}
+use Rattle.layout.specs.declared.path.Spot.{Spot}
+use Rattle.layout.specs.Paths.{home, path_slot}
+use Rattle.layout.specs.Walks.Paths.{PathGiven, Spotted, SpottedAt}
+use Rattle.layout.specs.Walks.Slots.{Stands, StandsAt}
+use Rattle.layout.proofs.Laws.Tests.{require-zero, first_of-zero, true-not-false}
 use Rattle.layout.proofs.Walks.Homes.{given-home}
 use Rattle.volume.specs.Create.{place_refusal, create_slot, place}
 use Rattle.volume.specs.Walks.Places.{brought_refusal, Searched}
@@ -33,6 +38,23 @@ refused-place e ne = record { number_is = e; vacant = λ z. absurd (ne z) }
 
 pub place-as : {s path : List ℕ} {refusal refusal' number h k b : ℕ} → refusal ≡ refusal' → Searched s path refusal number h k b → Searched s path refusal' number h k b
 place-as e f = record { number_is = f.number_is ∙ e; vacant = f.vacant }
+
+-- a path that leads to a directory, with an entry there of its name or none
+module _ (type : ℕ → Bool) (s path : List ℕ) (spot : Spot) (p : SpottedAt type s path (Some spot)) where
+  pub spotted-some : true ≡ is_some spot.entry → (k : ℕ) × (b : ℕ) × Spotted type s path spot.home k b × (k ≡ 0 → ⊥)
+  spotted-some = go spot.entry p.2
+    where
+      go : (r : Option Entry) → StandsAt (directory s (home s path)) (block_count s) (path_slot type s path) r → true ≡ is_some r
+          → (k : ℕ) × (b : ℕ) × Spotted type s path spot.home k b × (k ≡ 0 → ⊥)
+      go (Some e) st t = (e.slot, e.block, record { there = p.0; stands = st.0 }, st.1)
+      go None st t = absurd (true-not-false {a = true} refl t)
+
+  pub spotted-free : false ≡ is_some spot.entry → Spotted type s path spot.home 0 0
+  spotted-free = go spot.entry p.2
+    where
+      go : (r : Option Entry) → StandsAt (directory s (home s path)) (block_count s) (path_slot type s path) r → false ≡ is_some r → Spotted type s path spot.home 0 0
+      go (Some e) st t = absurd (true-not-false {a = true} refl (sym t))
+      go None st t = record { there = p.0; stands = st }
 
 module _ {s path : List ℕ} {h k b : ℕ} (sp : Spotted is_used s path h k b) where
   pub home-none : h ≡ 0 → 10 ≡ place_refusal s path

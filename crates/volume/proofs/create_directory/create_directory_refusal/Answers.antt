@@ -1,44 +1,43 @@
-use mathlib.Core.Path.{◌≡◌, sym, ap, ◌∙◌}
-use mathlib.Core.Bool.{true, false}
-use Prim.Native.Nat.{ℕ}
-use native.Mathlib.Omega.{arith}
-use borrow.Author.Tests.{not-true, not-false}
+use Rattle.std.proofs.Common.{ℕ, refl, sym, ap, subst, ◌∙◌, arith}
+use Rattle.std.proofs.lemmas.Result.{err_from_is_err_and}
+use Rattle.layout.specs.Reasons.{number_of, outcome}
+use Rattle.layout.proofs.Laws.Reasons.{reason}
 use Rattle.layout.proofs.Walks.Looks.{whole-given}
 use Rattle.layout.proofs.Walks.Shapes.{sound-shape}
 use Rattle.volume.specs.Walks.Places.{brought_refusal}
-use Rattle.volume.proofs.Walks.Places.{brought-fine, refused-place, place-as}
+use Rattle.volume.proofs.Walks.Places.{brought-fine, place-as}
 use Rattle.volume.proofs.Walks.CreateDirectory.{create-directory-shape, create-directory-brought, create-directory-place, create-directory-full, create-directory-fine}
 use Rattle.volume.proofs.create_directory.create_directory_refusal.Goals as goal
 
 pub returns-then-not-shaped : goal.returns-then-not-shaped
 returns-then-not-shaped c =
     let a = c.args in
-    let f : c.shaped.result ≡ false = not-true _ c.if-not-shaped.true-raw in
-    let n = c.refused.ensures.0 in
-    refused-place (n ∙ create-directory-shape a.image.now a.path.now a.kind a.flags a.d (sym f ∙ c.shaped.ensures)) (λ z. omega (arith, n))
+    create-directory-shape a.image.now a.path.now a.kind a.flags a.d (sym c.if-not-shaped.true ∙ c.shaped.ensures)
 
-pub returns-then-brought-ne0 : goal.returns-then-brought-ne0
-returns-then-brought-ne0 c =
+pub returns-in_err-brought_refusal : goal.returns-in_err-brought_refusal
+returns-in_err-brought_refusal c =
     let a = c.args in
-    let f : c.shaped.result ≡ true = not-false _ c.if-not-shaped.false-raw in
-    let n = c.refused-then-brought-ne0.ensures.0 in
-    refused-place
-    (n ∙ create-directory-brought a.image.now a.path.now a.kind a.flags a.d (sym f ∙ c.shaped.ensures) _
-    (c.brought_refusal-brought.ensures ∙ ap (λ (x : ℕ). brought_refusal x a.flags) c.whole_path_refusal-form.ensures) c.if-brought-ne0.true)
-    (λ z. c.if-brought-ne0.true (sym n ∙ z))
+    let why = c.in_err-brought_refusal.field-0.0 in
+    let q = err_from_is_err_and c.from_residual.result c.from_residual.ensures.1 in
+    rw (q.1, q.2)
+    (create-directory-brought a.image.now a.path.now a.kind a.flags a.d (sym c.if-not-shaped.false ∙ c.shaped.ensures) (number_of why)
+    (c.in_err-brought_refusal.ensures ∙ ap (λ (x : ℕ). brought_refusal x a.flags) c.whole_path_refusal.ensures) (reason why))
 
-pub find_place-p-requires : goal.find_place-p-requires
-find_place-p-requires c =
-    let b = brought-fine _ _ _ c.brought_refusal-brought.ensures c.if-brought-ne0.false in
-    whole-given _ _ c.requires (b.0 ∙ c.whole_path_refusal-form.ensures)
+pub find_place-requires : goal.find_place-requires
+find_place-requires c =
+    let b = brought-fine (outcome c.whole_path_refusal.result) c.args.flags 0 c.in_ok-brought_refusal.ensures refl in
+    whole-given _ _ c.requires (b.0 ∙ c.whole_path_refusal.ensures)
 
-pub returns-then-number-ne0 : goal.returns-then-number-ne0
-returns-then-number-ne0 c =
+pub returns-in_err-place : goal.returns-in_err-place
+returns-in_err-place c =
     let a = c.args in
-    let f : c.shaped.result ≡ true = not-false _ c.if-not-shaped.false-raw in
-    let b = brought-fine _ _ _ c.brought_refusal-brought.ensures c.if-brought-ne0.false in
-    let o = c.find_place-p.ensures in
-    place-as (create-directory-place a.image.now a.path.now a.kind a.flags a.d (sym f ∙ c.shaped.ensures) (b.0 ∙ c.whole_path_refusal-form.ensures) b.1 (λ z. c.if-number-ne0.true (o.number_is ∙ z))) o
+    let why = c.in_err-place.field-0.0 in
+    let e = c.in_err-place.ensures in
+    let b = brought-fine (outcome c.whole_path_refusal.result) a.flags 0 c.in_ok-brought_refusal.ensures refl in
+    let q = err_from_is_err_and c.from_residual-in_err-place.result c.from_residual-in_err-place.ensures.1 in
+    rw (q.1, q.2)
+    (e ∙ create-directory-place a.image.now a.path.now a.kind a.flags a.d (sym c.if-not-shaped.false ∙ c.shaped.ensures) (b.0 ∙ c.whole_path_refusal.ensures) b.1
+    (λ z. reason why (e ∙ z)))
 
 pub header_number-requires : goal.header_number-requires
 header_number-requires c =
@@ -48,19 +47,17 @@ header_number-requires c =
 pub returns-then-header_number-d : goal.returns-then-header_number-d
 returns-then-header_number-d c =
     let a = c.args in
-    let f : c.shaped.result ≡ true = not-false _ c.if-not-shaped.false-raw in
-    let b = brought-fine _ _ _ c.brought_refusal-brought.ensures c.if-brought-ne0.false in
-    let n = c.refused-then-header_number-d.ensures.0 in
-    refused-place
-    (n ∙ create-directory-full a.image.now a.path.now a.kind a.flags a.d (sym f ∙ c.shaped.ensures) (b.0 ∙ c.whole_path_refusal-form.ensures) b.1
-    (sym c.find_place-p.ensures.number_is ∙ c.if-number-ne0.false) c.requires _ c.header_number.ensures c.if-header_number-d.true)
-    (λ z. omega (arith, n))
+    let b = brought-fine (outcome c.whole_path_refusal.result) a.flags 0 c.in_ok-brought_refusal.ensures refl in
+    create-directory-full a.image.now a.path.now a.kind a.flags a.d (sym c.if-not-shaped.false ∙ c.shaped.ensures) (b.0 ∙ c.whole_path_refusal.ensures) b.1
+    (sym c.in_ok-place.ensures.number_is) c.requires _ c.header_number.ensures c.if-header_number-d.true
 
 pub returns : goal.returns
 returns c =
     let a = c.args in
-    let f : c.shaped.result ≡ true = not-false _ c.if-not-shaped.false-raw in
-    let b = brought-fine _ _ _ c.brought_refusal-brought.ensures c.if-brought-ne0.false in
-    let o = c.find_place-p.ensures in
-    let z = sym o.number_is ∙ c.if-number-ne0.false in
-    place-as (z ∙ create-directory-fine a.image.now a.path.now a.kind a.flags a.d (sym f ∙ c.shaped.ensures) (b.0 ∙ c.whole_path_refusal-form.ensures) b.1 z c.requires _ c.header_number.ensures c.if-header_number-d.false) o
+    let b = brought-fine (outcome c.whole_path_refusal.result) a.flags 0 c.in_ok-brought_refusal.ensures refl in
+    let o = c.in_ok-place.ensures in
+    let z = sym o.number_is in
+    place-as
+    (z ∙ create-directory-fine a.image.now a.path.now a.kind a.flags a.d (sym c.if-not-shaped.false ∙ c.shaped.ensures) (b.0 ∙ c.whole_path_refusal.ensures) b.1 z c.requires
+    _ c.header_number.ensures c.if-header_number-d.false)
+    o

@@ -1,14 +1,18 @@
-use Rattle.volume.proofs.Walks.Move.{either-nine, either_first, either_second}
+use Rattle.std.proofs.Common.{ℕ, ◌≡◌, sym, ◌∙◌}
+use Rattle.std.proofs.lemmas.Result.{err_from_is_err_and}
+use Rattle.layout.specs.Reasons.{number_of, outcome}
+use Rattle.layout.proofs.Laws.Reasons.{reason}
+use Rattle.volume.proofs.Walks.Move.{bad_argument, either-nine, either_first, either_second}
 use Rattle.volume.proofs.moving.either_form.Goals as goal
 
--- src/moving.rt:28:9
-pub returns-then-x-y : goal.returns-then-x-y
-returns-then-x-y c = either-nine _ _ c.if-x-y.true
+pub returns-then-eq : goal.returns-then-eq
+returns-then-eq c = either-nine _ _ (sym (bad_argument _ c.args.y) ∙ sym c.if-eq.ensures)
 
--- src/moving.rt:31:9
-pub returns-then-x-ne0 : goal.returns-then-x-ne0
-returns-then-x-ne0 c = either_first _ _ c.if-x-y.false c.if-x-ne0.true
+pub returns-in_err-x : goal.returns-in_err-x
+returns-in_err-x c =
+    let why = c.in_err-x.field-0.0 in
+    let q = err_from_is_err_and c.from_residual.result c.from_residual.ensures.1 in
+    rw (c.in_err-x.was, q.1, q.2) (either_first (number_of why) (outcome c.args.y) (sym (bad_argument _ c.args.y) ∙ sym c.if-eq.ensures) (reason why))
 
--- src/moving.rt:24:1
 pub returns : goal.returns
-returns c = either_second _ _ c.if-x-y.false c.if-x-ne0.false
+returns c = rw c.in_ok-x.was (either_second (outcome c.args.y) (sym (bad_argument _ c.args.y) ∙ sym c.if-eq.ensures))

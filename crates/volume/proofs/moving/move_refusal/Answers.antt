@@ -1,71 +1,71 @@
-use mathlib.Core.Path.{◌∙◌, sym}
-use native.Mathlib.Omega.{arith}
-use Rattle.volume.proofs.Walks.Places.{home_at}
-use Rattle.volume.proofs.Walks.Move.{refused-move, refused-forms, forms-fine, nothing-there, home-there, is-taken, none_open, place-open, own-small}
+use Rattle.std.proofs.Common.{refl, sym, ◌∙◌}
+use Rattle.std.proofs.lemmas.Result.{err_from_is_err_and}
+use Rattle.layout.specs.Directory.{is_used}
+use Rattle.layout.proofs.Laws.Reasons.{reason}
+use Rattle.volume.proofs.Walks.Places.{home_at, spotted-some, spotted-free}
+use Rattle.volume.proofs.Walks.Move.{refused-forms, forms-fine, no-file, no-home, is-taken, none_open, place-open}
 use Rattle.volume.proofs.moving.move_refusal.Goals as goal
 
-pub returns-then-form-ne0 : goal.returns-then-form-ne0
-returns-then-form-ne0 c =
+pub returns-in_err-either_form : goal.returns-in_err-either_form
+returns-in_err-either_form c =
     let a = c.args in
-    let n = c.refused.ensures.0 in
-    refused-move _ _ _ (n ∙ refused-forms a.image.now a.path.now a.to.now c.path_refusal.ensures c.path_refusal-2.ensures c.either_form-form.ensures c.if-form-ne0.true) (λ z. c.if-form-ne0.true (sym n ∙ z))
+    let why = c.in_err-either_form.field-0.0 in
+    let q = err_from_is_err_and c.from_residual.result c.from_residual.ensures.1 in
+    rw (q.1, q.2) (refused-forms a.image.now a.path.now a.to.now c.path_refusal.ensures c.path_refusal-2.ensures c.in_err-either_form.ensures (reason why))
 
-pub follow_path-f-requires : goal.follow_path-f-requires
-follow_path-f-requires c =
+pub find_path-requires : goal.find_path-requires
+find_path-requires c =
     let a = c.args in
-    (forms-fine a.image.now a.path.now a.to.now c.path_refusal.ensures c.path_refusal-2.ensures c.either_form-form.ensures c.if-form-ne0.false c.requires).0
+    (forms-fine a.image.now a.path.now a.to.now c.path_refusal.ensures c.path_refusal-2.ensures c.in_ok-either_form.ensures refl c.requires).0
 
-pub follow_used-g-requires : goal.follow_used-g-requires
-follow_used-g-requires c =
+pub returns-in_default : goal.returns-in_default
+returns-in_default c =
     let a = c.args in
-    (forms-fine a.image.now a.path.now a.to.now c.path_refusal.ensures c.path_refusal-2.ensures c.either_form-form.ensures c.if-form-ne0.false c.requires).1
+    let g = forms-fine a.image.now a.path.now a.to.now c.path_refusal.ensures c.path_refusal-2.ensures c.in_ok-either_form.ensures refl c.requires in
+    no-file a.image.now a.path.now a.to.now g.0 g.1 (sym c.in_default.ensures.slot)
 
-pub returns-then-k-h : goal.returns-then-k-h
-returns-then-k-h c =
+pub follow_used-requires : goal.follow_used-requires
+follow_used-requires c =
     let a = c.args in
-    let g = forms-fine a.image.now a.path.now a.to.now c.path_refusal.ensures c.path_refusal-2.ensures c.either_form-form.ensures c.if-form-ne0.false c.requires in
-    let n = c.refused-then-k-h.ensures.0 in
-    refused-move _ _ _ (n ∙ nothing-there a.image.now a.path.now a.to.now g.0 g.1 c.follow_path-f.ensures c.follow_used-g.ensures c.if-k-h.true) (λ z. omega (arith, n))
+    (forms-fine a.image.now a.path.now a.to.now c.path_refusal.ensures c.path_refusal-2.ensures c.in_ok-either_form.ensures refl c.requires).1
 
-pub returns-then-named-ne0 : goal.returns-then-named-ne0
-returns-then-named-ne0 c =
+pub returns-in_default-follow_used : goal.returns-in_default-follow_used
+returns-in_default-follow_used c =
     let a = c.args in
-    let g = forms-fine a.image.now a.path.now a.to.now c.path_refusal.ensures c.path_refusal-2.ensures c.either_form-form.ensures c.if-form-ne0.false c.requires in
-    let n = c.refused-then-named-ne0.ensures.0 in
-    refused-move _ _ _ (n ∙ is-taken a.image.now a.path.now a.to.now g.0 g.1 c.follow_path-f.ensures c.follow_used-g.ensures c.if-k-h.false c.if-named-ne0.true) (λ z. omega (arith, n))
+    let g = forms-fine a.image.now a.path.now a.to.now c.path_refusal.ensures c.path_refusal-2.ensures c.in_ok-either_form.ensures refl c.requires in
+    no-home a.image.now a.path.now a.to.now g.0 g.1 c.in_default-follow_used.ensures
 
-pub overflow_mul-b : goal.overflow_mul-b
-overflow_mul-b c =
+pub returns-then-is_some : goal.returns-then-is_some
+returns-then-is_some c =
     let a = c.args in
-    let g = forms-fine a.image.now a.path.now a.to.now c.path_refusal.ensures c.path_refusal-2.ensures c.either_form-form.ensures c.if-form-ne0.false c.requires in
-    let b = own-small a.image.now a.path.now a.to.now g.0 g.1 c.follow_path-f.ensures c.follow_used-g.ensures c.if-k-h.false in
-    omega arith
+    let g = forms-fine a.image.now a.path.now a.to.now c.path_refusal.ensures c.path_refusal-2.ensures c.in_ok-either_form.ensures refl c.requires in
+    let own = c.in-Some.ensures in
+    let e = c.in-Some-follow_used.ensures in
+    let t = spotted-some is_used _ _ c.in-Some-follow_used.spot e c.if-is_some.ensures in
+    is-taken a.image.now a.path.now a.to.now g.0 g.1 own.0 own.1 t.2 e.1 t.3
 
-pub overflow_mul-k : goal.overflow_mul-k
-overflow_mul-k c = omega arith
-
-pub overflow_add-b : goal.overflow_add-b
-overflow_add-b c =
+pub open_slot-requires : goal.open_slot-requires
+open_slot-requires c =
     let a = c.args in
-    let g = forms-fine a.image.now a.path.now a.to.now c.path_refusal.ensures c.path_refusal-2.ensures c.either_form-form.ensures c.if-form-ne0.false c.requires in
-    let b = own-small a.image.now a.path.now a.to.now g.0 g.1 c.follow_path-f.ensures c.follow_used-g.ensures c.if-k-h.false in
-    omega arith
+    let g = forms-fine a.image.now a.path.now a.to.now c.path_refusal.ensures c.path_refusal-2.ensures c.in_ok-either_form.ensures refl c.requires in
+    let e = c.in-Some-follow_used.ensures in
+    home_at (spotted-free is_used _ _ c.in-Some-follow_used.spot e c.if-is_some.ensures) e.1 g.1
 
-pub open_slot-e-requires : goal.open_slot-e-requires
-open_slot-e-requires c =
+pub returns-in_default-open_slot : goal.returns-in_default-open_slot
+returns-in_default-open_slot c =
     let a = c.args in
-    let g = forms-fine a.image.now a.path.now a.to.now c.path_refusal.ensures c.path_refusal-2.ensures c.either_form-form.ensures c.if-form-ne0.false c.requires in
-    home_at c.follow_used-g.ensures (home-there a.image.now a.path.now a.to.now g.0 g.1 c.follow_path-f.ensures c.follow_used-g.ensures c.if-k-h.false) g.1
-
-pub returns-then-j-eq0 : goal.returns-then-j-eq0
-returns-then-j-eq0 c =
-    let a = c.args in
-    let g = forms-fine a.image.now a.path.now a.to.now c.path_refusal.ensures c.path_refusal-2.ensures c.either_form-form.ensures c.if-form-ne0.false c.requires in
-    let n = c.refused-then-j-eq0.ensures.0 in
-    refused-move _ _ _ (n ∙ none_open a.image.now a.path.now a.to.now g.0 g.1 c.follow_path-f.ensures c.follow_used-g.ensures c.if-k-h.false c.if-named-ne0.false c.open_slot-e.ensures c.if-j-eq0.true) (λ z. omega (arith, n))
+    let g = forms-fine a.image.now a.path.now a.to.now c.path_refusal.ensures c.path_refusal-2.ensures c.in_ok-either_form.ensures refl c.requires in
+    let own = c.in-Some.ensures in
+    let e = c.in-Some-follow_used.ensures in
+    let free = spotted-free is_used _ _ c.in-Some-follow_used.spot e c.if-is_some.ensures in
+    none_open a.image.now a.path.now a.to.now g.0 g.1 own.0 own.1 free e.1 refl c.in_default-open_slot.ensures refl
 
 pub returns : goal.returns
 returns c =
     let a = c.args in
-    let g = forms-fine a.image.now a.path.now a.to.now c.path_refusal.ensures c.path_refusal-2.ensures c.either_form-form.ensures c.if-form-ne0.false c.requires in
-    place-open a.image.now a.path.now a.to.now g.0 g.1 c.follow_path-f.ensures c.follow_used-g.ensures c.if-k-h.false c.if-named-ne0.false c.open_slot-e.ensures c.if-j-eq0.false
+    let g = forms-fine a.image.now a.path.now a.to.now c.path_refusal.ensures c.path_refusal-2.ensures c.in_ok-either_form.ensures refl c.requires in
+    let own = c.in-Some.ensures in
+    let e = c.in-Some-follow_used.ensures in
+    let free = spotted-free is_used _ _ c.in-Some-follow_used.spot e c.if-is_some.ensures in
+    let slot = c.in-Some-open_slot.ensures in
+    place-open a.image.now a.path.now a.to.now g.0 g.1 own.0 own.1 free e.1 refl slot.0 slot.1

@@ -1,25 +1,32 @@
-use native.Mathlib.Omega.{arith}
-use mathlib.Core.Path.{◌∙◌}
-use Rattle.volume.proofs.Walks.Places.{refused-place, home-none, name-taken, home_at, slots-full, place_found}
+use Rattle.std.proofs.Common.{refl, sym}
+use Rattle.volume.proofs.Walks.Places.{home-none, name-taken, home_at, slots-full, place_found, spotted-some, spotted-free}
+use Rattle.layout.proofs.Walks.Homes.{spotted-none}
+use Rattle.layout.specs.Directory.{is_used}
 use Rattle.volume.proofs.place.find_place.Goals as goal
 
-pub returns-then-h-eq0 : goal.returns-then-h-eq0
-returns-then-h-eq0 c =
-    let f = c.refused.ensures.0 in
-    refused-place (f ∙ home-none c.follow_used-f.ensures c.if-h-eq0.true) (λ z. omega (arith, f))
+pub returns-in_default : goal.returns-in_default
+returns-in_default c =
+    let a = c.args in
+    home-none (spotted-none a.image.now a.path.now c.requires is_used 0 (sym c.in_default.ensures) refl) refl
 
-pub returns-then-named-ne0 : goal.returns-then-named-ne0
-returns-then-named-ne0 c =
-    let f = c.refused-then-named-ne0.ensures.0 in
-    refused-place (f ∙ name-taken c.follow_used-f.ensures c.if-h-eq0.false c.if-named-ne0.true) (λ z. omega (arith, f))
+pub returns-then-is_some : goal.returns-then-is_some
+returns-then-is_some c =
+    let e = c.in-Some.ensures in
+    let t = spotted-some is_used _ _ c.in-Some.spot e c.if-is_some.ensures in
+    name-taken t.2 e.1 t.3
 
-pub free_slot-g-requires : goal.free_slot-g-requires
-free_slot-g-requires c = home_at c.follow_used-f.ensures c.if-h-eq0.false c.requires
+pub free_slot-requires : goal.free_slot-requires
+free_slot-requires c =
+    let e = c.in-Some.ensures in
+    home_at (spotted-free is_used _ _ c.in-Some.spot e c.if-is_some.ensures) e.1 c.requires
 
-pub returns-then-k-eq0 : goal.returns-then-k-eq0
-returns-then-k-eq0 c =
-    let f = c.refused-then-k-eq0.ensures.0 in
-    refused-place (f ∙ slots-full c.follow_used-f.ensures c.if-h-eq0.false c.if-named-ne0.false c.free_slot-g.ensures c.if-k-eq0.true) (λ z. omega (arith, f))
+pub returns-in_default-free_slot : goal.returns-in_default-free_slot
+returns-in_default-free_slot c =
+    let e = c.in-Some.ensures in
+    slots-full (spotted-free is_used _ _ c.in-Some.spot e c.if-is_some.ensures) e.1 refl c.in_default-free_slot.ensures refl
 
 pub returns : goal.returns
-returns c = place_found c.follow_used-f.ensures c.if-h-eq0.false c.if-named-ne0.false c.free_slot-g.ensures c.if-k-eq0.false
+returns c =
+    let e = c.in-Some.ensures in
+    let f = c.in-Some-free_slot.ensures in
+    place_found (spotted-free is_used _ _ c.in-Some.spot e c.if-is_some.ensures) e.1 refl f.0 f.1
