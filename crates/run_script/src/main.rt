@@ -4,7 +4,7 @@
 
 ghost use Rattle.std.specs.Counts.{IsPrefixLen};
 
-use script::runner::Ran;
+use script::runner::NotRun;
 use std::io;
 use std::io::Read;
 
@@ -17,11 +17,11 @@ const JOURNAL: usize = 16384;
 const ANSWERS: usize = 16384;
 
 // The byte that is written first; no rule has the numbers of M and R.
-fn status_of(ran: Ran) -> u8 {
+fn status_of(ran: Result<(), NotRun>) -> u8 {
     match ran {
-        Ran::Done => 0,
-        Ran::Malformed => b'M',
-        Ran::NoRoom => b'R',
+        Ok(()) => 0,
+        Err(NotRun::Malformed) => b'M',
+        Err(NotRun::NoRoom) => b'R',
     }
 }
 

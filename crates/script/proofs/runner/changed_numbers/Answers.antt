@@ -1,10 +1,12 @@
 use Rattle.script.specs.Script.{encoded}
 use Rattle.script.proofs.runner.changed_numbers.Goals as goal
 
-pub returns-in-Done : goal.returns-in-Done
+pub returns-in-Ok : goal.returns-in-Ok
 unfolding encoded
-returns-in-Done c = rw c.in-Done.is
+returns-in-Ok c = rw c.in-Ok.is
 
-pub returns-in-Refused : goal.returns-in-Refused
+pub returns-in-Err : goal.returns-in-Err
 unfolding encoded
-returns-in-Refused c = rw c.in-Refused.is
+returns-in-Err c =
+    let n = c.from.ensures in
+    rw (c.in-Err.is, n.0, n.1, n.2, n.3)
