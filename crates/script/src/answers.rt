@@ -52,6 +52,7 @@ impl From<Refusal> for Numbers {
 }
 
 // The numbers of a look-up's answer.
+#[tactic(auto, unfolding(crate::specs::Script::encoded))]
 fn found_numbers(answer: Result<Found, Refusal>) -> Numbers
     ensures { numbers result.first result.second result.third result.fourth ≡ encoded (found (lookup_answer answer)) }
 {
@@ -62,7 +63,7 @@ fn found_numbers(answer: Result<Found, Refusal>) -> Numbers
             third: file.size,
             fourth: file.blocks,
         },
-        Err(why) => Numbers::from(why),
+        Err(why) => why.into(),
     }
 }
 
@@ -100,7 +101,7 @@ fn filled_numbers(answer: Result<usize, Refusal>) -> Numbers
             second: count as u32,
             ..NO_NUMBERS
         },
-        Err(why) => Numbers::from(why),
+        Err(why) => why.into(),
     }
 }
 

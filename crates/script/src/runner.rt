@@ -21,6 +21,7 @@ use volume::change::Change as VolumeChange;
 use volume::create::Given;
 
 // The numbers of a change's answer.
+#[tactic(auto, unfolding(crate::specs::Script::encoded))]
 fn changed_numbers(answer: Result<Changed, Refusal>) -> Numbers
     ensures { numbers result.first result.second result.third result.fourth ≡ encoded (changed_answer answer) }
 {
@@ -30,11 +31,12 @@ fn changed_numbers(answer: Result<Changed, Refusal>) -> Numbers
             third: changed.size,
             ..NO_NUMBERS
         },
-        Err(why) => Numbers::from(why),
+        Err(why) => why.into(),
     }
 }
 
 // The numbers of undo's answer.
+#[tactic(auto, unfolding(crate::specs::Script::encoded))]
 fn undone_numbers(answer: Result<u32, Refusal>) -> Numbers
     ensures { numbers result.first result.second result.third result.fourth ≡ encoded (undone_answer answer) }
 {
@@ -43,7 +45,7 @@ fn undone_numbers(answer: Result<u32, Refusal>) -> Numbers
             third: size,
             ..NO_NUMBERS
         },
-        Err(why) => Numbers::from(why),
+        Err(why) => why.into(),
     }
 }
 
