@@ -58,7 +58,13 @@ fn change_ready_in(image: &mut [u8], journal: &mut [u8], asked: Asked) -> Result
     ensures answer { changed_answer result ≡ change_answer (state image.old journal.old) (asked_in asked.entry.what asked.entry.directory.now asked.entry.path.now asked.entry.bytes.now) }
     ensures state { state image.new journal.new ≡ after_change (state image.old journal.old) (asked_in asked.entry.what asked.entry.directory.now asked.entry.path.now asked.entry.bytes.now) }
 {
-    let found = store::change::refusal(image, asked.what, asked.directory, asked.path, asked.bytes)?;
+    let found = store::change::refusal(
+        image,
+        asked.what,
+        asked.directory,
+        asked.path,
+        asked.bytes,
+    )?;
     let Some(size) = super::naming::record_change(image, journal, asked, found) else {
         return Err(Refusal::JournalFull);
     };
@@ -209,7 +215,11 @@ pub fn create_directory(
 }
 
 // Delete directory: frees an empty directory's blocks and its slot.
-pub fn delete_directory(image: &mut [u8], journal: &mut [u8], path: &[u8]) -> Result<Changed, Refusal>
+pub fn delete_directory(
+    image: &mut [u8],
+    journal: &mut [u8],
+    path: &[u8],
+) -> Result<Changed, Refusal>
     ensures answer { changed_answer result ≡ change_answer (state image.old journal.old) (delete_directory path.now) }
     ensures state { state image.new journal.new ≡ after_change (state image.old journal.old) (delete_directory path.now) }
 {
@@ -223,7 +233,12 @@ pub fn delete_directory(image: &mut [u8], journal: &mut [u8], path: &[u8]) -> Re
 }
 
 // Set attributes: puts whole blocks of data beside a file, in place of those that it has.
-pub fn set_attributes(image: &mut [u8], journal: &mut [u8], path: &[u8], bytes: &[u8]) -> Result<Changed, Refusal>
+pub fn set_attributes(
+    image: &mut [u8],
+    journal: &mut [u8],
+    path: &[u8],
+    bytes: &[u8],
+) -> Result<Changed, Refusal>
     ensures answer { changed_answer result ≡ change_answer (state image.old journal.old) (set_attributes path.now bytes.now) }
     ensures state { state image.new journal.new ≡ after_change (state image.old journal.old) (set_attributes path.now bytes.now) }
 {
@@ -237,7 +252,11 @@ pub fn set_attributes(image: &mut [u8], journal: &mut [u8], path: &[u8], bytes: 
 }
 
 // Clear attributes: frees the blocks of a file's attributes.
-pub fn clear_attributes(image: &mut [u8], journal: &mut [u8], path: &[u8]) -> Result<Changed, Refusal>
+pub fn clear_attributes(
+    image: &mut [u8],
+    journal: &mut [u8],
+    path: &[u8],
+) -> Result<Changed, Refusal>
     ensures answer { changed_answer result ≡ change_answer (state image.old journal.old) (clear_attributes path.now) }
     ensures state { state image.new journal.new ≡ after_change (state image.old journal.old) (clear_attributes path.now) }
 {
@@ -265,7 +284,13 @@ pub fn clear_flags(image: &mut [u8], journal: &mut [u8], path: &[u8]) -> Result<
 }
 
 // Shorten: a file keeps its first bytes.
-pub fn shorten(image: &mut [u8], journal: &mut [u8], path: &[u8], size: usize, time: u64) -> Result<Changed, Refusal>
+pub fn shorten(
+    image: &mut [u8],
+    journal: &mut [u8],
+    path: &[u8],
+    size: usize,
+    time: u64,
+) -> Result<Changed, Refusal>
     ensures answer { changed_answer result ≡ change_answer (state image.old journal.old) (shorten path.now size time) }
     ensures state { state image.new journal.new ≡ after_change (state image.old journal.old) (shorten path.now size time) }
 {
@@ -289,7 +314,12 @@ pub fn replace(
 }
 
 // Move: the file of a path is then the file of another path.
-pub fn move_file(image: &mut [u8], journal: &mut [u8], path: &[u8], to: &[u8]) -> Result<Changed, Refusal>
+pub fn move_file(
+    image: &mut [u8],
+    journal: &mut [u8],
+    path: &[u8],
+    to: &[u8],
+) -> Result<Changed, Refusal>
     ensures answer { changed_answer result ≡ change_answer (state image.old journal.old) (move path.now to.now) }
     ensures state { state image.new journal.new ≡ after_change (state image.old journal.old) (move path.now to.now) }
 {

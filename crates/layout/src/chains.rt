@@ -2,7 +2,7 @@
 ghost use Rattle.std.specs.Prelude.{◌+◌, ◌-◌, ◌*◌, ◌≤◌, ◌<◌, ◌≡◌, length, get_or};
 ghost use Rattle.layout.specs.Table.{next};
 ghost use Rattle.layout.specs.Directory.{first_block, blocks_of};
-ghost use Rattle.layout.specs.Walks.Chains.{walked, follow, count_used, entry_used, bit};
+ghost use Rattle.layout.specs.Walks.Chains.{walked, follow, count_used};
 ghost use Rattle.layout.specs.Walks.Shapes.{Room};
 ghost use Rattle.layout.specs.Walks.Slots.{entry_at};
 ghost use Rattle.layout.specs.Walks.Stages.{follow_file, follow_slot, follow_slots, follow_blocks, TableUsed};

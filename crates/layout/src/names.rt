@@ -32,14 +32,12 @@ fn nearest(prints: &[usize], p: usize, from: usize, end: usize) -> usize
     requires { (from ≤ end) × (end ≤ length prints.now) }
     ensures { Nearest prints.now p from end result }
 {
-    let mut i = from;
-    while i < end {
+    for i in from..end {
         if prints[i] == p {
             return i;
         }
-        i = i + 1;
     }
-    i
+    end
 }
 
 // Whether slot i, in block c, is used and has the name of slot k, in block b, which is used. Right names are equal exactly if their fields are.
@@ -138,9 +136,9 @@ pub fn bad_slot(
         if !is_new(image, first, d, b, k, mark, prints, places, seen) {
             return k;
         }
-        k = k + 1;
+        k += 1;
         b = super::directory::following(image, b, k);
-        left = left - 1;
+        left -= 1;
     }
     k
 }

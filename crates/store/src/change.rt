@@ -18,7 +18,13 @@ pub enum Change {
 }
 
 // What the change is about, or the refusal, 9 to 26.
-pub fn refusal(image: &[u8], what: Change, directory: &[u8], path: &[u8], bytes: &[u8]) -> Result<File, Refusal>
+pub fn refusal(
+    image: &[u8],
+    what: Change,
+    directory: &[u8],
+    path: &[u8],
+    bytes: &[u8],
+) -> Result<File, Refusal>
     requires { check image.now ≡ 0 }
     ensures { PreparedFor image.now (asked_in what directory.now path.now bytes.now) result }
 {

@@ -20,12 +20,7 @@ use layout::file::File;
 use layout::refusal::Refusal;
 
 // The size of a file with the new revision, with a room for the file's first bytes; or the refusal, 24 if it is not of the form, 25 if the revision number is used up.
-fn weigh_in(
-    image: &[u8],
-    found: File,
-    bytes: &[u8],
-    room: &mut [u8],
-) -> Result<usize, Refusal>
+fn weigh_in(image: &[u8], found: File, bytes: &[u8], room: &mut [u8]) -> Result<usize, Refusal>
     requires { (check image.now ≡ 0) × (Standing image.now (file_refusal image.now) found.slot found.block found.first found.size found.blocks) × (length bytes.now ≤ max_setting) × (length room.old ≡ max_form) }
     ensures { WeighedFor image.now (entry_at found.block found.slot) bytes.now result }
 {

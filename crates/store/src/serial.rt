@@ -50,9 +50,9 @@ pub fn address_refusal(directory: &[u8], serial: &[u8], fits: bool) -> Result<()
     if is_root(directory) {
         return Ok(());
     }
-    match layout::file::whole_path_refusal(directory) {
-        Err(Refusal::BadArgument) => Err(Refusal::BadSettings),
-        form => form,
+    match layout::path::path_parts(directory) {
+        Some(_) => layout::file::whole_path_refusal(directory),
+        None => Err(Refusal::BadSettings),
     }
 }
 

@@ -1,6 +1,6 @@
 -- The loops over bytes and over the field of a name, at index i.
 use Prim.Native.Nat.{ℕ, zero, suc, ◌+◌, ◌-◌, ◌*◌, ◌≤◌, ◌<◌, max}
-use mathlib.Core.Bool.{Bool, true, false, cond, ◌&&◌, ◌||◌, and-true, and-false, or-true, false≢true}
+use mathlib.Core.Bool.{Bool, true, false, not, cond, ◌&&◌, ◌||◌, and-true, and-false, or-true, false≢true}
 use mathlib.Core.Logic.{⊎_elim}
 use mathlib.Core.List.{List, [], ◌∷◌, ◌++◌}
 use mathlib.Core.Path.{◌≡◌, refl, sym, ap, ◌∙◌, subst}
@@ -11,6 +11,7 @@ use lib.Dec.{eqb, ltb, leb}
 use lib.ListN.{length, get_or, take, drop, replicate, length-drop, get_or-eq_default}
 use lib.Seq.{drop-cons, drop-length}
 use borrow.Author.Tests.{le-leb, lt-leb, lt-ltb, le-ltb, ne_eqb, eq-eqb, eqb-true, eqb-false}
+use Rattle.std.specs.Int.{from_bool}
 use Rattle.std.proofs.lemmas.List.{take-append-drop}
 use Rattle.layout.specs.Limits.{max_name}
 use Rattle.layout.specs.Lists.{every, same}
@@ -23,6 +24,23 @@ use Rattle.layout.proofs.Laws.Bytes.{get_d_part}
 use Rattle.layout.proofs.Laws.Lists.{every_in, get_d-in}
 use Rattle.layout.proofs.Laws.Names.{same-eq, same_refl, same-append, take-unpadded, unpadded-most, good_name-split, good_name-length}
 use Rattle.layout.proofs.Laws.Tests.{and_split, and-join, is_false, true-not-false, lt-or-ge, below_more}
+
+pub same-lengths : (a b : List ℕ) → (length a ≡ length b → ⊥) → same a b ≡ false
+same-lengths a b h = is_false _ (λ t. h (ap length (same-eq a b t)))
+
+pub same_end : (a b : List ℕ) (w : ℕ) → length a ≡ length b → eqb w 0 ≡ eqb w 0 && same (drop (length a) a) (drop (length a) b)
+same_end a b w e = rw (drop-length a, e, drop-length b) (sym (and-true (eqb w 0)))
+
+-- two bytes more: the worst of what was met is 0 as long as none differ
+pub same_more : (a b : List ℕ) (i w d w' : ℕ) → i < length a → i < length b → d ≡ from_bool (not (eqb (get_or a i 0) (get_or b i 0))) → w' ≡ max w d
+    → eqb w 0 && same (drop i a) (drop i b) ≡ eqb w' 0 && same (drop (i + 1) a) (drop (i + 1) b)
+same_more a b i w d w' ha hb ed ew = rw (drop-cons a i 0 ha, drop-cons b i 0 hb, add-one) (go (eqb (get_or a i 0) (get_or b i 0)) ed)
+  where
+    go : (t : Bool) → d ≡ from_bool (not t) → eqb w 0 && (t && same (drop (suc i) a) (drop (suc i) b)) ≡ eqb w' 0 && same (drop (suc i) a) (drop (suc i) b)
+    go true e =
+        let q : w ≡ w' = omega arith in
+        rw q
+    go false e = rw (ne_eqb w' 0 (λ z. omega arith)) (and-false (eqb w 0))
 
 -- all of some bytes, of two runs, of none
 pub all_zero-every : (xs : List ℕ) → all_zero xs ≡ every (λ x. eqb x 0) xs

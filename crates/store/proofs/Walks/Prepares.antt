@@ -7,7 +7,7 @@ use native.Mathlib.Omega.{arith}
 use borrow.Author.Tests.{lt-leb, le-leb}
 use lib.ListN.{length, get_or, drop}
 use lib.Dec.{eqb, leb}
-use Rattle.std.specs.Prelude.{Result, Ok, Err, IfOk}
+use Rattle.std.specs.Prelude.{Result, Ok, Err, IfOk, IsOk}
 use Rattle.layout.specs.declared.file.File.{File}
 use Rattle.layout.specs.declared.refusal.Refusal.{Refusal}
 use Rattle.layout.specs.Reasons.{number_of}
@@ -22,13 +22,17 @@ use Rattle.layout.specs.Check.{check}
 use Rattle.layout.specs.Paths.{file_refusal}
 use Rattle.layout.specs.Walks.Looks.{Located}
 use Rattle.layout.specs.Walks.Slots as slots
+use Rattle.volume.specs.Change as volume
+use Rattle.volume.specs.Walks.Targets as found
+use Rattle.store.specs.Change.{plain, put_in, refusal}
+use Rattle.store.specs.Walks.Targets.{Target, PreparedFor}
 use Rattle.volume.specs.Create.{place_refusal}
 use Rattle.volume.specs.Write.{write_at, write_named, write_at_refusal}
 use Rattle.volume.specs.Walks.Places.{Searched, SearchedFor}
 use Rattle.volume.specs.Walks.Targets.{Standing}
 use Rattle.store.specs.Settings.{max_setting, Revision, Found, broken, held, revisions, latest}
 use Rattle.store.specs.Put.{path_of, is_there, put_image, put_named, put_revision, form_refusal, put_refusal}
-use Rattle.store.specs.Walks.Puts.{held_at, rewritten_at, more_refusal, first_refusal, Weighed, PutTarget, PutPrepared, PutPreparedFor}
+use Rattle.store.specs.Walks.Puts.{held_at, rewritten_at, more_refusal, first_refusal, Weighed, WeighedFor, PutTarget, PutPrepared, PutPreparedFor}
 use Rattle.store.specs.Walks.Addresses.{Addressed}
 use Rattle.layout.proofs.Laws.Tests.{and_split, within-split, first_of-zero, first_of-refused, true-not-false}
 use Rattle.layout.proofs.Laws.Sound.{sound}
@@ -63,6 +67,11 @@ module _ {s : List ℕ} {e : ℕ} {bytes : List ℕ} {number size : ℕ} (W : We
       let a = first_of-zero (form_refusal (revisions (content s e))) _ r in
       let z : number ≡ 0 = W.number_is ∙ a.0 in
       (z, ap (write_at_refusal s e 0) (W.size_is z) ∙ a.1)
+
+-- of an accepted put the size is found
+pub weighed-ok : (s : List ℕ) (e : ℕ) (bytes : List ℕ) (r : Result ℕ Refusal) → WeighedFor s e bytes r → more_refusal s e bytes ≡ 0 → IsOk r
+weighed-ok s e bytes (Ok size) w z = refl
+weighed-ok s e bytes (Err why) w z = absurd (reason why (more-weighed (weighed-why s e bytes why w) z).0)
 
 -- the place of a first put, by the place found and the free blocks
 module _ (s path : List ℕ) (ok : check s ≡ 0) {n h slot b : ℕ} (S : Searched s path (place_refusal s path) n h slot b) where
@@ -185,3 +194,15 @@ module _ (s directory serial : List ℕ) (time : ℕ) (bytes : List ℕ) (right 
       → PutPreparedFor s directory serial time bytes r
   prepared-first-for (Ok f) S z = prepared-first s directory serial time bytes right short ok absent 0 f.slot f.block f.first f.size f.blocks S z
   prepared-first-for (Err why) S z = (prepared-first s directory serial time bytes right short ok absent (number_of why) 0 0 0 0 0 (searched-why s (path_of directory serial) _ why S) refl).number_is
+
+-- what is found for a change of the volume, and for a put, as what a change is about
+pub prepared-volume : (s : List ℕ) (c : volume.Change) (r : Result File Refusal) → found.PreparedFor s c r → PreparedFor s (plain c) r
+unfolding refusal Target
+prepared-volume s c (Ok f) p = record { number_is = p.number_is; target = p.target }
+prepared-volume s c (Err why) p = p
+
+pub prepared-put : (s directory serial : List ℕ) (time : ℕ) (bytes : List ℕ) (r : Result File Refusal) → PutPreparedFor s directory serial time bytes r
+    → PreparedFor s (put_in directory serial time bytes) r
+unfolding refusal Target
+prepared-put s directory serial time bytes (Ok f) p = record { number_is = p.number_is; target = p.target }
+prepared-put s directory serial time bytes (Err why) p = p

@@ -17,7 +17,7 @@ use Rattle.layout.specs.Check.{check}
 use Rattle.layout.specs.Looks.{is_root_path}
 use Rattle.layout.specs.Paths.{parts, path_ok, shallow}
 use Rattle.layout.specs.Walks.Looks.{whole_refusal}
-use Rattle.layout.specs.Walks.Paths.{PathGiven}
+use Rattle.layout.specs.Walks.Paths.{good_parts, PathGiven}
 use Rattle.store.specs.Put.{serial_byte, serial_ok, directory_ok, front, path_of, address_refusal}
 use Rattle.store.specs.Walks.Addresses.{Addressed}
 use Rattle.layout.proofs.Laws.Tests.{and_split, within-split}
@@ -176,3 +176,13 @@ module _ (directory serial : List ℕ) (A : Addressed directory serial) where
 
     pub path-given : (s : List ℕ) (k e : ℕ) → check s ≡ 0 → k ≡ length (front directory) → e ≡ k + 1 + length serial → PathGiven s (take e r)
     path-given s k e ok h g = let z = path-front k e h g in record { sound = ok; good = rw z (serial-path directory serial A); few = rw z (serial-shallow directory serial A) }
+
+-- the refusal of a path that is one is not 9
+pub whole-right : (path : List ℕ) → (good_parts path ≡ 0 → ⊥) → whole_refusal path ≡ 9 → ⊥
+unfolding whole_refusal good_parts
+whole-right path h = go (path_ok path) (shallow (parts path)) refl h
+  where
+    go : (b t : Bool) → path_ok path ≡ b → (cond b (length (parts path)) 0 ≡ 0 → ⊥) → require b 9 (require t 17 0) ≡ 9 → ⊥
+    go true true q n e = omega arith
+    go true false q n e = omega arith
+    go false t q n e = n refl

@@ -1,10 +1,10 @@
 -- What the code of a move tests and writes.
-use Prim.Native.Nat.{ℕ, zero, suc, ◌+◌, ◌-◌, ◌*◌, ◌/◌, ◌≤◌, ◌<◌}
+use Prim.Native.Nat.{ℕ, ◌+◌, ◌-◌, ◌*◌, ◌/◌, ◌≤◌, ◌<◌}
 use mathlib.Core.Path.{◌≡◌, refl, sym, ap, ◌∙◌}
 use mathlib.Core.Bool.{Bool, true, false, not, cond, ◌&&◌, ◌||◌, and-false, or-true, or-false}
 use mathlib.Core.List.{List, [], ◌∷◌, ◌++◌, append_assoc}
 use native.Mathlib.Omega.{arith}
-use borrow.Author.Tests.{eq-eqb, ne_eqb, eqb-false, eqb-true}
+use borrow.Author.Tests.{eq-eqb, ne_eqb, eqb-true}
 use lib.Dec.{eqb}
 use lib.ListN.{length, drop, length-append}
 use Rattle.std.specs.Prelude.{Result, Ok, Err}
@@ -14,18 +14,16 @@ use Rattle.layout.specs.declared.refusal.Refusal.TheVariants as refusal
 use Rattle.layout.specs.Reasons.{outcome}
 use Rattle.layout.specs.contracts.refusal.RefusalPartialEq.TheImpl.{eq-value}
 use Rattle.layout.specs.Refusals.{require, first_of}
-use Rattle.layout.specs.Bytes.{be32, part, splice, zeros}
+use Rattle.layout.specs.Bytes.{part, splice, zeros}
 use Rattle.layout.specs.Geometry.{block_count}
-use Rattle.layout.specs.Table.{next, chain}
 use Rattle.layout.specs.Directory.{slot_at, type_of, is_used, is_file, padded, directory}
 use Rattle.layout.specs.Check.{check}
 use Rattle.layout.specs.Paths.{parts, path_ok, leading, last_part, shallow, home, path_slot, entry_of}
 use Rattle.layout.specs.Walks.Looks.{form_refusal}
 use Rattle.layout.specs.Walks.Paths.{PathGiven, Spotted}
 use Rattle.layout.specs.Walks.Slots.{Stands, slot_from, entry_at}
-use Rattle.layout.proofs.Laws.Tests.{first_of-zero, first_of-refused, true-not-false}
+use Rattle.layout.proofs.Laws.Tests.{first_of-zero, first_of-refused}
 use Rattle.layout.proofs.Laws.Bytes.{length-zeros, splice-append, splice-flat}
-use Rattle.layout.proofs.Laws.Sound.{sound}
 use Rattle.layout.proofs.Walks.Looks.{form-given}
 use Rattle.layout.proofs.Walks.Shapes.{sound-shape}
 use Rattle.volume.specs.Move.{open_slot, move_slot, move_place, move_refusal, renamed, move_image, move_named}
@@ -133,10 +131,6 @@ module _ (s path to : List ℕ) where
       own_block : (b < block_count s) × (entry_at b k ≡ entry_of is_file s path)
       unfolding entry_of
       own_block = let w = f.block ne in (w.0, w.1 ∙ ap (slot_at (directory s (home s path))) f.slot)
-
-      -- where the entry begins is a number of 64 bits
-      pub own-small : b < 65536
-      own-small = let w = own_block.0 in let m = (sound s P.sound).most in omega arith
 
       module _ {h named m : ℕ} (g : Spotted is_used s to h named m) (there : h ≡ 0 → ⊥) where
         pub is-taken : (named ≡ 0 → ⊥) → 11 ≡ move_refusal s path to

@@ -33,9 +33,6 @@ pub brought-fine : (form flags r : ℕ) → r ≡ brought_refusal form flags →
 unfolding brought_refusal
 brought-fine form flags r e z = let a = first_of-zero form _ (sym e ∙ z) in (sym a.0, (require-zero (eqb flags 0) 25 0 a.1).0)
 
-pub refused-place : {s path : List ℕ} {refusal number h k b : ℕ} → number ≡ refusal → (number ≡ 0 → ⊥) → Searched s path refusal number h k b
-refused-place e ne = record { number_is = e; vacant = λ z. absurd (ne z) }
-
 pub place-as : {s path : List ℕ} {refusal refusal' number h k b : ℕ} → refusal ≡ refusal' → Searched s path refusal number h k b → Searched s path refusal' number h k b
 place-as e f = record { number_is = f.number_is ∙ e; vacant = f.vacant }
 

@@ -7,8 +7,8 @@ use Rattle.store.specs.Asked.{asked_in}
 use Rattle.journal.proofs.Walks.Changes.{change-refused, change-full, change-done}
 use Rattle.journal.proofs.calls.change_ready_in.Goals as goal
 
-pub refusal-found-requires : goal.refusal-found-requires
-refusal-found-requires c = c.requires.sound
+pub refusal-requires : goal.refusal-requires
+refusal-requires c = c.requires.sound
 
 pub returns-in_err-found-clause-answer : goal.returns-in_err-found-clause-answer
 returns-in_err-found-clause-answer c =

@@ -10,14 +10,14 @@ whole f i count last clean e g = rw (← e) g
 
 pub returns-then-clean-eq80 : goal.returns-then-clean-eq80
 returns-then-clean-eq80 c =
-    let l = c.loop-i in
-    let g = whole _ _ l.count l.last l.clean (omega arith) l.invariant in
+    let l = c.loop-end in
+    let g = whole _ _ l.count l.last l.clean (omega arith) l.invariant.1 in
     field_ok-count _ c.requires _ _ _ g.0 g.1 c.if-clean-eq80.true.0 c.if-clean-eq80.true.1
 
 pub returns-else-clean-eq80 : goal.returns-else-clean-eq80
 returns-else-clean-eq80 c =
-    let l = c.loop-i in
-    let g = whole _ _ l.count l.last l.clean (omega arith) l.invariant in
+    let l = c.loop-end in
+    let g = whole _ _ l.count l.last l.clean (omega arith) l.invariant.1 in
     elim c.if-count-last.branch [
       | then-count-last w ↦
           let ne : l.clean ≡ 80 → ⊥ = grind arith in

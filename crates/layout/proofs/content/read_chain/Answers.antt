@@ -15,7 +15,7 @@ copy_block-requires c =
     let l = c.loop-rest in
     let p = c.requires in
     let h = reading-here _ _ _ _ _ _ _ _ _ _ _ _ p.0.shape.whole l.invariant (omega arith) in
-    let f = least-cases _ _ _ (omega arith) c.least-m.ensures in
+    let f = least-cases _ _ _ (omega arith) c.min-m.ensures in
     (omega arith, omega arith, omega arith)
 
 pub overflow_add-p : goal.overflow_add-p
@@ -43,7 +43,7 @@ loop-rest-preserved c =
     elim c.if-o-ge512.branch [
       | then-o-ge512 w ↦ rw (w.buf-is, w.o-is, w.p-is, w.rest-is, c.entry-b.ensures) (reading-pass _ _ _ _ _ _ _ _ _ _ _ _ s i (omega arith) w.if-o-ge512.true)
       | else-o-ge512 w ↦ rw (w.buf-is ∙ w.copy_block.ensures, w.o-is, w.p-is, w.rest-is, c.entry-b.ensures)
-          (reading_step _ _ _ _ _ _ _ _ _ _ _ _ s _ (least-cases _ _ _ w.if-o-ge512.false w.least-m.ensures) i (omega arith))
+          (reading_step _ _ _ _ _ _ _ _ _ _ _ _ s _ (least-cases _ _ _ w.if-o-ge512.false w.min-m.ensures) i (omega arith))
     ]
 
 pub shape_of-buf : goal.shape_of-buf

@@ -1,11 +1,13 @@
-use Rattle.store.specs.Change.{refusal}
-use Rattle.store.specs.Walks.Targets.{Target}
+use Rattle.volume.specs.Asked.{asked}
+use Rattle.store.proofs.Walks.Prepares.{prepared-volume, prepared-put}
 use Rattle.store.proofs.change.refusal.Goals as goal
 
 pub returns-in-Volume : goal.returns-in-Volume
-unfolding refusal Target
-returns-in-Volume c = rw c.in-Volume.is (record { number_is = c.refusal.ensures.number_is; target = c.refusal.ensures.target })
+returns-in-Volume c =
+    let a = c.args in
+    rw c.in-Volume.is (prepared-volume a.image.now (asked c.in-Volume.c a.path.now a.bytes.now) c.refusal.result c.refusal.ensures)
 
 pub returns-in-Put : goal.returns-in-Put
-unfolding refusal Target
-returns-in-Put c = rw c.in-Put.is (record { number_is = c.put_refusal.ensures.number_is; target = c.put_refusal.ensures.target })
+returns-in-Put c =
+    let a = c.args in
+    rw c.in-Put.is (prepared-put a.image.now a.directory.now a.path.now c.in-Put.time a.bytes.now c.put_refusal.result c.put_refusal.ensures)

@@ -11,12 +11,12 @@ load-requires c = let p = c.requires in (file-below p.1 p.0, file-inside p.1 p.0
 pub returns-in_default : goal.returns-in_default
 returns-in_default c =
     let p = c.requires in
-    (weighed-form p.1 p.0 c.load.new.room _ 0 0 0 0 (parsed-wrong _ _ _ _ _ _ _ refl c.in_default.ensures) refl _ 24 0 refl).number_is
+    (weighed-form p.1 p.0 c.load.new.room _ 0 0 0 0 (parsed-wrong _ _ _ _ _ _ _ refl c.in_default.ensures) refl c.args.bytes.now 24 0 refl).number_is
 
 pub returns-then-form : goal.returns-then-form
 returns-then-form c =
     let p = c.requires in
-    (weighed-last p.1 p.0 _ _ _ _ _ _ c.in-Some.ensures refl c.if-form.true _ 25 0 refl).number_is
+    (weighed-last p.1 p.0 _ _ _ _ _ _ c.in-Some.ensures refl c.if-form.true c.args.bytes.now 25 0 refl).number_is
 
 pub length_after-used-requires : goal.length_after-used-requires
 length_after-used-requires c =

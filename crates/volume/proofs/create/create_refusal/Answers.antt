@@ -32,5 +32,5 @@ returns c =
     let a = c.args in
     let b = brought-fine (outcome c.path_refusal.result) a.flags 0 c.in_ok-brought_refusal.ensures refl in
     let same = by_place a.image.now a.path.now a.kind a.flags (sym c.if-not-is_file.false ∙ c.is_file.ensures)
-        (form-given a.image.now a.path.now c.requires (b.0 ∙ c.path_refusal.ensures)) b.1 in
+    (form-given a.image.now a.path.now c.requires (b.0 ∙ c.path_refusal.ensures)) b.1 in
     subst (λ (x : ℕ). SearchedFor a.image.now a.path.now x c.find_place.result) same c.find_place.ensures

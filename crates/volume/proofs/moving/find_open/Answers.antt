@@ -42,7 +42,7 @@ returns-then-type_at-at c =
     let a = c.args in
     let bs = c.requires.blocks in
     let same = open-from a.image.now _ a.own a.d bs.size ∙ l.invariant.same ∙ slot_from-here (slot_open a.image.now a.own) _ _ _ (entry_at l.b l.slot)
-        (place-entry _ _ _ _ _ l.invariant.place) (omega arith) (slot-open a.image.now (entry_at l.b l.slot) a.own _ _ c.type_at.ensures refl _ c.if-type_at-at.true) in
+    (place-entry _ _ _ _ _ l.invariant.place) (omega arith) (slot-open a.image.now (entry_at l.b l.slot) a.own _ _ c.type_at.ensures refl _ c.if-type_at-at.true) in
     (stands_here _ _ a.d _ _ _ _ bs l.invariant.place (omega arith) same, λ z. omega arith)
 
 pub loop-slot-preserved : goal.loop-slot-preserved

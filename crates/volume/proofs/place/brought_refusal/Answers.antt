@@ -1,7 +1,6 @@
 use Rattle.std.proofs.Common.{sym}
 use Rattle.std.proofs.lemmas.Result.{err_from_is_err_and}
 use borrow.Author.Tests.{eq-eqb, ne_eqb}
-use Rattle.layout.specs.Refusals.{require}
 use Rattle.layout.specs.Reasons.{number_of}
 use Rattle.layout.proofs.Laws.Reasons.{reason}
 use Rattle.layout.proofs.Laws.Tests.{first_of-refused}
