@@ -16,7 +16,10 @@ fn file_end(image: &[u8], path: &[u8]) -> usize
     requires { check image.now ≡ 0 }
     ensures { result ≡ file_end image.now path.now }
 {
-    layout::file::open_file(image, path).map_or(0, |file| file.size)
+    match layout::file::open_file(image, path) {
+        Ok(file) => file.size,
+        Err(_) => 0,
+    }
 }
 
 // The answer to an empty piece: the refusal of its write, or nothing done.
@@ -30,7 +33,13 @@ fn append_nothing(image: &[u8], path: &[u8], offset: usize, time: u64) -> Result
 }
 
 // Appends a piece to a file.
-pub fn append(image: &mut [u8], journal: &mut [u8], path: &[u8], piece: &[u8], time: u64) -> Result<Changed, Refusal>
+pub fn append(
+    image: &mut [u8],
+    journal: &mut [u8],
+    path: &[u8],
+    piece: &[u8],
+    time: u64,
+) -> Result<Changed, Refusal>
     ensures answer { changed_answer result ≡ append_answer (state image.old journal.old) path.now piece.now time }
     ensures state { state image.new journal.new ≡ after_append (state image.old journal.old) path.now piece.now time }
 {

@@ -13,13 +13,13 @@ returns-in_err-ready_refusal-clause-answer c =
     let a = c.args in
     let why = c.in_err-ready_refusal.field-0.0 in
     let q = err_from_is_err_and c.from_residual.result c.from_residual.ensures.1 in
-    rw (q.1, q.2) (append-unready a.image.now a.journal.now a.path.now a.piece.now a.time (number_of why) c.in_err-ready_refusal.ensures (reason why)).0
+    rw (q.1, q.2) (append-unready a.image.now a.journal.now a.path.now a.time a.piece.now (number_of why) c.in_err-ready_refusal.ensures (reason why)).0
 
 pub returns-in_err-ready_refusal-clause-state : goal.returns-in_err-ready_refusal-clause-state
 returns-in_err-ready_refusal-clause-state c =
     let a = c.args in
     let why = c.in_err-ready_refusal.field-0.0 in
-    (append-unready a.image.now a.journal.now a.path.now a.piece.now a.time (number_of why) c.in_err-ready_refusal.ensures (reason why)).1
+    (append-unready a.image.now a.journal.now a.path.now a.time a.piece.now (number_of why) c.in_err-ready_refusal.ensures (reason why)).1
 
 pub file_end-end-requires : goal.file_end-end-requires
 file_end-end-requires c = (ready _ _ (sym c.in_ok-ready_refusal.ensures)).sound
@@ -30,12 +30,12 @@ append_nothing-requires c = (ready _ _ (sym c.in_ok-ready_refusal.ensures)).soun
 pub returns-then-is_empty-clause-answer : goal.returns-then-is_empty-clause-answer
 returns-then-is_empty-clause-answer c =
     let w = ready _ _ (sym c.in_ok-ready_refusal.ensures) in
-    (append-empty _ _ _ _ w _ (eqb-true _ _ (sym c.is_empty.ensures ∙ c.if-is_empty.true)) _ c.file_end-end.ensures c.append_nothing.ensures).0
+    (append-empty _ _ _ _ w _ (eqb-true _ _ (sym c.is_empty.ensures ∙ c.if-is_empty.true)) _ c.file_end-end.ensures c.append_nothing.ensures.answer).0
 
 pub returns-then-is_empty-clause-state : goal.returns-then-is_empty-clause-state
 returns-then-is_empty-clause-state c =
     let w = ready _ _ (sym c.in_ok-ready_refusal.ensures) in
-    (append-empty _ _ _ _ w _ (eqb-true _ _ (sym c.is_empty.ensures ∙ c.if-is_empty.true)) _ c.file_end-end.ensures c.append_nothing.ensures).1
+    (append-empty _ _ _ _ w _ (eqb-true _ _ (sym c.is_empty.ensures ∙ c.if-is_empty.true)) _ c.file_end-end.ensures c.append_nothing.ensures.answer).1
 
 pub change_ready-requires : goal.change_ready-requires
 change_ready-requires c = ready _ _ (sym c.in_ok-ready_refusal.ensures)

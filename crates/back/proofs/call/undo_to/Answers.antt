@@ -13,7 +13,8 @@ had_mark-requires c = right-ready (ready _ _ (sym c.in_default.ensures))
 
 pub returns-then-not-had_mark : goal.returns-then-not-had_mark
 returns-then-not-had_mark c =
-    back-unmarked _ _ (ready _ _ (sym c.in_default.ensures)) (sym c.had_mark.ensures ∙ c.if-not-had_mark.true)
+    rw c.number-then-not-had_mark.ensures
+    (back-unmarked _ _ (ready _ _ (sym c.in_default.ensures)) (sym c.had_mark.ensures ∙ c.if-not-had_mark.true))
 
 pub take_to-done-requires : goal.take_to-done-requires
 take_to-done-requires c =
