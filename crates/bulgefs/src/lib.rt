@@ -250,18 +250,24 @@ pub extern "C" fn bulgefs_journal_start(journal: &mut [u8]) -> u32
 pub extern "C" fn bulgefs_salvage(image: &mut [u8], report: &mut [u8]) -> u32
     ensures { ◌≡◌ {A = SalvageAnswer} (record { number = result; image = image.new; report = report.new }) (salvage image.old report.old) }
 {
-    salvage::salvage::salvage(image, report)
+    outcome(salvage::salvage::salvage(image, report))
 }
 
 #[unsafe(no_mangle)]
 pub extern "C" fn bulgefs_salvage_tree(image: &mut [u8], report: &mut [u8]) -> Salvaged
     ensures { ◌≡◌ {A = TreeAnswer} (record { number = result.number; zeroed = result.dropped; freed = result.freed; image = image.new; report = report.new }) (salvage_tree image.old report.old) }
 {
-    let a = salvage_tree::salvage_tree::salvage_tree(image, report);
-    Salvaged {
-        number: a.number,
-        dropped: a.zeroed,
-        freed: a.freed,
+    match salvage_tree::salvage_tree::salvage_tree(image, report) {
+        Ok(done) => Salvaged {
+            number: 0,
+            dropped: done.zeroed,
+            freed: done.freed,
+        },
+        Err(why) => Salvaged {
+            number: why.number(),
+            dropped: 0,
+            freed: 0,
+        },
     }
 }
 

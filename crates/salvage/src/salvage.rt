@@ -1,6 +1,7 @@
 // Salvage: what refuses it, and its steps in order.
 ghost use Rattle.std.specs.Prelude.{◌≡◌, ◌+◌, ◌-◌, ◌*◌, ◌≤◌, length};
 ghost use Rattle.layout.specs.Limits.{max_blocks};
+ghost use Rattle.layout.specs.Reasons.{outcome};
 ghost use Rattle.layout.specs.Bytes.{be32, zeros, splice};
 ghost use Rattle.layout.specs.Geometry.{table_blocks};
 ghost use Rattle.layout.specs.Table.{next, chain};
@@ -12,6 +13,7 @@ ghost use Rattle.salvage.specs.Walks.{no_directory, Weighed};
 
 use super::slots::Root;
 use layout::limits::{MAX_BLOCKS, SMALL_BLOCKS};
+use layout::refusal::Refusal;
 
 // The root, by what its self entry says.
 fn root_at(image: &[u8], t: usize, n: usize) -> Root
@@ -39,22 +41,22 @@ fn no_directory(image: &[u8], root: Root) -> bool
     true
 }
 
-// The refusal, 4, 5 or 9, or 0, of an image with a right header; `size` is the report's. It marks the root's blocks.
-fn refusal(image: &[u8], t: usize, n: usize, size: usize, marks: &mut [u8]) -> u32
+// The refusal, 4, 5 or 9, of an image with a right header; `size` is the report's. It marks the root's blocks.
+fn refusal(image: &[u8], t: usize, n: usize, size: usize, marks: &mut [u8]) -> Result<(), Refusal>
     requires { (Room image.now t n marks.old) × (head_stage image.now ≡ 0) × (marks.old ≡ zeros (length marks.old)) }
-    ensures { Weighed image.now size result marks.new }
+    ensures { Weighed image.now size (outcome result) marks.new }
 {
     let root = root_at(image, t, n);
     if !layout::directory::directory_ok(image, t, n, root.first, root.first, marks) {
-        return 4;
+        return Err(Refusal::BadSelf);
     }
     if !no_directory(image, root) {
-        return 5;
+        return Err(Refusal::BadSlot);
     }
     if size < 4 * root.d {
-        return 9;
+        return Err(Refusal::BadArgument);
     }
-    0
+    Ok(())
 }
 
 // The steps of an accepted salvage: the slots, the end slot, the table, the counts. The root's blocks are marked.
@@ -72,36 +74,34 @@ fn repair(image: &mut [u8], t: usize, n: usize, marks: &mut [u8], report: &mut [
 }
 
 // Salvage of an image with a right header, with a mark for each entry of the table, none marked.
-fn body(image: &mut [u8], n: usize, marks: &mut [u8], report: &mut [u8]) -> u32
+fn body(image: &mut [u8], n: usize, marks: &mut [u8], report: &mut [u8]) -> Result<(), Refusal>
     requires { (Shape image.old n) × (head_stage image.old ≡ 0) × (128 * table_blocks n ≤ length marks.old) × (marks.old ≡ zeros (length marks.old)) }
-    ensures { ◌≡◌ {A = SalvageAnswer} (record { number = result; image = image.new; report = report.new }) (salvage image.old report.old) }
+    ensures { ◌≡◌ {A = SalvageAnswer} (record { number = outcome result; image = image.new; report = report.new }) (salvage image.old report.old) }
 {
     let t = layout::geometry::table_blocks(n);
-    let why = refusal(image, t, n, report.len(), marks);
-    if why != 0 {
-        return why;
-    }
+    refusal(image, t, n, report.len(), marks)?;
     repair(image, t, n, marks, report);
-    0
+    Ok(())
 }
 
 // The same with room for so many marks.
-fn marked_body<const MARKS: usize>(image: &mut [u8], n: usize, report: &mut [u8]) -> u32
+fn marked_body<const MARKS: usize>(
+    image: &mut [u8],
+    n: usize,
+    report: &mut [u8],
+) -> Result<(), Refusal>
     requires { (Shape image.old n) × (head_stage image.old ≡ 0) × (128 * table_blocks n ≤ MARKS) × (MARKS ≤ max_blocks) }
-    ensures { ◌≡◌ {A = SalvageAnswer} (record { number = result; image = image.new; report = report.new }) (salvage image.old report.old) }
+    ensures { ◌≡◌ {A = SalvageAnswer} (record { number = outcome result; image = image.new; report = report.new }) (salvage image.old report.old) }
 {
     let mut marks = [0; MARKS];
     body(image, n, &mut marks, report)
 }
 
-// Salvages an image: keeps the files of the root whose entries and chains are right, frees all else, and reports a code for each slot. 0, or the refusal.
-pub fn salvage(image: &mut [u8], report: &mut [u8]) -> u32
-    ensures { ◌≡◌ {A = SalvageAnswer} (record { number = result; image = image.new; report = report.new }) (salvage image.old report.old) }
+// Salvages an image: keeps the files of the root whose entries and chains are right, frees all else, and reports a code for each slot.
+pub fn salvage(image: &mut [u8], report: &mut [u8]) -> Result<(), Refusal>
+    ensures { ◌≡◌ {A = SalvageAnswer} (record { number = outcome result; image = image.new; report = report.new }) (salvage image.old report.old) }
 {
-    let head = layout::check::head(image);
-    if head != 0 {
-        return head;
-    }
+    layout::check::head(image)?;
     let n = image.len() / 512;
     if n <= SMALL_BLOCKS {
         return marked_body::<SMALL_BLOCKS>(image, n, report);

@@ -221,8 +221,7 @@ unfoldable pub hung_here : List ℕ → List ℕ → ℕ → Bool
 hung_here codes used i = eqb (get_or codes i 0) 6 && was_used (get_or used (i / 4) 0) (i % 4)
 
 -- AN ACCEPTED SALVAGE
-pub record Answered (s : List ℕ) (why zeroed freed : ℕ) (s' codes : List ℕ) : Type 0 where
-  pub none : why ≡ 0
+pub record Answered (s : List ℕ) (zeroed freed : ℕ) (s' codes : List ℕ) : Type 0 where
   pub image : s' ≡ (salvaged s).image
   pub codes-are : codes ≡ (salvaged s).codes
   pub zeroed-are : zeroed ≡ number (λ c. eqb c 1 || eqb c 2) (salvaged s).codes + hung_over s (salvaged s).codes

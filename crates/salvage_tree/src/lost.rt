@@ -86,8 +86,7 @@ fn hang(image: &mut [u8], t: usize, n: usize, b: usize, marks: &mut [u8], codes:
     if !looks_lost(image, t, n, marks, b) || !is_unnamed(image, n, root, b) {
         return;
     }
-    let free = layout::directory::free_slot(image, n, root);
-    if free.slot != 0 {
+    if let Some(free) = layout::directory::free_slot(image, n, root) {
         hang_at(image, t, n, b, free.block, free.slot, marks, codes);
     }
 }

@@ -52,7 +52,7 @@ fn head_right(image: &[u8], n: usize) -> bool
     requires { Shape image.now n }
     ensures { result ≡ same image.now (head_put image.now) }
 {
-    if layout::check::head(image) != 0 {
+    if layout::check::head(image).is_err() {
         return false;
     }
     let used = layout::table::count_used(image, n);

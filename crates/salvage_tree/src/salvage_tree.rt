@@ -1,21 +1,23 @@
 // Salvage of a tree: what refuses it, its steps in order, and the counts.
 ghost use Rattle.std.specs.Prelude.{not, ◌≡◌, ◌+◌, ◌*◌, ◌/◌, ◌%◌, ◌≤◌, ◌<◌, length, get_or};
 ghost use Rattle.layout.specs.Limits.{max_blocks};
+ghost use Rattle.layout.specs.Reasons.{outcome};
 ghost use Rattle.layout.specs.Lists.{within, interval, select};
 ghost use Rattle.layout.specs.Bytes.{zeros};
 ghost use Rattle.layout.specs.Geometry.{table_blocks};
 ghost use Rattle.layout.specs.Directory.{is_free};
 ghost use Rattle.layout.specs.Walks.Shapes.{Shape};
-ghost use Rattle.salvage_tree.specs.SalvageTree.{TreeAnswer, other_length, tree_refusal, number, salvaged, salvage_tree};
+ghost use Rattle.salvage_tree.specs.SalvageTree.{other_length, tree_refusal, number, salvaged, salvage_tree};
+ghost use Rattle.salvage_tree.specs.Answers.{tree_answer};
 ghost use Rattle.salvage_tree.specs.Walks.{Ready, one, UsedOf, used_bits, was_used, hung_here, Answered};
 
 use super::rest::SIGNATURE;
 use layout::limits::{MAX_BLOCKS, MIN_BLOCKS, SMALL_BLOCKS};
+use layout::refusal::Refusal;
 
-// The answer of a salvage: the number of the refusal, or 0, how many entries were zeroed, and how many blocks freed.
+// What an accepted salvage did: how many entries were zeroed, and how many blocks freed.
 #[derive(Drop)]
-pub struct Salvaged {
-    pub number: u32,
+pub struct Counts {
     pub zeroed: u32,
     pub freed: u32,
 }
@@ -34,21 +36,21 @@ fn other_length(image: &[u8], n: usize) -> bool
         && layout::number::header_number(image, 28) == layout::geometry::root_block(m)
 }
 
-// The refusal, 1, 3 or 9, or 0; `size` is the report's.
-fn refusal(image: &[u8], size: usize) -> u32
-    ensures { result ≡ tree_refusal image.now size }
+// The refusal, 1, 3 or 9; `size` is the report's.
+fn refusal(image: &[u8], size: usize) -> Result<(), Refusal>
+    ensures { outcome result ≡ tree_refusal image.now size }
 {
     if !layout::check::sized(image) {
-        return 1;
+        return Err(Refusal::BadLength);
     }
     let n = image.len() / 512;
     if other_length(image, n) {
-        return 3;
+        return Err(Refusal::BadGeometry);
     }
     if size < 4 * n {
-        return 9;
+        return Err(Refusal::BadArgument);
     }
-    0
+    Ok(())
 }
 
 // 1 if a type is not that of a free slot, else 0.
@@ -115,15 +117,9 @@ fn repair(image: &mut [u8], t: usize, n: usize, marks: &mut [u8], codes: &mut [u
 }
 
 // An accepted salvage, with two bytes for each entry of the table, the first 0; the codes are all there is of the report.
-fn answer(
-    image: &mut [u8],
-    n: usize,
-    marks: &mut [u8],
-    used: &mut [u8],
-    codes: &mut [u8],
-) -> Salvaged
+fn answer(image: &mut [u8], n: usize, marks: &mut [u8], used: &mut [u8], codes: &mut [u8]) -> Counts
     requires { (Shape image.old n) × (128 * table_blocks n ≤ length marks.old) × (marks.old ≡ zeros (length marks.old)) × (n ≤ length used.old) × (length codes.old ≡ 4 * n) }
-    ensures { Answered image.old result.number result.zeroed result.freed image.new codes.new }
+    ensures { Answered image.old result.zeroed result.freed image.new codes.new }
 {
     note_used(image, n, used);
     codes.fill(0);
@@ -131,17 +127,13 @@ fn answer(
     repair(image, t, n, marks, codes);
     let zeroed = count_codes(codes, 1, 2) + count_over(codes, used);
     let freed = count_codes(codes, 5, 5);
-    Salvaged {
-        number: 0,
-        zeroed,
-        freed,
-    }
+    Counts { zeroed, freed }
 }
 
 // The same, with room for SIZE marks.
-fn answer_in<const SIZE: usize>(image: &mut [u8], n: usize, codes: &mut [u8]) -> Salvaged
+fn answer_in<const SIZE: usize>(image: &mut [u8], n: usize, codes: &mut [u8]) -> Counts
     requires { (SIZE ≤ max_blocks) × (Shape image.old n) × (128 * table_blocks n ≤ SIZE) × (length codes.old ≡ 4 * n) }
-    ensures { Answered image.old result.number result.zeroed result.freed image.new codes.new }
+    ensures { Answered image.old result.zeroed result.freed image.new codes.new }
 {
     let mut marks = [0; SIZE];
     let mut used = [0; SIZE];
@@ -149,9 +141,9 @@ fn answer_in<const SIZE: usize>(image: &mut [u8], n: usize, codes: &mut [u8]) ->
 }
 
 // The same with the report, of which the codes are the front.
-fn accepted(image: &mut [u8], n: usize, codes: &mut [u8]) -> Salvaged
+fn accepted(image: &mut [u8], n: usize, codes: &mut [u8]) -> Counts
     requires { (Shape image.old n) × (length codes.old ≡ 4 * n) }
-    ensures { Answered image.old result.number result.zeroed result.freed image.new codes.new }
+    ensures { Answered image.old result.zeroed result.freed image.new codes.new }
 {
     if n <= SMALL_BLOCKS {
         return answer_in::<SMALL_BLOCKS>(image, n, codes);
@@ -160,17 +152,10 @@ fn accepted(image: &mut [u8], n: usize, codes: &mut [u8]) -> Salvaged
 }
 
 // Salvages an image: what can be kept of its tree is put right, all else freed, and the report tells a code for each slot and each freed block.
-pub fn salvage_tree(image: &mut [u8], report: &mut [u8]) -> Salvaged
-    ensures { ◌≡◌ {A = TreeAnswer} (record { number = result.number; zeroed = result.zeroed; freed = result.freed; image = image.new; report = report.new }) (salvage_tree image.old report.old) }
+pub fn salvage_tree(image: &mut [u8], report: &mut [u8]) -> Result<Counts, Refusal>
+    ensures { tree_answer result image.new report.new ≡ salvage_tree image.old report.old }
 {
-    let why = refusal(image, report.len());
-    if why != 0 {
-        return Salvaged {
-            number: why,
-            zeroed: 0,
-            freed: 0,
-        };
-    }
+    refusal(image, report.len())?;
     let n = image.len() / 512;
-    accepted(image, n, &mut report[..4 * n])
+    Ok(accepted(image, n, &mut report[..4 * n]))
 }

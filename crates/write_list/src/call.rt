@@ -40,9 +40,11 @@ fn write_items(image: &mut [u8], journal: &mut [u8], list: &[u8]) -> Listed
     let mut done = 0;
     let mut at = 5;
     while at < list.len() {
-        let answer = write_item(image, journal, list, at);
-        if answer.is_err() {
-            return Listed { answer, done };
+        if let Err(why) = write_item(image, journal, list, at) {
+            return Listed {
+                answer: Err(why),
+                done,
+            };
         }
         done += 1;
         at += layout::number::get32(list, at) as usize;
@@ -57,10 +59,9 @@ fn write_items(image: &mut [u8], journal: &mut [u8], list: &[u8]) -> Listed
 pub fn write_list(image: &mut [u8], journal: &mut [u8], list: &[u8]) -> Listed
     ensures { listed (state image.new journal.new) (outcome result.answer) result.done ≡ write_list (state image.old journal.old) list.now }
 {
-    let unready = journal::calls::ready_refusal(image, journal);
-    if unready.is_err() {
+    if let Err(why) = journal::calls::ready_refusal(image, journal) {
         return Listed {
-            answer: unready,
+            answer: Err(why),
             done: 0,
         };
     }

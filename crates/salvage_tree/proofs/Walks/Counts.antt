@@ -197,10 +197,9 @@ unfolding zeros
 zeros-are n = refl
 
 pub answered : (s : List ℕ) (n : ℕ) (used s' codes : List ℕ) → UsedOf s n used → length codes ≡ 4 * n → s' ≡ (salvaged s).image → codes ≡ (salvaged s).codes → (a b d : ℕ) → a ≡ number (within 1 2) codes
-    → b ≡ length (select (hung_here codes used) (interval 0 (length codes))) → d ≡ number (within 5 5) codes → Answered s 0 (a + b) d s' codes
+    → b ≡ length (select (hung_here codes used) (interval 0 (length codes))) → d ≡ number (within 5 5) codes → Answered s (a + b) d s' codes
 answered s n used s' codes U l ei ec a b d ea eb ed =
     record {
-      none = refl;
       image = ei;
       codes-are = ec;
       zeroed-are = ap (λ (x : ℕ). x + b) (ea ∙ zeroed-number codes) ∙ ap (λ (x : ℕ). number (λ c. eqb c 1 || eqb c 2) codes + x) (eb ∙ over-is s n codes used U l) ∙ ap (λ (k : List ℕ). number (λ c. eqb c 1 || eqb c 2) k + hung_over s k) ec;
@@ -211,12 +210,12 @@ pub tree-refused : (s report : List ℕ) (why : ℕ) → why ≡ tree_refusal s 
 unfolding salvage_tree
 tree-refused s report why e ne = rw e (sym (accept-refused (tree_refusal s (length report)) _ _ (λ z. ne (e ∙ z))))
 
-tree-accepted : (s report : List ℕ) (why : ℕ) → why ≡ tree_refusal s (length report) → why ≡ 0 → (num a d : ℕ) (s' codes r' : List ℕ) → Answered s num a d s' codes → r' ≡ splice report 0 codes
-    → ◌≡◌ {A = TreeAnswer} (record { number = num; zeroed = a; freed = d; image = s'; report = r' }) (salvage_tree s report)
+tree-accepted : (s report : List ℕ) → tree_refusal s (length report) ≡ 0 → (a d : ℕ) (s' codes r' : List ℕ) → Answered s a d s' codes → r' ≡ splice report 0 codes
+    → ◌≡◌ {A = TreeAnswer} (record { number = 0; zeroed = a; freed = d; image = s'; report = r' }) (salvage_tree s report)
 unfolding salvage_tree
-tree-accepted s report why e z num a d s' codes r' A er = rw (sym e ∙ z, A.none, A.zeroed-are, A.freed-are, A.image, er, A.codes-are)
+tree-accepted s report z a d s' codes r' A er = rw (z, A.zeroed-are, A.freed-are, A.image, er, A.codes-are)
 
 -- the report, whose front was lent
-pub tree_lent : (s report : List ℕ) (why : ℕ) → why ≡ tree_refusal s (length report) → why ≡ 0 → (num a d : ℕ) (s' codes : List ℕ) (k : ℕ) → Answered s num a d s' codes → length codes ≡ k
-    → ◌≡◌ {A = TreeAnswer} (record { number = num; zeroed = a; freed = d; image = s'; report = codes ++ drop k report }) (salvage_tree s report)
-tree_lent s report why e z num a d s' codes k A l = tree-accepted s report why e z num a d s' codes (codes ++ drop k report) A (lent report 0 k codes codes refl l)
+pub tree_lent : (s report : List ℕ) → tree_refusal s (length report) ≡ 0 → (a d : ℕ) (s' codes : List ℕ) (k : ℕ) → Answered s a d s' codes → length codes ≡ k
+    → ◌≡◌ {A = TreeAnswer} (record { number = 0; zeroed = a; freed = d; image = s'; report = codes ++ drop k report }) (salvage_tree s report)
+tree_lent s report z a d s' codes k A l = tree-accepted s report z a d s' codes (codes ++ drop k report) A (lent report 0 k codes codes refl l)

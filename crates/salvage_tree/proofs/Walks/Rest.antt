@@ -8,7 +8,11 @@ use native.Mathlib.Omega.{arith}
 use lib.Dec.{eqb}
 use lib.ListN.{length, get_or, set, take, drop}
 use borrow.Author.Tests.{eq-eqb, eqb-true}
+use Rattle.std.specs.Prelude.{Result, Ok, Err}
+use Rattle.std.specs.Result.{is_err}
 use Rattle.std.specs.List.{list_all, range_with_len, starts_with}
+use Rattle.layout.specs.declared.refusal.Refusal.{Refusal}
+use Rattle.layout.specs.Reasons.{outcome}
 use Rattle.layout.specs.Lists.{interval, every, has, same}
 use Rattle.layout.specs.Limits.{min_blocks, max_blocks}
 use Rattle.layout.specs.Bytes.{be32, splice}
@@ -19,6 +23,7 @@ use Rattle.layout.specs.Walks.Shapes.{Shape}
 use Rattle.layout.specs.Walks.Stages.{head_stage}
 use Rattle.layout.proofs.Laws.Tests.{and_split, and-join, is_false, true-not-false, require-zero, within-join}
 use Rattle.layout.proofs.Laws.Lists.{interval-from, interval-every, in-has-eqb, false-has}
+use Rattle.layout.proofs.Laws.Reasons.{reason}
 use Rattle.layout.proofs.Laws.Names.{same-eq, same_refl}
 use Rattle.layout.proofs.Walks.Shapes.{shape-block_count}
 use Rattle.salvage.specs.Salvage.{one_at, free_at, in_turn, counts_put}
@@ -30,6 +35,15 @@ use Rattle.salvage_tree.specs.SalvageTree.{coded, put_number, ones_put, blocks_f
 use Rattle.salvage_tree.specs.Walks.{FreedNoted, IsFree, AllFree, signed, BlocksPut, PaddingPut, RestPut}
 use Rattle.salvage_tree.proofs.Laws.Rest.{HeadIs, head-is}
 use Rattle.salvage_tree.proofs.Walks.Numbers.{both_ways, pointwise-same, same-turned, number-left, one_set}
+
+-- what an answer says of its number
+pub err-refused : {T : Type 0} (answer : Result T Refusal) → is_err answer ≡ true → outcome answer ≢ 0
+err-refused (Ok given) e = absurd (true-not-false e refl)
+err-refused (Err why) e = reason why
+
+pub ok-accepted : {T : Type 0} (answer : Result T Refusal) → is_err answer ≡ false → outcome answer ≡ 0
+ok-accepted (Ok given) e = refl
+ok-accepted (Err why) e = absurd (true-not-false refl e)
 
 shape-stage1 : (s : List ℕ) (n : ℕ) → Shape s n → stage1 s ≡ true
 unfolding stage1

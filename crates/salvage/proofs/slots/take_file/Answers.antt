@@ -1,6 +1,5 @@
 use mathlib.Core.Path.{refl}
 use native.Mathlib.Omega.{arith}
-use borrow.Author.Tests.{not-true, not-false}
 use Rattle.layout.specs.Walks.Slots.{entry_at}
 use Rattle.layout.proofs.Walks.Shapes.{shape-block_count}
 use Rattle.salvage.proofs.Walks.Slots.{claimed-as, file-cleared, file-kept}
@@ -26,7 +25,7 @@ returns-then-not-claim c =
     let p = c.requires in
     let k = attribute-chain.ensures in
     file-cleared a.image.now a.marks.now a.n (entry_at a.b a.k) (shape-block_count _ _ p.0.shape) _ _ number_at.ensures number-at2.ensures _ end-chain.ensures.bytes _ _
-    (claimed-as claim.ensures k.0 k.1 (not-true _ if1.true-raw)) set-attribute-fields.ensures
+    (claimed-as claim.ensures k.0 k.1 if1.true) set-attribute-fields.ensures
 
 pub end_chain-second-requires : goal.end_chain-second-requires
 end_chain-second-requires c =
@@ -34,7 +33,7 @@ end_chain-second-requires c =
     let claim = c.claim in
     let p = c.requires in
     let h = p.0.shape in
-    record { shape = record { whole = omega (arith, h); low = h.low; high = h.high }; below = claim.ensures.below (not-false _ if1.false-raw) }
+    record { shape = record { whole = omega (arith, h); low = h.low; high = h.high }; below = claim.ensures.below if1.false }
 
 pub returns : goal.returns
 returns c =
@@ -49,4 +48,4 @@ returns c =
     let p = c.requires in
     let k = attribute-chain.ensures in
     file-kept a.image.now a.marks.now a.n (entry_at a.b a.k) (shape-block_count _ _ p.0.shape) _ _ number_at.ensures number-at2.ensures _ end-chain.ensures.bytes _ _
-    _ _ k (claimed-as claim.ensures refl refl (not-false _ if1.false-raw)) end-chain2.ensures.bytes _ _ end-chain.ensures.right end-chain2.ensures.right _ c.file_code.ensures
+    _ _ k (claimed-as claim.ensures refl refl if1.false) end-chain2.ensures.bytes _ _ end-chain.ensures.right end-chain2.ensures.right _ c.file_code.ensures

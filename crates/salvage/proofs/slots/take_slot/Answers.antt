@@ -1,7 +1,6 @@
 use mathlib.Core.Bool.{true, false}
 use mathlib.Core.Path.{◌≡◌, refl, sym, ◌∙◌}
 use native.Mathlib.Omega.{arith}
-use borrow.Author.Tests.{not-true, not-false}
 use Rattle.layout.specs.Table.{next, chain}
 use Rattle.layout.specs.Walks.Slots.{entry_at}
 use Rattle.layout.proofs.Walks.Shapes.{shape-block_count}
@@ -31,7 +30,7 @@ returns-then-not-slot_right c =
     let type_at = c.type_at in
     let a = c.args in
     let p = c.requires in
-    let t : slot-right.result ≡ false = not-true _ if2.true-raw in
+    let t : slot-right.result ≡ false = if2.true in
     taken-broken a.image.now a.marks.now (chain (next a.image.now) a.root.first a.root.d) a.root.n (entry_at a.b a.k) a.k p.2.slot.place (shape-block_count _ _ p.0.shape) (λ z. if1.false (type_at.ensures ∙ z)) _
     (sym t ∙ slot-right.ensures) clear-slot.ensures
 
@@ -51,9 +50,9 @@ returns-then-not-claim c =
     let type_at = c.type_at in
     let a = c.args in
     let p = c.requires in
-    let t : slot-right.result ≡ true = not-false _ if2.false-raw in
+    let t : slot-right.result ≡ true = if2.false in
     taken-lost a.image.now a.marks.now (chain (next a.image.now) a.root.first a.root.d) a.root.n (entry_at a.b a.k) a.k p.2.slot.place (shape-block_count _ _ p.0.shape) (λ z. if1.false (type_at.ensures ∙ z)) _
-    (sym t ∙ slot-right.ensures) _ (claimed-as claim.ensures number_at.ensures number-at2.ensures (not-true _ if3.true-raw)) clear-slot2.ensures
+    (sym t ∙ slot-right.ensures) _ (claimed-as claim.ensures number_at.ensures number-at2.ensures if3.true) clear-slot2.ensures
 
 pub take_file-requires : goal.take_file-requires
 take_file-requires c =
@@ -62,7 +61,7 @@ take_file-requires c =
     let number-at2 = c.number_at-blocks in
     let number_at = c.number_at-file in
     let p = c.requires in
-    let C = claimed-as claim.ensures number_at.ensures number-at2.ensures (not-false _ if3.false-raw) in
+    let C = claimed-as claim.ensures number_at.ensures number-at2.ensures if3.false in
     (record { shape = p.0.shape; table = p.0.table; marks = omega (arith, p.0) }, p.1, record { shape = p.0.shape; below = C.below refl })
 
 pub returns : goal.returns
@@ -78,6 +77,6 @@ returns c =
     let type_at = c.type_at in
     let a = c.args in
     let p = c.requires in
-    let t : slot-right.result ≡ true = not-false _ if2.false-raw in
+    let t : slot-right.result ≡ true = if2.false in
     taken-file a.image.now a.marks.now (chain (next a.image.now) a.root.first a.root.d) a.root.n (entry_at a.b a.k) a.k p.2.slot.place (shape-block_count _ _ p.0.shape) (λ z. if1.false (type_at.ensures ∙ z)) _
-    (sym t ∙ slot-right.ensures) _ _ _ (claimed-as claim.ensures number_at.ensures number-at2.ensures (not-false _ if3.false-raw)) take-file.ensures
+    (sym t ∙ slot-right.ensures) _ _ _ (claimed-as claim.ensures number_at.ensures number-at2.ensures if3.false) take-file.ensures

@@ -2,7 +2,6 @@ use native.Mathlib.Omega.{arith}
 use Prim.Native.Nat.{◌/◌}
 use Rattle.salvage_tree.proofs.Walks.Names.{own-blocks}
 use mathlib.Core.Path.{◌∙◌}
-use borrow.Author.Tests.{not-true, not-false}
 use Rattle.salvage_tree.proofs.Walks.Entries.{entry_free, entry-bad, entry-file, entry-child}
 use Rattle.salvage_tree.proofs.slots.take_entry.Goals as goal
 
@@ -19,13 +18,13 @@ pub drop_slot-requires : goal.drop_slot-requires
 drop_slot-requires c = let g = c.requires.1.below (c.args.k / 4) (omega (arith, c.requires.3)) in (omega (arith, g, c.requires.4, c.requires.0.room.shape), omega (arith, g, c.requires.4, c.requires.0.sized))
 
 pub returns-then-not-slot_right : goal.returns-then-not-slot_right
-returns-then-not-slot_right c = entry-bad _ _ _ _ _ _ c.requires.4 _ c.type_at-ty.ensures c.if-ty-eq0.false _ c.slot_right.ensures (not-true _ c.if-not-slot_right.true-raw) _ _ c.drop_slot.ensures.bytes c.drop_slot.ensures.codes
+returns-then-not-slot_right c = entry-bad _ _ _ _ _ _ c.requires.4 _ c.type_at-ty.ensures c.if-ty-eq0.false _ c.slot_right.ensures c.if-not-slot_right.true _ _ c.drop_slot.ensures.bytes c.drop_slot.ensures.codes
 
 pub take_file-requires : goal.take_file-requires
 take_file-requires c = let g = c.requires.1.below (c.args.k / 4) (omega (arith, c.requires.3)) in (c.requires.0, omega (arith, g, c.requires.4))
 
 pub returns-then-is_file : goal.returns-then-is_file
-returns-then-is_file c = entry-file _ _ _ _ _ _ c.requires.4 _ c.type_at-ty.ensures c.if-ty-eq0.false _ c.slot_right.ensures (not-false _ c.if-not-slot_right.false-raw) _ c.is_file.ensures c.if-is_file.true _ _ _ c.take_file.ensures
+returns-then-is_file c = entry-file _ _ _ _ _ _ c.requires.4 _ c.type_at-ty.ensures c.if-ty-eq0.false _ c.slot_right.ensures c.if-not-slot_right.false _ c.is_file.ensures c.if-is_file.true _ _ _ c.take_file.ensures
 
 pub returns : goal.returns
-returns c = entry-child _ _ _ _ _ _ c.requires.4 _ c.type_at-ty.ensures c.if-ty-eq0.false _ c.slot_right.ensures (not-false _ c.if-not-slot_right.false-raw) _ c.is_file.ensures c.if-is_file.false
+returns c = entry-child _ _ _ _ _ _ c.requires.4 _ c.type_at-ty.ensures c.if-ty-eq0.false _ c.slot_right.ensures c.if-not-slot_right.false _ c.is_file.ensures c.if-is_file.false

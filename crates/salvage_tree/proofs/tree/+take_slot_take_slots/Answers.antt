@@ -2,7 +2,6 @@ use Prim.Native.Nat.{◌/◌}
 use mathlib.Core.Path.{refl, ap, ◌∙◌}
 use native.Mathlib.Omega.{arith}
 use lib.ListN.{length}
-use borrow.Author.Tests.{not-true, not-false}
 use Rattle.layout.proofs.Laws.Bytes.{length-zeros}
 use Rattle.salvage_tree.proofs.Walks.Names.{slot_is}
 use Rattle.salvage_tree.proofs.Walks.Levels.{slot-done, slot-deep, slot-dropped, slot-entered, slotting-start, slotting-more, slotting-end, ready-again}
@@ -18,13 +17,13 @@ pub take_slot-take_entry-requires : goal.take_slot-take_entry-requires
 take_slot-take_entry-requires t c = let p = c.requires in (p.0, p.1, p.2, p.3, refl)
 
 pub take_slot-returns-then-not-take_entry : goal.take_slot-returns-then-not-take_entry
-take_slot-returns-then-not-take_entry t c = slot-done _ _ _ _ _ _ _ _ _ _ c.take_entry.ensures (not-true _ c.if-not-take_entry.true-raw)
+take_slot-returns-then-not-take_entry t c = slot-done _ _ _ _ _ _ _ _ _ _ c.take_entry.ensures c.if-not-take_entry.true
 
 pub take_slot-drop_slot-requires : goal.take_slot-drop_slot-requires
 take_slot-drop_slot-requires t c = let p = c.requires in let g = p.1.below (c.args.k / 4) (omega (arith, p.3)) in (omega (arith, g, p.0.room.shape), omega (arith, g, p.0.sized))
 
 pub take_slot-returns-then-left-eq0 : goal.take_slot-returns-then-left-eq0
-take_slot-returns-then-left-eq0 t c = slot-deep _ _ _ _ _ _ _ _ _ _ c.take_entry.ensures (not-false _ c.if-not-take_entry.false-raw) _ (slot_is _ _ _ refl) c.if-left-eq0.true _ _ c.drop_slot.ensures.bytes c.drop_slot.ensures.codes
+take_slot-returns-then-left-eq0 t c = slot-deep _ _ _ _ _ _ _ _ _ _ c.take_entry.ensures c.if-not-take_entry.false _ (slot_is _ _ _ refl) c.if-left-eq0.true _ _ c.drop_slot.ensures.bytes c.drop_slot.ensures.codes
 
 pub take_slot-bounds-blocks-0 : goal.take_slot-bounds-blocks-0
 take_slot-bounds-blocks-0 t c = omega (arith, c.requires.1.some)
@@ -33,13 +32,13 @@ pub take_slot-enter-requires : goal.take_slot-enter-requires
 take_slot-enter-requires t c = let p = c.requires in let g = p.1.below (c.args.k / 4) (omega (arith, p.3)) in let f = p.1.below 0 p.1.some in (ready-again _ _ _ _ _ _ _ _ p.0 (omega arith) (omega arith) (omega arith), f, g, ap length c.no_blocks-own.ensures ∙ length-zeros 64)
 
 pub take_slot-returns-in_default : goal.take_slot-returns-in_default
-take_slot-returns-in_default t c = slot-dropped _ _ _ _ _ _ _ _ _ _ c.take_entry.ensures (not-false _ c.if-not-take_entry.false-raw) _ (slot_is _ _ _ refl) (omega arith) _ _ _ _ _ _ c.in_default.ensures.entered refl
+take_slot-returns-in_default t c = slot-dropped _ _ _ _ _ _ _ _ _ _ c.take_entry.ensures c.if-not-take_entry.false _ (slot_is _ _ _ refl) (omega arith) _ _ _ _ _ _ c.in_default.ensures.entered refl
 
 pub take_slot-take_slots-requires : goal.take_slot-take_slots-requires
 take_slot-take_slots-requires t c = let p = c.requires in (omega (arith, c.requires.0), (ready-again _ _ _ _ _ _ _ _ p.0 (omega arith) (omega arith) (omega arith), c.in-Some.ensures.entered.own c.in-Some.ensures.some, omega (arith, p.4)))
 
 pub take_slot-returns : goal.take_slot-returns
-take_slot-returns t c = slot-entered _ _ _ _ _ _ _ _ _ _ c.take_entry.ensures (not-false _ c.if-not-take_entry.false-raw) _ (slot_is _ _ _ refl) (omega arith) _ _ _ _ _ _ c.in-Some.ensures.entered c.in-Some.ensures.some _ _ _ c.take_slots.ensures
+take_slot-returns t c = slot-entered _ _ _ _ _ _ _ _ _ _ c.take_entry.ensures c.if-not-take_entry.false _ (slot_is _ _ _ refl) (omega arith) _ _ _ _ _ _ c.in-Some.ensures.entered c.in-Some.ensures.some _ _ _ c.take_slots.ensures
 
 pub take_slots-overflow_mul-k-end : goal.take_slots-overflow_mul-k-end
 take_slots-overflow_mul-k-end t c = omega (arith, c.requires.1.few)
