@@ -1,4 +1,4 @@
-use mathlib.Core.Path.{◌∙◌}
+use Rattle.std.proofs.Common.{◌∙◌}
 use Rattle.journal.specs.Run.{look_answer}
 use Rattle.script.proofs.Walks.Encoding.{numbers-alone}
 use Rattle.script.proofs.answers.lookup.Goals as goal

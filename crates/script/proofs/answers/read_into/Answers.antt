@@ -1,5 +1,4 @@
-use mathlib.Core.Path.{◌∙◌, sym, ap}
-use lib.ListN.{length}
+use Rattle.std.proofs.Common.{◌∙◌, sym, ap, length}
 use borrow.Author.Tests.{eq-eqb, ne_eqb}
 use Rattle.script.specs.Walks.Scripts.{filled_at}
 use Rattle.script.proofs.Walks.Scripts.{length-data}
