@@ -1,1 +1,0 @@
-use Rattle.append.proofs.call.append_nothing.Goals as goal

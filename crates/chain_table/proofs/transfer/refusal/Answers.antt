@@ -1,6 +1,5 @@
-use Rattle.std.proofs.Common.{◌≡◌, sym, ◌∙◌}
+use Rattle.std.proofs.Common.{sym, ◌∙◌}
 use Rattle.std.proofs.lemmas.Result.{err_from_is_err_and}
-use Rattle.layout.specs.Reasons.{number_of}
 use Rattle.layout.proofs.Laws.Reasons.{reason}
 use Rattle.chain_table.proofs.Laws.Outcomes.{refused-check, refused-length, not-refused}
 use Rattle.chain_table.proofs.transfer.refusal.Goals as goal

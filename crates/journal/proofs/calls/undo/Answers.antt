@@ -1,6 +1,6 @@
 -- Each exit is one law of Undoing.
 use Rattle.std.specs.Prelude.{ℕ, ◌≢◌, Option, unwrap_or, IfSome}
-use Rattle.std.proofs.Common.{◌≡◌, refl, sym, ap, subst, ◌∙◌}
+use Rattle.std.proofs.Common.{refl, sym, ap, subst, ◌∙◌}
 use Rattle.std.proofs.lemmas.Result.{err_from_is_err_and}
 use Rattle.layout.specs.Reasons.{number_of}
 use Rattle.layout.proofs.Laws.Reasons.{reason}

@@ -1,5 +1,4 @@
 -- What is left to put back, put back from here, gives what all gives from the start.
-use Prim.Native.Nat.{◌-◌}
 use Rattle.journal.proofs.Walks.Restores.{Restoring}
 use Rattle.journal.proofs.restoring.restore.Given as goal
 

@@ -1,6 +1,5 @@
-use Rattle.std.proofs.Common.{◌≡◌, refl}
+use Rattle.std.proofs.Common.{refl}
 use Rattle.std.proofs.lemmas.Result.{err_from_is_err_and}
-use Rattle.layout.specs.Reasons.{number_of}
 use Rattle.layout.proofs.Laws.Reasons.{reason}
 use Rattle.layout.specs.Walks.Slots.{entry_at}
 use Rattle.store.proofs.Walks.Prepares.{weighed-why, more-refused, more-written}

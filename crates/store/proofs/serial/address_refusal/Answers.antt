@@ -1,4 +1,4 @@
-use Rattle.std.proofs.Common.{◌≡◌, refl, sym, ◌∙◌}
+use Rattle.std.proofs.Common.{refl, sym, ◌∙◌}
 use Rattle.layout.proofs.Walks.Looks.{whole-bad}
 use Rattle.store.proofs.Walks.Serials.{address-unfit, address_unnamed, address-root, address-form, address-levels, whole-right}
 use Rattle.store.proofs.serial.address_refusal.Goals.{then-not-fits-via-then-not-fits, then-not-fits-via-else-not-fits+then-not-serial_ok}
