@@ -4,6 +4,7 @@ ghost use Rattle.layout.specs.Bytes.{splice};
 ghost use Rattle.layout.specs.Limits.{max_listed};
 ghost use Rattle.layout.specs.Lists.{joined};
 ghost use Rattle.layout.specs.Refusals.{require};
+ghost use Rattle.layout.specs.Reasons.{outcome};
 ghost use Rattle.layout.specs.Table.{next, chain};
 ghost use Rattle.layout.specs.Directory.{files, root};
 ghost use Rattle.layout.specs.Check.{check};
@@ -14,6 +15,7 @@ ghost use Rattle.layout.specs.Walks.Slots.{entry_at};
 
 use super::text;
 use layout::directory::number_at;
+use layout::refusal::Refusal;
 
 // The most bytes of an image that is listed.
 pub const MAX_LISTED: usize = 65536;
@@ -97,14 +99,14 @@ fn list(image: &[u8], out: &mut [u8]) -> usize
     file_lines(image, n, first, d, out, p)
 }
 
-// The number of the refusal, or 0.
-fn refusal(image: &[u8]) -> usize
-    ensures { result ≡ require (leb (length image.now) max_listed) 1 (check image.now) }
+// The refusal, if the image is not listed.
+fn refusal(image: &[u8]) -> Result<(), Refusal>
+    ensures { outcome result ≡ require (leb (length image.now) max_listed) 1 (check image.now) }
 {
     if MAX_LISTED < image.len() {
-        return 1;
+        return Err(Refusal::BadLength);
     }
-    layout::check::check(image) as usize
+    layout::check::check(image)
 }
 
 // Writes the listing of an image at the start of a buffer, and gives its length.
@@ -112,9 +114,8 @@ pub fn render(image: &[u8], out: &mut [u8]) -> usize
     requires { max_listing ≤ length out.old }
     ensures { (out.new ≡ splice out.old 0 (listing image.now)) × (result ≡ length (listing image.now)) }
 {
-    let number = refusal(image);
-    if number != 0 {
-        return refused_line(number, out);
+    match refusal(image) {
+        Ok(()) => list(image, out),
+        Err(why) => refused_line(why.number() as usize, out),
     }
-    list(image, out)
 }

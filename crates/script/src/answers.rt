@@ -1,12 +1,15 @@
 // Answers as bytes: four numbers, then what is handed back.
 ghost use Rattle.std.specs.Prelude.{◌≡◌, ◌+◌, ◌≤◌, ◌<◌, length, []};
 ghost use Rattle.layout.specs.Bytes.{be64, splice};
+ghost use Rattle.layout.specs.Reasons.{number_of};
 ghost use Rattle.layout.specs.Answers.{lookup_answer, read_answer};
 ghost use Rattle.script.specs.Script.{Fits, numbers, name_at, data_length, encoded};
 ghost use Rattle.journal.specs.Run.{check_image, find_file, look_at, look_answer, found, filled, shown};
 ghost use Rattle.script.specs.Walks.Scripts.{filled_at};
 
 use layout::number::{get32, get64};
+use layout::reading::Found;
+use layout::refusal::Refusal;
 
 // The four numbers of an answer.
 #[derive(Drop)]
@@ -36,21 +39,31 @@ pub fn put_numbers(part: &mut [u8], n: Numbers)
     volume::number::put32(part, 12, n.fourth);
 }
 
-// The numbers of a look-up's answer.
-fn found_numbers(f: layout::reading::Found) -> Numbers
-    ensures { numbers result.first result.second result.third result.fourth ≡ encoded (found (lookup_answer f)) }
-{
-    match f {
-        layout::reading::Found::File { slot, size, blocks } => Numbers {
-            first: 0,
-            second: slot,
-            third: size,
-            fourth: blocks,
-        },
-        layout::reading::Found::Refused(number) => Numbers {
-            first: number,
+// The numbers of a refusal.
+impl From<Refusal> for Numbers {
+    ghost from_gives = { λ why n. (n.first ≡ number_of why) × (n.second ≡ 0) × (n.third ≡ 0) × (n.fourth ≡ 0) };
+
+    fn from(why: Refusal) -> Numbers {
+        Numbers {
+            first: why.number(),
             ..NO_NUMBERS
+        }
+    }
+}
+
+// The numbers of a look-up's answer.
+#[tactic(auto, unfolding(crate::specs::Script::encoded))]
+fn found_numbers(answer: Result<Found, Refusal>) -> Numbers
+    ensures { numbers result.first result.second result.third result.fourth ≡ encoded (found (lookup_answer answer)) }
+{
+    match answer {
+        Ok(file) => Numbers {
+            first: 0,
+            second: file.slot,
+            third: file.size,
+            fourth: file.blocks,
         },
+        Err(why) => why.into(),
     }
 }
 
@@ -59,11 +72,10 @@ pub fn check(image: &[u8], part: &mut [u8])
     requires { length part.old ≡ 16 }
     ensures { part.new ≡ encoded (look_answer image.now check_image) }
 {
-    let number = layout::check::check(image);
     put_numbers(
         part,
         Numbers {
-            first: number,
+            first: layout::refusal::outcome(layout::check::check(image)),
             ..NO_NUMBERS
         },
     );
@@ -80,25 +92,21 @@ pub fn lookup(script: &[u8], at: usize, image: &[u8], part: &mut [u8])
 }
 
 // The numbers of a read's answer.
-fn filled_numbers(f: layout::reading::Filled) -> Numbers
-    requires { (read_answer f []).count < 4294967296 }
-    ensures { (result.first ≡ (read_answer f []).number) × (result.second ≡ (read_answer f []).count) × (result.third ≡ 0) × (result.fourth ≡ 0) }
+fn filled_numbers(answer: Result<usize, Refusal>) -> Numbers
+    requires { (read_answer answer []).count < 4294967296 }
+    ensures { (result.first ≡ (read_answer answer []).number) × (result.second ≡ (read_answer answer []).count) × (result.third ≡ 0) × (result.fourth ≡ 0) }
 {
-    match f {
-        layout::reading::Filled::Bytes(count) => Numbers {
-            first: 0,
+    match answer {
+        Ok(count) => Numbers {
             second: count as u32,
             ..NO_NUMBERS
         },
-        layout::reading::Filled::Refused(number) => Numbers {
-            first: number,
-            ..NO_NUMBERS
-        },
+        Err(why) => why.into(),
     }
 }
 
 // Copies the data of the item at `at` into the buffer, and reads over it: the file's attributes, or the file.
-fn read_into(script: &[u8], at: usize, image: &[u8], buffer: &mut [u8]) -> layout::reading::Filled
+fn read_into(script: &[u8], at: usize, image: &[u8], buffer: &mut [u8]) -> Result<usize, Refusal>
     requires { (Fits script.now at) × (length buffer.old ≡ data_length script.now at) }
     ensures { read_answer result buffer.new ≡ filled_at image.now script.now at }
 {

@@ -13,44 +13,39 @@ ghost use Rattle.script.specs.Walks.Scripts.{looks, Item, Whole, CallDone, ItemD
 
 use super::answers::{NO_NUMBERS, Numbers};
 use super::items::{data_of, name_of};
+use journal::calls::Changed;
 use layout::number::get64;
+use layout::refusal::Refusal;
 use store::change::Change;
 use volume::change::Change as VolumeChange;
 use volume::create::Given;
 
 // The numbers of a change's answer.
-fn changed_numbers(c: journal::calls::Changed) -> Numbers
-    ensures { numbers result.first result.second result.third result.fourth ≡ encoded (changed_answer c) }
+#[tactic(auto, unfolding(crate::specs::Script::encoded))]
+fn changed_numbers(answer: Result<Changed, Refusal>) -> Numbers
+    ensures { numbers result.first result.second result.third result.fourth ≡ encoded (changed_answer answer) }
 {
-    match c {
-        journal::calls::Changed::Done { slot, size } => Numbers {
-            first: 0,
-            second: slot,
-            third: size,
-            fourth: 0,
-        },
-        journal::calls::Changed::Refused(number) => Numbers {
-            first: number,
+    match answer {
+        Ok(changed) => Numbers {
+            second: changed.slot,
+            third: changed.size,
             ..NO_NUMBERS
         },
+        Err(why) => why.into(),
     }
 }
 
 // The numbers of undo's answer.
-fn undone_numbers(u: journal::calls::Undone) -> Numbers
-    ensures { numbers result.first result.second result.third result.fourth ≡ encoded (undone_answer u) }
+#[tactic(auto, unfolding(crate::specs::Script::encoded))]
+fn undone_numbers(answer: Result<u32, Refusal>) -> Numbers
+    ensures { numbers result.first result.second result.third result.fourth ≡ encoded (undone_answer answer) }
 {
-    match u {
-        journal::calls::Undone::Done(size) => Numbers {
-            first: 0,
-            second: 0,
+    match answer {
+        Ok(size) => Numbers {
             third: size,
-            fourth: 0,
-        },
-        journal::calls::Undone::Refused(number) => Numbers {
-            first: number,
             ..NO_NUMBERS
         },
+        Err(why) => why.into(),
     }
 }
 
@@ -241,7 +236,7 @@ fn make_list(script: &[u8], at: usize, image: &mut [u8], journal: &mut [u8], par
     super::answers::put_numbers(
         part,
         Numbers {
-            first: w.number,
+            first: layout::refusal::outcome(w.answer),
             second: w.done,
             ..NO_NUMBERS
         },
@@ -292,25 +287,29 @@ fn execute(script: &[u8], image: &mut [u8], journal: &mut [u8], out: &mut [u8])
     }
 }
 
-// What running a script gives: all calls were made, or the script is not of the right form, or `out` is too short for the answers.
-#[derive(Drop)]
-pub enum Ran {
-    Done,
+// Why a script is not run: it is not of the right form, or `out` is too short for the answers.
+#[derive(Clone, Copy, Debug, PartialEq, Eq, Drop)]
+pub enum NotRun {
     Malformed,
     NoRoom,
 }
 
 // Runs a script: makes its calls in order and writes their answers to `out`. A script that is not run changes nothing.
-pub fn run(script: &[u8], image: &mut [u8], journal: &mut [u8], out: &mut [u8]) -> Ran
+pub fn run(
+    script: &[u8],
+    image: &mut [u8],
+    journal: &mut [u8],
+    out: &mut [u8],
+) -> Result<(), NotRun>
     ensures outcome { leaves (ran_status result) image.new journal.new out.new ≡ outcome (state image.old journal.old) script.now out.old }
     ensures replay { JustStarted image.old journal.old → leaves (ran_status result) image.new journal.new out.new ≡ replay_outcome (state image.old journal.old) script.now out.old }
 {
     if !super::items::well_formed(script) {
-        return Ran::Malformed;
+        return Err(NotRun::Malformed);
     }
     if !super::items::answers_fit(script, out.len()) {
-        return Ran::NoRoom;
+        return Err(NotRun::NoRoom);
     }
     execute(script, image, journal, out);
-    Ran::Done
+    Ok(())
 }

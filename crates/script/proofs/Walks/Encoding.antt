@@ -1,4 +1,5 @@
 -- Answers as bytes: their lengths, and what the code writes piece by piece.
+use Rattle.std.specs.Prelude.{Result, Ok, Err}
 use Prim.Native.Nat.{ℕ, ◌+◌, ◌-◌, ◌≤◌, ◌<◌}
 use mathlib.Core.Path.{◌≡◌, refl, sym, ap, ◌∙◌}
 use mathlib.Core.List.{List, [], ◌++◌, append_assoc}
@@ -8,8 +9,7 @@ use native.Mathlib.Omega.{arith}
 use borrow.Rule.Slice.PartMut.{put_mid}
 use lib.ListN.{length, replicate, length-append, length-replicate}
 use Rattle.layout.specs.Bytes.{be64, bytes4, zeros, part, splice}
-use Rattle.layout.specs.declared.reading.Filled.{Filled}
-use Rattle.layout.specs.declared.reading.Filled.TheVariants.{Bytes, Refused}
+use Rattle.layout.specs.declared.refusal.Refusal.{Refusal}
 use Rattle.layout.specs.Looks.{ReadAnswer, Extent, VolumeAnswer, EntryAnswer, read, extent_of, look_in_place, read_attributes, volume_info, next_entry}
 use Rattle.store.specs.Get.{GetAnswer, got_answer, get_in}
 use Rattle.journal.specs.Run.{Call, Answer, State, change, undo, look, check_image, find_file, read_file, look_at, read_attributes_of, show_volume, show_entry, get_settings_in, filled, shown, got, described, entered, look_answer, answer, change_answer, change_refusal, undo_answer, undo_refusal}
@@ -105,18 +105,18 @@ shown-encoded s bytes start h k =
     splice-three s (numbers start (length bytes) 0 0) bytes (zeros (512 - length bytes)) 16 (16 + length bytes) (omega arith) (omega arith) (omega arith)
 
 -- number and count of a read do not depend on the buffer
-module _ (f : Filled) (b : List ℕ) where
+module _ (f : Result ℕ Refusal) (b : List ℕ) where
   pub number-alone : (read_answer f []).number ≡ (read_answer f b).number
-  number-alone = elim f as (λ k. (read_answer k []).number ≡ (read_answer k b).number) [ Bytes count ↦ refl | Refused number ↦ refl ]
+  number-alone = elim f as (λ k. (read_answer k []).number ≡ (read_answer k b).number) [ Ok count ↦ refl | Err why ↦ refl ]
 
   pub count-alone : (read_answer f []).count ≡ (read_answer f b).count
-  count-alone = elim f as (λ k. (read_answer k []).count ≡ (read_answer k b).count) [ Bytes count ↦ refl | Refused number ↦ refl ]
+  count-alone = elim f as (λ k. (read_answer k []).count ≡ (read_answer k b).count) [ Ok count ↦ refl | Err why ↦ refl ]
 
   pub buffer-alone : (read_answer f b).buffer ≡ b
-  buffer-alone = elim f as (λ k. (read_answer k b).buffer ≡ b) [ Bytes count ↦ refl | Refused number ↦ refl ]
+  buffer-alone = elim f as (λ k. (read_answer k b).buffer ≡ b) [ Ok count ↦ refl | Err why ↦ refl ]
 
 -- what read_into left in the part, and the numbers before it
-pub read-answered : (s b : List ℕ) (a : ReadAnswer) (f : Filled) → read_answer f b ≡ a → length s ≡ 16 + length a.buffer
+pub read-answered : (s b : List ℕ) (a : ReadAnswer) (f : Result ℕ Refusal) → read_answer f b ≡ a → length s ≡ 16 + length a.buffer
     → splice (splice s 16 b) 0 (numbers (read_answer f []).number (read_answer f []).count 0 0) ≡ encoded (filled a)
 read-answered s b a f e h =
     let l : length b ≡ length a.buffer = ap length (sym (buffer-alone f b)) ∙ ap (λ (x : ReadAnswer). length x.buffer) e in
@@ -140,7 +140,7 @@ module _ (image s : List ℕ) (at : ℕ) where
       go true = attributes-count image (name_at s at) (data_at s at)
       go false = read_count image (name_at s at) (be64 s (at + 9)) (data_at s at)
 
-  pub read_small : (b : List ℕ) (f : Filled) → read_answer f b ≡ filled_at image s at → (read_answer f []).count ≤ length (data_at s at)
+  pub read_small : (b : List ℕ) (f : Result ℕ Refusal) → read_answer f b ≡ filled_at image s at → (read_answer f []).count ≤ length (data_at s at)
   read_small b f e = omega (arith, count-alone f b, ap (λ (a : ReadAnswer). a.count) e, filled-count)
 
 zeros-are : (k : ℕ) → replicate k 0 ≡ zeros k
@@ -163,7 +163,7 @@ shown-written s t bytes x y start h g d e f l =
     whole : (y : List ℕ) (k : ℕ) → y ≡ replicate k 0 → y ≡ zeros (length y)
     whole y k f = f ∙ zeros-are k ∙ ap zeros (sym (ap length f ∙ length-replicate {A = ℕ} k 0))
 
-pub read-written : (s b t : List ℕ) (a : ReadAnswer) (size : ℕ) (f : Filled) (n₁ n₂ n₃ n₄ : ℕ) → read_answer f b ≡ a
+pub read-written : (s b t : List ℕ) (a : ReadAnswer) (size : ℕ) (f : Result ℕ Refusal) (n₁ n₂ n₃ n₄ : ℕ) → read_answer f b ≡ a
     → length a.buffer ≡ size → length s ≡ 16 + size → length b ≡ 16 + size - 16
     → (n₁ ≡ (read_answer f []).number) × (n₂ ≡ (read_answer f []).count) × (n₃ ≡ 0) × (n₄ ≡ 0)
     → t ≡ splice (put_mid 16 (16 + size - 16) s b) 0 (numbers n₁ n₂ n₃ n₄) → t ≡ encoded (filled a)

@@ -1,4 +1,4 @@
-use lib.ListN.{length}
+use Rattle.std.proofs.Common.{length}
 use borrow.Author.Tests.{lt-leb, le-leb}
 use Rattle.lister.proofs.listing.refusal.Goals as goal
 

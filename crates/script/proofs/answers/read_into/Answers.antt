@@ -1,5 +1,4 @@
-use mathlib.Core.Path.{◌∙◌, sym, ap}
-use lib.ListN.{length}
+use Rattle.std.proofs.Common.{◌∙◌, sym, ap, length}
 use borrow.Author.Tests.{eq-eqb, ne_eqb}
 use Rattle.script.specs.Walks.Scripts.{filled_at}
 use Rattle.script.proofs.Walks.Scripts.{length-data}
@@ -17,7 +16,7 @@ returns-then-script-at-eq13 c =
     let copy = c.copy in
     let data_of = c.data_of-before in
     let name-of = c.name_of-name in
-    read-attributes.ensures.answer ∙ rw (copy.ensures, data_of.ensures, name-of.ensures, eq-eqb _ 13 c.if-script-at-eq13.true)
+    read-attributes.ensures ∙ rw (copy.ensures, data_of.ensures, name-of.ensures, eq-eqb _ 13 c.if-script-at-eq13.true)
 
 pub returns : goal.returns
 unfolding filled_at
@@ -27,4 +26,4 @@ returns c =
     let copy = c.copy in
     let data_of = c.data_of-before in
     let name-of = c.name_of-name in
-    read.ensures.answer ∙ rw (copy.ensures, data_of.ensures, name-of.ensures, get64.ensures, ne_eqb _ 13 c.if-script-at-eq13.false)
+    read.ensures ∙ rw (copy.ensures, data_of.ensures, name-of.ensures, get64.ensures, ne_eqb _ 13 c.if-script-at-eq13.false)
