@@ -558,8 +558,8 @@ pub extern "C" fn bulgefs_undo(image: &mut [u8], journal: &mut [u8]) -> Changed
 {
     match journal::calls::undo(image, journal) {
         Ok(size) => Changed { number: 0, size },
-        Err(why) => Changed {
-            number: why.number(),
+        Err(refusal) => Changed {
+            number: refusal.number(),
             size: 0,
         },
     }
