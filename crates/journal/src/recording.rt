@@ -53,7 +53,7 @@ fn save_block(block: &[u8], b: usize, piece: &mut [u8])
     ensures { piece.new ≡ bytes4 b ++ block.now }
 {
     volume::number::put32(piece, 0, b as u32);
-    piece[4..516].copy_from_slice(block);
+    layout::bytes::copy(block, &mut piece[4..516]);
 }
 
 // Saves the marked ones of the blocks from a up to e, ascending, from `at` on; gives the end of what it wrote.

@@ -17,7 +17,7 @@ fn restore(image: &mut [u8], journal: &[u8], n: usize, at: usize, k: usize)
         let e = a + 512;
         let f = p + 4;
         let g = f + 512;
-        image[a..e].copy_from_slice(&journal[f..g]);
+        layout::bytes::copy(&journal[f..g], &mut image[a..e]);
     }
 }
 

@@ -86,12 +86,15 @@ pub fn clear(s: &mut [u8])
     s.fill(0);
 }
 
-// Copies all of src over dst, which is as long.
+// Copies all of src over dst, which is as long. It is a loop and not `copy_from_slice`, which is compiled to a call of `memmove`: the archive needs
+// `memset` and `memcpy` alone.
 pub fn copy(src: &[u8], dst: &mut [u8])
     requires { length src.now ≡ length dst.old }
     ensures { dst.new ≡ src.now }
 {
-    dst.copy_from_slice(src);
+    for i in 0..src.len() {
+        dst[i] = src[i];
+    }
 }
 
 // Copies the `count` bytes from `from` of src over those at `at` of dst.
@@ -99,5 +102,5 @@ pub fn copy_part(src: &[u8], from: usize, dst: &mut [u8], at: usize, count: usiz
     requires { (from + count ≤ length src.now) × (at + count ≤ length dst.old) }
     ensures { dst.new ≡ splice dst.old at (part src.now from count) }
 {
-    dst[at..at + count].copy_from_slice(&src[from..from + count]);
+    copy(&src[from..from + count], &mut dst[at..at + count]);
 }

@@ -102,8 +102,8 @@ fn fill_renamed(slot: &mut [u8], head: &[u8], name: &[u8])
     ensures { slot.new ≡ head.now ++ padded name.now }
 {
     slot.fill(0);
-    slot[..HEAD].copy_from_slice(head);
-    slot[HEAD..HEAD + name.len()].copy_from_slice(name);
+    layout::bytes::copy(head, &mut slot[..HEAD]);
+    layout::bytes::copy(name, &mut slot[HEAD..HEAD + name.len()]);
 }
 
 // The same for the slot at o of a directory's block.
@@ -129,7 +129,7 @@ fn copy_head(image: &[u8], b: usize, k: usize, head: &mut [u8])
     ensures { head.new ≡ part image.now (entry_at b k) 48 }
 {
     let o = 128 * (k % 4);
-    head.copy_from_slice(&layout::bytes::block(image, b)[o..o + HEAD]);
+    layout::bytes::copy(&layout::bytes::block(image, b)[o..o + HEAD], head);
 }
 
 // Moves the entry: its old slot is zeroed, and the new one written.

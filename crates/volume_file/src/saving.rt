@@ -67,7 +67,7 @@ fn log_one(file: &mut [u8], sector: &[u8], k: usize, i: usize, h: usize)
 {
     volume::number::put32(file, super::log::address_at(h, k), i as u32);
     let s = 512 * super::log::saved_at(h, k);
-    file[s..s + 512].copy_from_slice(sector);
+    layout::bytes::copy(sector, &mut file[s..s + 512]);
 }
 
 // Fills the log, but for the number of its sectors. Gives that number.

@@ -8,10 +8,9 @@ use Rattle.journal.proofs.recording.save_block.Goals as goal
 
 pub returns : goal.returns
 returns c =
-    let copy = c.copy_from_slice in
     let put32 = c.put32 in
     let a = c.args in
     let p = c.requires in
     let h = p in
-    lent put32.new.s 4 512 _ a.block.now copy.ensures.after h.0
+    lent put32.new.s 4 512 _ a.block.now c.copy.ensures h.0
     ∙ ap (λ (x : List ℕ). splice x 4 a.block.now) put32.ensures ∙ piece-made a.piece.now a.block.now a.b h.1 h.0

@@ -20,19 +20,18 @@ overflow_add-e c =
     let h = restore-below _ _ _ _ _ _ _ c.loop-i.invariant (omega arith) in
     omega (arith, c.get32.ensures)
 
-pub slice_bounds-copy_from_slice-end-in-loop-i : goal.slice_bounds-copy_from_slice-end-in-loop-i
-slice_bounds-copy_from_slice-end-in-loop-i c =
+pub slice_bounds-copy-end-in-loop-i : goal.slice_bounds-copy-end-in-loop-i
+slice_bounds-copy-end-in-loop-i c =
     let h = restore-below _ _ _ _ _ _ _ c.loop-i.invariant (omega arith) in
     omega (arith, c.get32.ensures, c.loop-i.invariant.long)
 
-pub copy_from_slice-requires : goal.copy_from_slice-requires
-copy_from_slice-requires c =
+pub copy-requires : goal.copy-requires
+copy-requires c =
     let h = restore-below _ _ _ _ _ _ _ c.loop-i.invariant (omega arith) in
     simp (length-take, length-drop) (omega (arith, c.get32.ensures, c.loop-i.invariant.long))
 
 pub loop-i-preserved : goal.loop-i-preserved
 loop-i-preserved c =
-    let copy = c.copy_from_slice in
     let get32 = c.get32 in
     let l = c.loop-i in
     let a = c.args in
@@ -43,7 +42,7 @@ loop-i-preserved c =
     let w : a.at + 4 + 516 * l.i + 4 + 512 - (a.at + 4 + 516 * l.i + 4) ≡ 512 = omega arith in
     let q : length (bytes_at a.journal.now a.at l.i) ≡ 512 = length_part a.journal.now (a.at + 8 + 516 * l.i) 512 (omega arith) in
     restore-one _ _ _ _ _ _ _ l.invariant (omega arith) _ (omega arith)
-    (lent l.image (512 * b) (512 * b + 512 - 512 * b) _ (bytes_at a.journal.now a.at l.i) (copy.ensures.after ∙ rw (w, o)) (q ∙ omega arith) ∙ rw g)
+    (lent l.image (512 * b) (512 * b + 512 - 512 * b) _ (bytes_at a.journal.now a.at l.i) (c.copy.ensures ∙ rw (w, o)) (q ∙ omega arith) ∙ rw g)
 
 pub shape_of-image : goal.shape_of-image
 shape_of-image c = c.loop-i.invariant.long

@@ -7,5 +7,5 @@ pub returns : goal.returns
 returns c =
     let a = c.args in
     let e : a.from + a.count - a.from ≡ a.count = omega arith in
-    lent _ a.at (a.at + a.count - a.at) _ (part a.src.now a.from a.count) (c.copy_from_slice.ensures.after ∙ rw e)
+    lent _ a.at (a.at + a.count - a.at) _ (part a.src.now a.from a.count) (c.copy.ensures ∙ rw e)
     (length_part a.src.now a.from a.count (omega arith) ∙ omega arith)

@@ -12,6 +12,6 @@ returns c =
     let p = c.requires in
     let name = a.name.now in
     let z : c.fill.new.self ≡ zeros 128 = c.fill.ensures.after (λ y h. h) ∙ ap (λ (n : ℕ). replicate n 0) p.0 in
-    lent _ 48 (48 + length name - 48) _ name c.copy_from_slice-2.ensures.after (omega arith)
-    ∙ ap (λ (x : List ℕ). splice x 48 name) (lent _ 0 48 _ a.head.now c.copy_from_slice.ensures.after p.1 ∙ ap (λ (x : List ℕ). splice x 0 a.head.now) z)
+    lent _ 48 (48 + length name - 48) _ name c.copy-2.ensures (omega arith)
+    ∙ ap (λ (x : List ℕ). splice x 48 name) (lent _ 0 48 _ a.head.now c.copy.ensures p.1 ∙ ap (λ (x : List ℕ). splice x 0 a.head.now) z)
     ∙ renamed-written a.head.now name p.1 p.2

@@ -6,4 +6,4 @@ pub returns : goal.returns
 returns c =
     let a = c.args in
     let s : ℕ = 512 * c.saved_at-s.result in
-    lent _ s (s + 512 - s) _ a.sector.now c.copy_from_slice.ensures.after (c.requires.0 ∙ omega arith) ∙ rw (c.put32.ensures, c.address_at.ensures, c.saved_at-s.ensures)
+    lent _ s (s + 512 - s) _ a.sector.now c.copy.ensures (c.requires.0 ∙ omega arith) ∙ rw (c.put32.ensures, c.address_at.ensures, c.saved_at-s.ensures)
