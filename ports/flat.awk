@@ -2,6 +2,7 @@
 #
 #   - the layout and the name of the machine are left out, and so is the name of the processor in the functions' attributes
 #   - a structure of two numbers or pointers is loaded in two parts, which stand where x86-64 has them: other machines may lay it out otherwise
+#   - `ptrtoaddr` becomes `ptrtoint`, which is the same number: for a machine with shorter pointers the compiler takes the first apart wrongly
 #   - the C functions become internal, and a flat function is added for each:
 #
 #         void bulgefs_flat_NAME(RESULT *answer, ...)
@@ -28,6 +29,12 @@ BEGIN {
 }
 
 /^target (datalayout|triple) = / { next }
+
+/^  %[^ ]+ = ptrtoaddr ptr [^ ]+ to i64$/ {
+    sub(/ptrtoaddr/, "ptrtoint")
+    print
+    next
+}
 
 /^attributes #[0-9]+ = / {
     ours = sub(/ "target-cpu"="x86-64"/, "")
