@@ -9,9 +9,23 @@ use Rattle.layout.specs.Limits.{max_directory, max_levels}
 use Rattle.layout.specs.Geometry.{block_count, table_blocks, in_volume}
 use Rattle.layout.specs.Table.{next, chain_ok}
 use Rattle.layout.specs.Directory.{slot_at, slots, type_of, first_block, blocks_of, attribute_block_of, attribute_size_of, self_of, parent_of, is_file, is_directory, directory, root_of}
-use Rattle.layout.specs.declared.refusal.Refusal.{Refusal}
-use Rattle.layout.specs.Reasons.{number_of}
 use Rattle.layout.specs.Check.{stage1, stage2, stage3, stage7, slot_ok, new_name}
+use Rattle.plain_check.specs.declared.check.Stage.{Stage}
+use Rattle.plain_check.specs.declared.check.Stage.TheVariants as stage
+
+-- the number of a stage, and the number that an answer gives: of the stage that is not met, or 0
+abbrev pub number_of : Stage → ℕ
+number_of stage.Length = 1
+number_of stage.Signature = 2
+number_of stage.Numbers = 3
+number_of stage.Directory = 4
+number_of stage.Slot = 5
+number_of stage.Chains = 6
+number_of stage.Counts = 7
+
+abbrev pub outcome : {T : Type 0} → Result T Stage → ℕ
+outcome (Ok given) = 0
+outcome (Err why) = number_of why
 
 -- a test as a number, and the sum of what f gives for the elements of a list
 abbrev pub one : Bool → ℕ
@@ -86,7 +100,7 @@ abbrev pub up_to : ℕ → Tour
 up_to c = toured 0 c
 
 -- the tour that an answer tells: the directories that were met, or the fault
-abbrev pub tour_told : Result ℕ Refusal → Tour
+abbrev pub tour_told : Result ℕ Stage → Tour
 tour_told (Ok c) = up_to c
 tour_told (Err why) = toured (number_of why) 0
 

@@ -1,7 +1,6 @@
 // The plain check. It keeps no record of owners: for each block it counts, by walking every chain afresh, how many chains hold it.
 // Tests joined by `&` and `|` are all made; one after `&&` is made only where those before it hold.
 ghost use Rattle.std.specs.Prelude.{ℕ, ◌+◌, ◌-◌, ◌*◌, ◌/◌, ◌%◌, ◌≤◌, ◌<◌, true, ◌&&◌, ◌≡◌, length, get_or, eqb, ltb, IfOk};
-ghost use Rattle.layout.specs.Reasons.{outcome};
 ghost use Rattle.layout.specs.Lists.{interval, every};
 ghost use Rattle.layout.specs.Limits.{max_blocks};
 ghost use Rattle.layout.specs.Bytes.{be32};
@@ -9,20 +8,28 @@ ghost use Rattle.layout.specs.Geometry.{root_block};
 ghost use Rattle.layout.specs.Table.{next, chain, chain_ok};
 ghost use Rattle.layout.specs.Directory.{first_block, blocks_of, name_ok, directory};
 ghost use Rattle.layout.specs.Check.{check, stage1, stage2, stage3, stage7, file_ok, directory_entry_ok, slot_ok};
-ghost use Rattle.plain_check.specs.Plain.{Question, Claims, one, holds, plain_directory_ok, plain_child_ok, count, meet, tour_told, tour_entries, tour_child, ask_tree, answer, counted, plain_stage6};
+ghost use Rattle.plain_check.specs.Plain.{outcome, Question, Claims, one, holds, plain_directory_ok, plain_child_ok, count, meet, tour_told, tour_entries, tour_child, ask_tree, answer, counted, plain_stage6};
 ghost use Rattle.plain_check.specs.Walks.{far, word, after, same_field, new_field, new_from, file_answer, Askable, Answers, Volume, Stands, Upto};
 
-use layout::refusal::{Refusal, outcome};
 use layout::{directory, limits};
+
+// The seven stages, each with its number.
+#[derive(Drop)]
+enum Stage {
+    Length = 1,
+    Signature = 2,
+    Numbers = 3,
+    Directory = 4,
+    Slot = 5,
+    Chains = 6,
+    Counts = 7,
+}
 
 // A byte of the image; past its end all bytes are 0.
 fn byte(image: &[u8], at: usize) -> u8
     ensures { (result ≡ get_or image.now at 0) × (result < 256) }
 {
-    if image.len() <= at {
-        return 0;
-    }
-    image[at]
+    if image.len() <= at { 0 } else { image[at] }
 }
 
 // The number of the four bytes at `at`, the highest first.
@@ -265,27 +272,27 @@ fn new_name(image: &[u8], d: usize, k: usize, e: usize) -> bool
 
 // Stages 4 and 5 of the directory at block d, which has met its own stage 4, and of all below it: its end slot, then slot by slot, a child wholly before the next.
 // Gives how many directories were met.
-fn tour(image: &[u8], n: usize, levels: usize, d: usize, before: usize) -> Result<usize, Refusal>
+fn tour(image: &[u8], n: usize, levels: usize, d: usize, before: usize) -> Result<usize, Stage>
     requires { (Volume image.now n) × (Stands image.now n d) × (1 ≤ before) × (before ≤ n) }
     ensures equal { tour_told result ≡ tour_entries (tour_child levels image.now n d) image.now (directory image.now d) before }
     ensures bound { IfOk result (λ met. (1 ≤ met) × (met ≤ n)) }
 {
     let size = number(image, 512 * d + 12);
     if byte(image, 512 * last_block(image, d, size) + 384) != 0xFF {
-        return Err(Refusal::BadSlot);
+        return Err(Stage::Slot);
     }
     let mut met = before;
     let mut e = 512 * d;
     for k in 2..4 * size {
         e = after(image, e);
         if !(slot_ok(image, e) & new_name(image, d, k, e)) {
-            return Err(Refusal::BadSlot);
+            return Err(Stage::Slot);
         }
         if !directory::is_directory(byte(image, e)) {
             continue;
         }
         if (levels == 0) | !child_ok(image, n, d, e, met) {
-            return Err(Refusal::BadSelf);
+            return Err(Stage::Directory);
         }
         met = tour(image, n, levels - 1, number(image, e + 4), met + 1)?;
     }
@@ -396,29 +403,29 @@ fn counts_ok(image: &[u8], n: usize) -> bool
 }
 
 // The seven stages, one after the other: the first that is not met ends the check.
-fn seven_stages(image: &[u8]) -> Result<(), Refusal>
+fn seven_stages(image: &[u8]) -> Result<(), Stage>
     ensures { outcome result ≡ check image.now }
 {
     let n = image.len() / 512;
     if !sized(image, n) {
-        return Err(Refusal::BadLength);
+        return Err(Stage::Length);
     }
     if !signed(image) {
-        return Err(Refusal::BadSignature);
+        return Err(Stage::Signature);
     }
     if !numbered(image, n) {
-        return Err(Refusal::BadGeometry);
+        return Err(Stage::Numbers);
     }
     let root = layout::geometry::root_block(n);
     if !directory_ok(image, n, root, root) {
-        return Err(Refusal::BadSelf);
+        return Err(Stage::Directory);
     }
     tour(image, n, limits::MAX_LEVELS, root, 1)?;
     if !table_ok(image, n) {
-        return Err(Refusal::BadChains);
+        return Err(Stage::Chains);
     }
     if !counts_ok(image, n) {
-        return Err(Refusal::BadCounts);
+        return Err(Stage::Counts);
     }
     Ok(())
 }
@@ -427,5 +434,5 @@ fn seven_stages(image: &[u8]) -> Result<(), Refusal>
 pub fn plain_check(image: &[u8]) -> u32
     ensures { result ≡ check image.now }
 {
-    outcome(seven_stages(image))
+    seven_stages(image).err().map_or(0, |stage| stage as u32)
 }
