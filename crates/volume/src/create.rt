@@ -29,7 +29,7 @@ pub fn create_refusal(image: &[u8], path: &[u8], kind: u8, flags: u32) -> Result
     if !layout::directory::is_file(kind) {
         return Err(Refusal::BadArgument);
     }
-    super::place::brought_refusal(layout::file::path_refusal(path), flags)?;
+    super::place::accept_brought(layout::file::path_refusal(path), flags)?;
     super::place::find_place(image, path)
 }
 

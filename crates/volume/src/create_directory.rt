@@ -40,7 +40,7 @@ pub fn create_directory_refusal(
     if !shaped(kind, d) {
         return Err(Refusal::BadArgument);
     }
-    super::place::brought_refusal(layout::file::whole_path_refusal(path), flags)?;
+    super::place::accept_brought(layout::file::whole_path_refusal(path), flags)?;
     let place = super::place::find_place(image, path)?;
     if layout::number::header_number(image, 24) < d as usize {
         return Err(Refusal::VolumeFull);

@@ -32,8 +32,8 @@ pub fn find_place(image: &[u8], path: &[u8]) -> Result<File, Refusal>
     })
 }
 
-// The refusals of a new entry by what is brought: those of its path, 9 and 17, then 26.
-pub fn brought_refusal(form: Result<(), Refusal>, flags: u32) -> Result<(), Refusal>
+// Weighs what a new entry brings: the refusals are those of its path, 9 and 17, then 26.
+pub(crate) fn accept_brought(form: Result<(), Refusal>, flags: u32) -> Result<(), Refusal>
     ensures { outcome result ≡ brought_refusal (outcome form) flags }
 {
     form?;
@@ -41,4 +41,17 @@ pub fn brought_refusal(form: Result<(), Refusal>, flags: u32) -> Result<(), Refu
         return Err(Refusal::BadFlags);
     }
     Ok(())
+}
+
+// The number of a new entry's refusal by what is brought: that of its path, which may be any number, then 26; or 0.
+pub fn brought_refusal(form: u32, flags: u32) -> u32
+    ensures { result ≡ brought_refusal form flags }
+{
+    if form != 0 {
+        return form;
+    }
+    if flags != 0 {
+        return Refusal::BadFlags.number();
+    }
+    0
 }

@@ -13,24 +13,24 @@ returns-then-not-is_file c =
     let a = c.args in
     refused-kind a.image.now a.path.now a.kind a.flags (sym c.if-not-is_file.true ∙ c.is_file.ensures)
 
-pub returns-in_err-brought_refusal : goal.returns-in_err-brought_refusal
-returns-in_err-brought_refusal c =
+pub returns-in_err-accept_brought : goal.returns-in_err-accept_brought
+returns-in_err-accept_brought c =
     let a = c.args in
-    let why = c.in_err-brought_refusal.field-0.0 in
+    let why = c.in_err-accept_brought.field-0.0 in
     let q = err_from_is_err_and c.from_residual.result c.from_residual.ensures.1 in
     rw (q.1, q.2)
     (refused-brought a.image.now a.path.now a.kind a.flags (sym c.if-not-is_file.false ∙ c.is_file.ensures) (number_of why)
-    (c.in_err-brought_refusal.ensures ∙ ap (λ (x : ℕ). brought_refusal x a.flags) c.path_refusal.ensures) (reason why))
+    (c.in_err-accept_brought.ensures ∙ ap (λ (x : ℕ). brought_refusal x a.flags) c.path_refusal.ensures) (reason why))
 
 pub find_place-requires : goal.find_place-requires
 find_place-requires c =
-    let b = brought-fine (outcome c.path_refusal.result) c.args.flags 0 c.in_ok-brought_refusal.ensures refl in
+    let b = brought-fine (outcome c.path_refusal.result) c.args.flags 0 c.in_ok-accept_brought.ensures refl in
     form-given _ _ c.requires (b.0 ∙ c.path_refusal.ensures)
 
 pub returns : goal.returns
 returns c =
     let a = c.args in
-    let b = brought-fine (outcome c.path_refusal.result) a.flags 0 c.in_ok-brought_refusal.ensures refl in
+    let b = brought-fine (outcome c.path_refusal.result) a.flags 0 c.in_ok-accept_brought.ensures refl in
     let same = by_place a.image.now a.path.now a.kind a.flags (sym c.if-not-is_file.false ∙ c.is_file.ensures)
     (form-given a.image.now a.path.now c.requires (b.0 ∙ c.path_refusal.ensures)) b.1 in
     subst (λ (x : ℕ). SearchedFor a.image.now a.path.now x c.find_place.result) same c.find_place.ensures

@@ -14,18 +14,18 @@ returns-then-not-shaped c =
     let a = c.args in
     create-directory-shape a.image.now a.path.now a.kind a.flags a.d (sym c.if-not-shaped.true ∙ c.shaped.ensures)
 
-pub returns-in_err-brought_refusal : goal.returns-in_err-brought_refusal
-returns-in_err-brought_refusal c =
+pub returns-in_err-accept_brought : goal.returns-in_err-accept_brought
+returns-in_err-accept_brought c =
     let a = c.args in
-    let why = c.in_err-brought_refusal.field-0.0 in
+    let why = c.in_err-accept_brought.field-0.0 in
     let q = err_from_is_err_and c.from_residual.result c.from_residual.ensures.1 in
     rw (q.1, q.2)
     (create-directory-brought a.image.now a.path.now a.kind a.flags a.d (sym c.if-not-shaped.false ∙ c.shaped.ensures) (number_of why)
-    (c.in_err-brought_refusal.ensures ∙ ap (λ (x : ℕ). brought_refusal x a.flags) c.whole_path_refusal.ensures) (reason why))
+    (c.in_err-accept_brought.ensures ∙ ap (λ (x : ℕ). brought_refusal x a.flags) c.whole_path_refusal.ensures) (reason why))
 
 pub find_place-requires : goal.find_place-requires
 find_place-requires c =
-    let b = brought-fine (outcome c.whole_path_refusal.result) c.args.flags 0 c.in_ok-brought_refusal.ensures refl in
+    let b = brought-fine (outcome c.whole_path_refusal.result) c.args.flags 0 c.in_ok-accept_brought.ensures refl in
     whole-given _ _ c.requires (b.0 ∙ c.whole_path_refusal.ensures)
 
 pub returns-in_err-place : goal.returns-in_err-place
@@ -33,7 +33,7 @@ returns-in_err-place c =
     let a = c.args in
     let why = c.in_err-place.field-0.0 in
     let e = c.in_err-place.ensures in
-    let b = brought-fine (outcome c.whole_path_refusal.result) a.flags 0 c.in_ok-brought_refusal.ensures refl in
+    let b = brought-fine (outcome c.whole_path_refusal.result) a.flags 0 c.in_ok-accept_brought.ensures refl in
     let q = err_from_is_err_and c.from_residual-in_err-place.result c.from_residual-in_err-place.ensures.1 in
     rw (q.1, q.2)
     (e ∙ create-directory-place a.image.now a.path.now a.kind a.flags a.d (sym c.if-not-shaped.false ∙ c.shaped.ensures) (b.0 ∙ c.whole_path_refusal.ensures) b.1
@@ -47,14 +47,14 @@ header_number-requires c =
 pub returns-then-header_number-d : goal.returns-then-header_number-d
 returns-then-header_number-d c =
     let a = c.args in
-    let b = brought-fine (outcome c.whole_path_refusal.result) a.flags 0 c.in_ok-brought_refusal.ensures refl in
+    let b = brought-fine (outcome c.whole_path_refusal.result) a.flags 0 c.in_ok-accept_brought.ensures refl in
     create-directory-full a.image.now a.path.now a.kind a.flags a.d (sym c.if-not-shaped.false ∙ c.shaped.ensures) (b.0 ∙ c.whole_path_refusal.ensures) b.1
     (sym c.in_ok-place.ensures.number_is) c.requires _ c.header_number.ensures c.if-header_number-d.true
 
 pub returns : goal.returns
 returns c =
     let a = c.args in
-    let b = brought-fine (outcome c.whole_path_refusal.result) a.flags 0 c.in_ok-brought_refusal.ensures refl in
+    let b = brought-fine (outcome c.whole_path_refusal.result) a.flags 0 c.in_ok-accept_brought.ensures refl in
     let o = c.in_ok-place.ensures in
     let z = sym o.number_is in
     place-as
