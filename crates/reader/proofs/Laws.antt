@@ -1,6 +1,7 @@
--- The position after a read, and what accepted reads give.
+-- Each case of a read's answer, the position after it, and what accepted reads give.
 use Prim.Native.Nat.{ℕ, zero, suc, ◌+◌, ◌-◌, ◌<◌, ◌≤◌, ◌^◌, min}
 use mathlib.Core.Bool.{true}
+use Rattle.std.specs.Prelude.{Result}
 use mathlib.Core.List.{List, [], ◌∷◌, ◌++◌}
 use mathlib.Core.Path.{◌≡◌, refl, sym, ap, ◌∙◌}
 use native.Mathlib.Omega.{arith}
@@ -13,13 +14,19 @@ use Rattle.layout.specs.Lists.{every, joined}
 use Rattle.layout.specs.Bytes.{part, splice}
 use Rattle.layout.specs.Directory.{size_of, is_file, content}
 use Rattle.layout.specs.Paths.{entry_of}
+use Rattle.layout.specs.declared.refusal.Refusal.{Refusal}
 use Rattle.layout.specs.Looks.{ReadAnswer, read, read_refusal, lookup_refusal}
+use Rattle.layout.specs.Answers.{read_answer}
 use Rattle.layout.proofs.Laws.Tests.{and_split, first_of-zero, accept-either}
 use Rattle.layout.proofs.Laws.Bytes.{be32-small, part-splice}
 use Rattle.layout.proofs.Laws.Sound.{sound}
 use Rattle.layout.proofs.Laws.Files.{length-content}
 use Rattle.layout.proofs.Laws.Looks.{lookup-sound, lookup-file}
 use Rattle.reader.specs.Readings.{answers, given, last_count}
+
+-- the answer of a read, by the case that it is
+pub read-case : {v w : Result ℕ Refusal} (b : List ℕ) (a : ReadAnswer) → v ≡ w → read_answer v b ≡ a → read_answer w b ≡ a
+read-case b a e h = ap (λ (x : Result ℕ Refusal). read_answer x b) (sym e) ∙ h
 
 module _ (s path : List ℕ) where
   abbrev bytes : List ℕ

@@ -110,6 +110,19 @@ module _ (name : List ℕ) where
   unfolding good_name
   good_name-bytes h g = rw (le-leb 1 (length name) h, le-leb (length name) max_name g)
 
+  pub name_bytes-zero : (i : ℕ) → i < length name → get_or name i 0 ≡ 0 → every name_byte (drop i name) ≡ false
+  name_bytes-zero i h z = rw (drop-cons name i 0 h, z)
+
+  pub name_bytes-slash : (i : ℕ) → i < length name → get_or name i 0 ≡ slash → every name_byte (drop i name) ≡ false
+  name_bytes-slash i h z = rw (drop-cons name i 0 h, z)
+
+  pub name_bytes-next : (i : ℕ) → i < length name → (get_or name i 0 ≡ 0 → ⊥) → (get_or name i 0 ≡ slash → ⊥)
+      → every name_byte (drop i name) ≡ every name_byte (drop (i + 1) name)
+  name_bytes-next i h z w = rw (drop-cons name i 0 h, ne_eqb (get_or name i 0) 0 z, ne_eqb (get_or name i 0) slash w, add-one)
+
+  pub name_bytes-end : (i : ℕ) → i ≡ length name → every name_byte (drop i name) ≡ true
+  name_bytes-end i e = rw (e, drop-length name)
+
 -- a field and a good name
 unpadded-byte : (f : List ℕ) (j : ℕ) → j < length (unpadded f) → get_or f j 0 ≡ get_or (unpadded f) j 0
 unpadded-byte [] j h = absurd (not-suc-le-zero h)
@@ -122,10 +135,33 @@ unpadded-stop [] = refl
 unpadded-stop (zero ∷ xs) = refl
 unpadded-stop (suc x ∷ xs) = unpadded-stop xs
 
-holds-longer : (f name : List ℕ) → (get_or f (length name) 0 ≡ 0 → ⊥) → same (unpadded f) name ≡ false
-holds-longer f name h = is_false _ (λ t.
-    let e : unpadded f ≡ name = same-eq (unpadded f) name t in
-    h (ap (λ (l : List ℕ). get_or f (length l) 0) (sym e) ∙ unpadded-stop f))
+module _ (f name : List ℕ) where
+  pub holds-longer : (get_or f (length name) 0 ≡ 0 → ⊥) → same (unpadded f) name ≡ false
+  holds-longer h = is_false _ (λ t.
+      let e : unpadded f ≡ name = same-eq (unpadded f) name t in
+      h (ap (λ (l : List ℕ). get_or f (length l) 0) (sym e) ∙ unpadded-stop f))
+
+  pub holds-differ : (j : ℕ) → j < length name → (get_or f j 0 ≡ get_or name j 0 → ⊥) → same (unpadded f) name ≡ false
+  holds-differ j l h = is_false _ (λ t.
+      let e : unpadded f ≡ name = same-eq (unpadded f) name t in
+      h (unpadded-byte f j (rw e l) ∙ ap (λ (x : List ℕ). get_or x j 0) e))
+
+-- a field that is the same as a good name byte by byte, and then has a zero or ends
+bytes-same : (f name : List ℕ) → every name_byte name ≡ true → ((j : ℕ) → j < length name → get_or f j 0 ≡ get_or name j 0) → get_or f (length name) 0 ≡ 0
+    → unpadded f ≡ name
+bytes-same [] [] good bytes stop = refl
+bytes-same (zero ∷ xs) [] good bytes stop = refl
+bytes-same (suc x ∷ xs) [] good bytes stop = absurd (suc-ne-zero x stop)
+bytes-same f (zero ∷ ys) good bytes stop = absurd (false≢true good)
+bytes-same [] (suc y ∷ ys) good bytes stop = absurd (suc-ne-zero y (sym (bytes 0 (omega arith))))
+bytes-same (x ∷ xs) (suc y ∷ ys) good bytes stop =
+    let e : x ≡ suc y = bytes 0 (omega arith) in
+    let r = bytes-same xs ys (and_split (name_byte (suc y)) (every name_byte ys) good).1 (λ j h. bytes (suc j) (omega arith)) stop in
+    rw (e, r)
+
+pub holds-all : (f name : List ℕ) → good_name name ≡ true → ((j : ℕ) → j < length name → get_or f j 0 ≡ get_or name j 0) → get_or f (length name) 0 ≡ 0
+    → same (unpadded f) name ≡ true
+holds-all f name good bytes stop = rw (bytes-same f name (good_name-split name good).2 bytes stop) (same_refl name)
 
 holds-bytes : (name rest : List ℕ) → every name_byte name ≡ true → get_or (name ++ rest) (length name) 0 ≡ 0 → unpadded (name ++ rest) ≡ name
 holds-bytes [] [] good stop = refl

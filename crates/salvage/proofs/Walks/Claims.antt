@@ -122,6 +122,19 @@ module _ (v : ℕ → ℕ) (n first : ℕ) (m₀ m : List ℕ) (met b : ℕ) (w 
           stuck = λ h cs M. stop cs (f cs M);
         }
 
+    pub walked-outside : (b ≤ table_blocks n) ⊎ (n ≤ b) → Walked v n first k m₀ met m
+    walked-outside o = stuck-at (λ cs M C.
+        let i = in_volume-split n b (every_in (in_volume n) (chain v first k) b C.inside in_whole) in
+        ⊎_elim (λ p. omega arith) (λ p. omega arith) o)
+
+    pub walked-marked : get_or m b 0 ≢ 0 → Walked v n first k m₀ met m
+    walked-marked ne = stuck-at (λ cs M C.
+        ⊎_elim (λ i. C.fresh b i in_whole)
+        (λ i. let x = in-chain v first met b i in
+        index-apart (chain v first k) C.once x.0 met (rw (length-chain v first k) (omega (arith, x.1))) (rw (length-chain v first k) more) (λ p. omega (arith, x.1))
+        (get_d-chain v first k x.0 (omega (arith, x.1)) ∙ sym x.2 ∙ w.here ∙ sym (get_d-chain v first k met more)))
+        (in-append b cs (chain v first met) (marked-in m (cs ++ chain v first met) b (w.marks cs M) ne)))
+
     pub walked-stuck : IsGood n m b false → Walked v n first k m₀ met m
     walked-stuck G = stuck-at (λ cs M C.
         let i : in_volume n b ≡ true = every_in (in_volume n) (chain v first k) b C.inside in_whole in

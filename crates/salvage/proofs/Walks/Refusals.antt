@@ -143,6 +143,9 @@ module _ (s : List ℕ) (n t root size : ℕ) (m₀ m : List ℕ) (ok : Bool) (r
           let q : leb (4 * length ds) size ≡ true = le-leb (4 * length ds) size (omega (arith, root-length)) in
           record { number = rw (H.0, H.1, H.2, ← root-test, e, ← plain-is, ← z, q); marks = λ y. root-marks e }
 
+pub weighed-zero : {s : List ℕ} {size r : ℕ} {m : List ℕ} → Weighed s size r m → r ≡ 0 → Weighed s size 0 m
+weighed-zero {s} {size} {r} {m} W e = subst (λ (x : ℕ). Weighed s size x m) e W
+
 -- THE ANSWER
 pub refused : (s report : List ℕ) (r : ℕ) → r ≡ salvage_refusal s (length report) → (r ≡ 0 → ⊥)
     → ◌≡◌ {A = SalvageAnswer} (record { number = r; image = s; report = report }) (salvage s report)

@@ -23,6 +23,7 @@ use Rattle.layout.proofs.Laws.Chains.{nth, nth-suc, chain_snoc, get_d-chain}
 use Rattle.layout.proofs.Laws.Joins.{interval-in, in-select, select_has}
 use Rattle.layout.proofs.Walks.Marks.{marked_more}
 use Rattle.salvage.specs.Walks.{MarksOf}
+pub use Rattle.salvage.proofs.Walks.Claims.{good-outside, good-marked}
 use Rattle.salvage_tree.specs.SalvageTree.{run, ends_in, row_right, directory_blocks}
 use Rattle.salvage_tree.specs.Walks.{IsGood, Ran, RowGood, RowRight, otherwise, ChoseOther, Chose, MarkedToo, Own}
 use Rattle.salvage_tree.proofs.Laws.Chosen.{Chosen, chosen}

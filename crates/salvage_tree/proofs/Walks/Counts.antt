@@ -1,25 +1,28 @@
 -- The refusals and the counts.
-use Prim.Native.Nat.{ℕ, zero, suc, ◌+◌, ◌*◌, ◌/◌, ◌%◌, ◌^◌, ◌≤◌, ◌<◌}
+use Prim.Native.Nat.{ℕ, zero, suc, ◌+◌, ◌-◌, ◌*◌, ◌/◌, ◌%◌, ◌^◌, ◌≤◌, ◌<◌}
 use mathlib.Core.Bool.{Bool, true, false, not, ◌&&◌, ◌||◌}
 use mathlib.Core.List.{List, [], ◌∷◌, ◌++◌}
+use mathlib.Core.Logic.{◌⊎◌, ⊎_elim}
 use mathlib.Core.Path.{◌≡◌, refl, sym, ap, ◌∙◌}
 use native.Mathlib.Decide.{ℕ_discrete}
 use native.Mathlib.Omega.{arith}
 use lib.Bits.{bit_and}
 use lib.Dec.{eqb, leb}
-use lib.ListN.{length, get_or, drop, replicate}
+use lib.ListN.{length, get_or, set, drop, take, replicate, length-set}
+use lib.Seq.{drop-cons, drop-length, get_or-set_same, get_or-set_other}
 use borrow.Author.Tests.{eq-eqb, ne_eqb, le-leb, lt-leb, leb-true}
 use Rattle.std.specs.List.{filter, range_with_len}
 use Rattle.std.proofs.lemmas.List.FromFn.{length-range_with_len}
 use Rattle.std.proofs.lemmas.Nat.Bits.{shr_and_one, bit_at_lowest}
-use Rattle.layout.specs.Lists.{within, interval, keep, select}
-use Rattle.layout.specs.Bytes.{zeros, splice}
-use Rattle.layout.specs.Geometry.{block_count}
+use Rattle.layout.specs.Lists.{within, interval, keep, select, same}
+use Rattle.layout.specs.Limits.{min_blocks, max_blocks}
+use Rattle.layout.specs.Bytes.{be32, zeros, splice}
+use Rattle.layout.specs.Geometry.{signature, block_count, table_blocks}
 use Rattle.layout.specs.Directory.{is_free, type_of}
-use Rattle.layout.specs.Check.{stage1}
+use Rattle.layout.specs.Check.{stage1, stage2}
 use Rattle.layout.specs.Walks.Slots.{entry_at}
 use Rattle.layout.proofs.Laws.Tests.{is_false, within-join, within-split, require-zero, accept-refused}
-use Rattle.layout.proofs.Laws.Lists.{select-same}
+use Rattle.layout.proofs.Laws.Lists.{interval-from, select-same}
 use Rattle.layout.proofs.Laws.Joins.{select-agree}
 use Rattle.layout.proofs.Laws.Bytes.{lent}
 use Rattle.salvage_tree.specs.SalvageTree.{other_length, tree_refusal, number, hung_over, salvaged, TreeAnswer, salvage_tree}
@@ -34,6 +37,29 @@ unfolding used_bits
 used-is s b x y z w ex ey ez ew =
     let q : entry_at b 0 ≡ 512 * b = omega arith in
     rw (ex ∙ ap (λ (a : ℕ). one (not (is_free (type_of s a)))) q, ey, ez, ew)
+
+-- all of them, when those of the blocks before b are told
+pub record UsedUp (s : List ℕ) (n : ℕ) (used₀ used : List ℕ) (b left : ℕ) : Type 0 where
+  pub sum : b + left ≡ n
+  pub size : length used ≡ length used₀
+  pub at : (x : ℕ) → x < b → get_or used x 0 ≡ used_bits s x
+
+pub used_start : (s : List ℕ) (n : ℕ) (used : List ℕ) → UsedUp s n used used 0 n
+used_start s n used = record { sum = omega arith; size = refl; at = λ x h. absurd (omega arith) }
+
+pub used-more : {s : List ℕ} {n : ℕ} {used₀ used : List ℕ} {b left : ℕ} → UsedUp s n used₀ used b left → 0 < left → n ≤ length used₀ → (v : ℕ) → v ≡ used_bits s b → UsedUp s n used₀ (set used b v) (b + 1) (left - 1)
+used-more {s} {n} {used₀} {used} {b} {left} w h l v e =
+    record {
+      sum = omega (arith, w.sum);
+      size = length-set used b v ∙ w.size;
+      at = λ x g. elim (ℕ_discrete x b) [
+        | yes p ↦ rw (p, get_or-set_same used b v 0 (omega (arith, w.sum, w.size))) e
+        | no p ↦ rw (get_or-set_other used b x v 0 p) (w.at x (omega arith))
+      ];
+    }
+
+pub used-end : {s : List ℕ} {n : ℕ} {used₀ used : List ℕ} {b left : ℕ} → UsedUp s n used₀ used b left → left ≡ 0 → UsedOf s n used
+used-end w e = record { at = λ x h. w.at x (omega (arith, w.sum)) }
 
 -- ONE SLOT'S BIT, by its place in the block
 module _ (x j : ℕ) where
@@ -131,6 +157,54 @@ range-interval a (suc k) = let q : a + 1 ≡ suc a = omega arith in rw q (ap (λ
 pub counted-range : (p : ℕ → Bool) (k n : ℕ) → n ≡ length (filter p (range_with_len 0 k)) → (n ≡ length (select p (interval 0 k))) × (n ≤ k)
 counted-range p k n e = let w = counted p (range_with_len 0 k) n e in (w.0 ∙ ap (λ (xs : List ℕ). length (select p xs)) (range-interval 0 k), omega (arith, w.1, length-range_with_len 0 k))
 
+-- the same, when those before i are counted: of the elements of a list, and of the numbers below n
+keep-length : (p : ℕ → Bool) (x : ℕ) (xs : List ℕ) → length (select p (x ∷ xs)) ≡ one (p x) + length (select p xs)
+keep-length p x xs = go (p x) refl
+  where
+    go : (t : Bool) → p x ≡ t → length (select p (x ∷ xs)) ≡ one (p x) + length (select p xs)
+    go true e = rw e (omega arith)
+    go false e = rw e (omega arith)
+
+pub record Tally (p : ℕ → Bool) (xs : List ℕ) (count i : ℕ) : Type 0 where
+  pub most : i ≤ length xs
+  pub few : count ≤ i
+  pub is : length (select p xs) ≡ count + length (select p (drop i xs))
+
+pub tally-start : (p : ℕ → Bool) (xs : List ℕ) → Tally p xs 0 0
+tally-start p xs = record { most = omega arith; few = omega arith; is = omega arith }
+
+pub tally-more : (p : ℕ → Bool) (xs : List ℕ) (count i : ℕ) → Tally p xs count i → i < length xs → (v : ℕ) → (v ≡ one (p (get_or xs i 0))) × (v ≤ 1) → Tally p xs (count + v) (i + 1)
+tally-more p xs count i w h v e =
+    let q : i + 1 ≡ suc i = omega arith in
+    let k : length (select p (drop i xs)) ≡ one (p (get_or xs i 0)) + length (select p (drop (suc i) xs)) = ap (λ (ys : List ℕ). length (select p ys)) (drop-cons xs i 0 h) ∙ keep-length p (get_or xs i 0) (drop (suc i) xs) in
+    rw q (record { most = omega arith; few = omega (arith, w.few, e.1); is = omega (arith, w.is, k, e.0) })
+
+pub tally-end : (p : ℕ → Bool) (xs : List ℕ) (count i : ℕ) → Tally p xs count i → length xs ≤ i → (count ≡ number p xs) × (count ≤ length xs)
+unfolding number
+tally-end p xs count i w h =
+    let q : i ≡ length xs = omega (arith, w.most) in
+    let k : length (select p (drop i xs)) ≡ 0 = ap (λ (j : ℕ). length (select p (drop j xs))) q ∙ ap (λ (ys : List ℕ). length (select p ys)) (drop-length xs) in
+    (omega (arith, w.is, k), omega (arith, w.few))
+
+pub record Over (p : ℕ → Bool) (n count i : ℕ) : Type 0 where
+  pub most : i ≤ n
+  pub few : count ≤ i
+  pub is : length (select p (interval 0 n)) ≡ count + length (select p (interval i (n - i)))
+
+pub over-start : (p : ℕ → Bool) (n : ℕ) → Over p n 0 0
+over-start p n = let q : n - 0 ≡ n = omega arith in record { most = omega arith; few = omega arith; is = rw q (omega arith) }
+
+pub over-more : (p : ℕ → Bool) (n count i : ℕ) → Over p n count i → i < n → (v : ℕ) → (v ≡ one (p i)) × (v ≤ 1) → Over p n (count + v) (i + 1)
+over-more p n count i w h v e =
+    let k : length (select p (interval i (n - i))) ≡ one (p i) + length (select p (interval (i + 1) (n - (i + 1)))) = ap (λ (ys : List ℕ). length (select p ys)) (interval-from n i h) ∙ keep-length p i (interval (i + 1) (n - (i + 1))) in
+    record { most = omega arith; few = omega (arith, w.few, e.1); is = omega (arith, w.is, k, e.0) }
+
+pub over-end : (p : ℕ → Bool) (n count i : ℕ) → Over p n count i → n ≤ i → (count ≡ length (select p (interval 0 n))) × (count ≤ n)
+over-end p n count i w h =
+    let q : n - i ≡ 0 = omega arith in
+    let k : length (select p (interval i (n - i))) ≡ 0 = ap (λ (j : ℕ). length (select p (interval i j))) q in
+    (omega (arith, w.is, k), omega (arith, w.few, w.most))
+
 pub over-is : (s : List ℕ) (n : ℕ) (codes used : List ℕ) → UsedOf s n used → length codes ≡ 4 * n → length (select (hung_here codes used) (interval 0 (length codes))) ≡ hung_over s codes
 unfolding hung_over hung_here
 over-is s n codes used U l =
@@ -161,6 +235,32 @@ zeroed-number codes = ap length (select-agree (λ c. eqb c 1 || eqb c 2) (within
     ]
 
 -- THE REFUSALS
+module _ (s : List ℕ) (n : ℕ) (c : block_count s ≡ n) (x : Bool) (ex : x ≡ same (take 12 s) signature) where
+  pub other-signed : x ≡ false → false ≡ other_length s
+  unfolding other_length stage2
+  other-signed z = rw (sym ex ∙ z)
+
+  module _ (ok : x ≡ true) (m : ℕ) (em : m ≡ be32 s 12) where
+    pub other-same : m ≡ n → false ≡ other_length s
+    unfolding other_length stage2
+    other-same z = rw (sym ex ∙ ok, c, ← em, eq-eqb m n z)
+
+    module _ (ne : m ≡ n → ⊥) where
+      pub other-range : (m < min_blocks) ⊎ (max_blocks < m) → false ≡ other_length s
+      unfolding other_length stage2
+      other-range o =
+          let z : within min_blocks max_blocks m ≡ false = is_false _ (λ e. let w = within-split min_blocks max_blocks m e in ⊎_elim (λ p. omega arith) (λ p. omega arith) o) in
+          rw (sym ex ∙ ok, c, ← em, ne_eqb m n ne, z)
+
+      module _ (low : min_blocks ≤ m) (high : m ≤ max_blocks) (t : ℕ) (et : t ≡ table_blocks m) (u : ℕ) (eu : u ≡ be32 s 16) where
+        pub other-table : (u ≡ t → ⊥) → false ≡ other_length s
+        unfolding other_length stage2
+        other-table z = rw (sym ex ∙ ok, c, ← em, ne_eqb m n ne, within-join min_blocks max_blocks m low high, ← eu, ← et, ne_eqb u t z)
+
+        pub other-root : u ≡ t → (v : ℕ) → v ≡ be32 s 28 → eqb v (t + 1) ≡ other_length s
+        unfolding other_length stage2
+        other-root z v ev = rw (sym ex ∙ ok, c, ← em, ne_eqb m n ne, within-join min_blocks max_blocks m low high, ← eu, ← et, eq-eqb u t z, ← ev)
+
 module _ (s : List ℕ) (size : ℕ) (x : Bool) (ex : x ≡ stage1 s) where
   pub refusal-1 : x ≡ false → 1 ≡ tree_refusal s size
   unfolding tree_refusal

@@ -139,6 +139,29 @@ module _ (s : List ℕ) (e : ℕ) (ds : List ℕ) (some : 1 ≤ length ds) (firs
       let q : end_at ds ≡ entry_at last 3 = end_is ds some ∙ ap (λ (x : ℕ). 512 * x + 384) (sym el) in
       rw (b-is, self-is, n, q, ← et, eqb_turned (length ds) (blocks_of s e), ← ez)
 
+  pub witness-self : self ≡ first → true ≡ witness s e ds
+  unfolding witness
+  witness-self z = rw (b-is, self-is, eq-eqb self first z)
+
+  module _ (ne : self ≡ first → ⊥) (r : Bool) (f g : List ℕ) (ef : f ≡ part s (entry_at first 0 + 48) 80) (eg : g ≡ part s (e + 48) 80) (er : r ≡ same f g) where
+    name-is : same (part s (512 * first + 48) 80) (part s (e + 48) 80) ≡ r
+    name-is = let q : entry_at first 0 + 48 ≡ 512 * first + 48 = omega arith in sym (er ∙ ap (λ (x : List ℕ). same x g) (ef ∙ ap (λ (x : ℕ). part s x 80) q) ∙ ap (same (part s (512 * first + 48) 80)) eg)
+
+    pub witness-name : r ≡ true → true ≡ witness s e ds
+    unfolding witness
+    witness-name z = rw (b-is, self-is, ne_eqb self first ne, name-is ∙ z)
+
+    module _ (no : r ≡ false) (size : ℕ) (ez : size ≡ be32 s (e + 12)) where
+      pub witness-size : (size ≡ length ds → ⊥) → false ≡ witness s e ds
+      unfolding witness
+      witness-size nz = rw (b-is, self-is, ne_eqb self first ne, name-is ∙ no, ne_eqb (length ds) (blocks_of s e) (λ z. nz (ez ∙ sym z)))
+
+      pub witness-end : size ≡ length ds → (last : ℕ) → last ≡ get_or ds (length ds - 1) 0 → (type : ℕ) → type ≡ type_of s (entry_at last 3) → eqb type 255 ≡ witness s e ds
+      unfolding witness
+      witness-end z last el type et =
+          let q : end_at ds ≡ entry_at last 3 = end_is ds some ∙ ap (λ (x : ℕ). 512 * x + 384) (sym el) in
+          rw (b-is, self-is, ne_eqb self first ne, name-is ∙ no, eq-eqb (length ds) (blocks_of s e) (sym (sym ez ∙ z)), q, ← et)
+
 -- the first numbers, as they are lent
 pub front : (d : ℕ) (xs : List ℕ) → take (d - 0) (drop 0 xs) ≡ take d xs
 front d xs = let q : d - 0 ≡ d = omega arith in rw q
@@ -234,6 +257,9 @@ module _ (s : List ℕ) (n parent e : ℕ) (m codes : List ℕ) (r : ℕ) (xs : 
     where
       state-is : (q : State) (a c : List ℕ) → (cs : List ℕ) → a ≡ q.image → c ≡ q.codes → st a q.claimed c ≡ q
       state-is q a c cs ea ec = rw (ea, ec)
+
+  pub entered-own : 0 < r → Own n (take (r - 0) (drop 0 xs))
+  entered-own h = subst (Own n) (sym (front r xs)) (F.own h)
 
 -- the chain that a claim has walked, by the numbers that were read
 pub below_as : (s : List ℕ) (n e f k : ℕ) → Shape s n → f ≡ first_block s e → k ≡ blocks_of s e → ((i : ℕ) → i < k → get_or (chain (next s) f k) i 0 < n) → ChainBelow s n (first_block s e) (blocks_of s e)

@@ -4,15 +4,15 @@ use mathlib.Core.Bool.{Bool, true, false}
 use mathlib.Core.List.{List}
 use mathlib.Core.Path.{◌≡◌, refl, sym, ap, ◌∙◌, subst}
 use native.Mathlib.Omega.{arith}
-use lib.ListN.{length, get_or, take}
+use lib.ListN.{length, get_or, take, drop}
 use Rattle.layout.specs.Lists.{interval}
 use Rattle.layout.specs.Bytes.{zeros, splice}
 use Rattle.layout.specs.Directory.{slot_at, slots}
 use Rattle.layout.proofs.Laws.Lists.{interval-from}
 use Rattle.salvage.specs.Walks.{MarksOf}
 use Rattle.salvage_tree.specs.SalvageTree.{State, coded, take_slot, take_slots, take_child}
-use Rattle.salvage_tree.specs.Walks.{st, Reached, Ready, EntryTaken, Entered, SlotDone, SlotsDone}
-use Rattle.salvage_tree.proofs.Walks.Entries.{dropped-is}
+use Rattle.salvage_tree.specs.Walks.{st, Reached, Ready, Own, EntryTaken, Entered, SlotDone, SlotsDone}
+use Rattle.salvage_tree.proofs.Walks.Entries.{dropped-is, front}
 
 reached-state : (q : State) (s m c : List ℕ) → Reached q s m c → st s q.claimed c ≡ q
 reached-state q s m c R = rw (R.image, R.codes-are)
@@ -48,6 +48,9 @@ module _ (s ds : List ℕ) (k left : ℕ) (m codes : List ℕ) (r : Bool) (s₁ 
                 let W = N.some l (left - 1) cs (marks-are cs M) in
                 subst (λ (q : State). Reached q s' m' c') (sym (child-left cs ∙ W.2)) (D.reached W.0 W.1);
           }
+
+pub entered-lent : {s : List ℕ} {n parent e : ℕ} {m codes : List ℕ} {d : ℕ} {xs s' m' c' : List ℕ} → Entered s n parent e m codes d xs s' m' c' → 0 < d → Own n (take (d - 0) (drop 0 xs))
+entered-lent {d = d} {xs = xs} E h = subst (Own _) (sym (front d xs)) (E.own h)
 
 -- ALL SLOTS, when those before k are done
 pub record Slotting (s ds : List ℕ) (left : ℕ) (m codes s₁ m₁ c₁ : List ℕ) (k : ℕ) : Type 0 where

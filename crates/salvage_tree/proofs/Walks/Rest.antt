@@ -22,7 +22,7 @@ use Rattle.layout.specs.Check.{stage1, stage2, stage3, stage7}
 use Rattle.layout.specs.Walks.Shapes.{Shape}
 use Rattle.layout.specs.Walks.Stages.{head_stage}
 use Rattle.layout.proofs.Laws.Tests.{and_split, and-join, is_false, true-not-false, require-zero, within-join}
-use Rattle.layout.proofs.Laws.Lists.{interval-from, interval-every, in-has-eqb, false-has}
+use Rattle.layout.proofs.Laws.Lists.{interval-next, interval-from, interval-every, in-has-eqb, false-has}
 use Rattle.layout.proofs.Laws.Reasons.{reason}
 use Rattle.layout.proofs.Laws.Names.{same-eq, same_refl}
 use Rattle.layout.proofs.Walks.Shapes.{shape-block_count}
@@ -61,6 +61,24 @@ module _ (s m : List ℕ) (b : ℕ) where
 
 pub free-told : (s m : List ℕ) (cs : List ℕ) → MarksOf m cs → (b : ℕ) (r : Bool) → IsFree s m b r → r ≡ has eqb b cs || eqb (next s b) 0
 free-told s m cs M b r F = F.told cs M
+
+-- those from a on, when those before b need not be freed
+pub record Freed (s m : List ℕ) (a k b left : ℕ) : Type 0 where
+  pub sum : b + left ≡ a + k
+  pub told : (cs : List ℕ) → MarksOf m cs → every (λ x. has eqb x cs || eqb (next s x) 0) (interval a k) ≡ every (λ x. has eqb x cs || eqb (next s x) 0) (interval b left)
+
+pub freed-start : (s m : List ℕ) (a k : ℕ) → Freed s m a k a k
+freed-start s m a k = record { sum = refl; told = λ cs M. refl }
+
+module _ {s m : List ℕ} {a k b left : ℕ} (w : Freed s m a k b left) where
+  pub freed-not : 0 < left → (r : Bool) → IsFree s m b r → r ≡ false → AllFree s m a k false
+  freed-not h r F z = record { told = λ cs M. sym (w.told cs M ∙ ap (every (λ x. has eqb x cs || eqb (next s x) 0)) (interval-next b left h) ∙ rw (sym (F.told cs M) ∙ z)) }
+
+  pub freed-more : 0 < left → (r : Bool) → IsFree s m b r → r ≡ true → Freed s m a k (b + 1) (left - 1)
+  freed-more h r F z = record { sum = omega (arith, w.sum); told = λ cs M. w.told cs M ∙ ap (every (λ x. has eqb x cs || eqb (next s x) 0)) (interval-next b left h) ∙ rw (sym (F.told cs M) ∙ z) }
+
+  pub freed-all : left ≡ 0 → AllFree s m a k true
+  freed-all e = record { told = λ cs M. sym (w.told cs M ∙ rw e) }
 
 -- the test of a range, as the definitions say it
 pub all-every : (p : ℕ → Bool) (a k : ℕ) → list_all p (range_with_len a k) ≡ every p (interval a k)

@@ -4,7 +4,7 @@ use mathlib.Core.Path.{◌≡◌, refl, sym, ap, ◌∙◌}
 use mathlib.Core.Bool.{Bool, true, false, not, cond, ◌&&◌, ◌||◌, and-false, or-true, or-false}
 use mathlib.Core.List.{List, [], ◌∷◌, ◌++◌, append_assoc}
 use native.Mathlib.Omega.{arith}
-use borrow.Author.Tests.{eq-eqb, ne_eqb, eqb-true}
+use borrow.Author.Tests.{eq-eqb, ne_eqb, eqb-true, eqb-false}
 use lib.Dec.{eqb}
 use lib.ListN.{length, drop, length-append}
 use Rattle.std.specs.Prelude.{Result, Ok, Err}
@@ -22,8 +22,9 @@ use Rattle.layout.specs.Paths.{parts, path_ok, leading, last_part, shallow, home
 use Rattle.layout.specs.Walks.Looks.{form_refusal}
 use Rattle.layout.specs.Walks.Paths.{PathGiven, Spotted}
 use Rattle.layout.specs.Walks.Slots.{Stands, slot_from, entry_at}
-use Rattle.layout.proofs.Laws.Tests.{first_of-zero, first_of-refused}
+use Rattle.layout.proofs.Laws.Tests.{first_of-zero, first_of-refused, true-not-false}
 use Rattle.layout.proofs.Laws.Bytes.{length-zeros, splice-append, splice-flat}
+use Rattle.layout.proofs.Laws.Sound.{sound}
 use Rattle.layout.proofs.Walks.Looks.{form-given}
 use Rattle.layout.proofs.Walks.Shapes.{sound-shape}
 use Rattle.volume.specs.Move.{open_slot, move_slot, move_place, move_refusal, renamed, move_image, move_named}
@@ -63,10 +64,14 @@ bad_argument same (Err refusal.RevisionsUsed) = refl
 bad_argument same (Err refusal.BadFlags) = refl
 bad_argument same (Err refusal.NoMark) = refl
 
--- as the code takes its tests: y is 9; x refuses; only y may
-pub either-nine : (x y : ℕ) → eqb y 9 ≡ true → y ≡ either_form x y
+pub either-nine : (x y : ℕ) → (eqb x 9 || eqb y 9) ≡ true → 9 ≡ either_form x y
 unfolding either_form
-either-nine x y t = rw (t, or-true (eqb x 9)) (eqb-true y 9 t)
+either-nine x y t = rw t
+
+-- as the code takes its tests: y is 9; x refuses; only y may
+pub either-second-nine : (x y : ℕ) → eqb y 9 ≡ true → y ≡ either_form x y
+unfolding either_form
+either-second-nine x y t = rw (t, or-true (eqb x 9)) (eqb-true y 9 t)
 
 pub either_first : (x y : ℕ) → eqb y 9 ≡ false → (x ≡ 0 → ⊥) → x ≡ either_form x y
 unfolding either_form
@@ -104,6 +109,15 @@ form-first true false rest ne = refl
 form-first false b rest ne = refl
 
 -- THE REFUSALS, in the order of the code
+none_of : (a b : Bool) (rest : ℕ) → (a || b) ≡ true → 10 ≡ require (not a && not b) 10 rest
+none_of true b rest t = refl
+none_of false true rest t = refl
+none_of false false rest t = absurd (true-not-false {a = false} t refl)
+
+neither : (a b : Bool) → (a || b) ≡ false → (a ≡ false) × (b ≡ false)
+neither true b t = absurd (true-not-false {a = true} refl t)
+neither false b t = (refl, t)
+
 module _ (s path to : List ℕ) where
   module _ {x y r : ℕ} (p : x ≡ form_refusal path) (q : y ≡ form_refusal to) (e : r ≡ either_form x y) where
     pub refused-forms : (r ≡ 0 → ⊥) → r ≡ move_refusal s path to
@@ -117,6 +131,23 @@ module _ (s path to : List ℕ) where
 
     pub forms-fine : r ≡ 0 → check s ≡ 0 → PathGiven s path × PathGiven s to
     forms-fine z ok = let w = either-zero x y (sym e ∙ z) in (form-given s path ok (sym w.0 ∙ p), form-given s to ok (sym w.1 ∙ q))
+
+  module _ (P : PathGiven s path) (Q : PathGiven s to) {h₀ k b h named m : ℕ} (f : Spotted is_file s path h₀ k b) (g : Spotted is_used s to h named m) where
+    pub nothing-there : (eqb k 0 || eqb h 0) ≡ true → 10 ≡ move_refusal s path to
+    unfolding move_refusal
+    nothing-there t = rw (P.good, Q.good, P.few, Q.few, ← f.stands.slot, ← g.there) (none_of (eqb k 0) (eqb h 0) _ t)
+
+    module _ (t : (eqb k 0 || eqb h 0) ≡ false) where
+      pub home-there : h ≡ 0 → ⊥
+      home-there = eqb-false h 0 (neither (eqb k 0) (eqb h 0) t).1
+
+      -- where the entry begins is a number of 64 bits
+      pub own-small : b < 65536
+      own-small =
+          let w = f.stands.block (eqb-false k 0 (neither (eqb k 0) (eqb h 0) t).0) in
+          let l = w.0 in
+          let m = (sound s P.sound).most in
+          omega arith
 
   module _ (P : PathGiven s path) (Q : PathGiven s to) where
     pub no-file : path_slot is_file s path ≡ 0 → 10 ≡ move_refusal s path to

@@ -23,10 +23,10 @@ use Rattle.volume.proofs.Laws.Notes.{first-is}
 
 -- the note of k entries, by the count of those in use
 module _ (v : ℕ → ℕ) (k used : ℕ) (few : k ≤ 128) (e : used ≡ count_used v 0 k) where
-  note-full : k ≤ used → Noted v k 0 0
+  pub note-full : k ≤ used → Noted v k 0 0
   note-full h = record { full = λ z b q l. count_used-all v k 0 (omega arith) b (omega arith) (omega arith); some = λ z. absurd (z refl) }
 
-  note-some : used < k → Noted v k 0 1
+  pub note-some : used < k → Noted v k 0 1
   note-some h =
       record { full = λ z. absurd (omega arith); some = λ z. let r = count_used-some v k 0 (omega arith) in (r.0, omega arith, omega arith, r.3) }
 

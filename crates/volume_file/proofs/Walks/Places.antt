@@ -86,6 +86,10 @@ module _ (d : List ℕ) (number : ℕ) (is : number ≡ file_refusal d) where
             go true = refl
             go false = refl
 
+        pub home-none : (a : ℕ) → a ≡ address h d j → h ≤ a → place 0 0 ≡ home_extent d j
+        unfolding home_extent
+        home-none a e l = rw (← is, z, ← hs, lt-ltb j h below, ← e, le-ltb a h l)
+
         pub home_found : (a : ℕ) → a ≡ address h d j → a < h → place (512 * home_at a) 512 ≡ home_extent d j
         unfolding home_extent
         home_found a e l = rw (← is, z, ← hs, lt-ltb j h below, ← e, lt-ltb a h l)

@@ -1,6 +1,6 @@
 -- The turns of the loops and the exits of the tests, in plain terms.
 use Prim.Native.Nat.{ℕ, zero, suc, ◌+◌, ◌-◌, ◌*◌, ◌≤◌, ◌<◌}
-use mathlib.Core.List.{List, ◌++◌}
+use mathlib.Core.List.{List, [], ◌∷◌, ◌++◌}
 use mathlib.Core.Bool.{Bool, true, false, not, cond}
 use Rattle.std.specs.Prelude.{Some, None}
 use Rattle.std.proofs.Common.{append_assoc}
@@ -9,13 +9,13 @@ use mathlib.Core.Path.{◌≡◌, refl, sym, ap, ◌∙◌}
 use native.Mathlib.Omega.{arith}
 use native.Mathlib.Numerals.{add-one}
 use lib.Dec.{eqb}
-use lib.ListN.{length, set, take, drop, replicate, length-set}
-use lib.Seq.{drop-drop}
+use lib.ListN.{length, get_or, set, take, drop, replicate, length-drop, length-set}
+use lib.Seq.{take-suc, get_or-drop, length-take-le, drop-drop}
 use borrow.Author.Tests.{not-true, not-false, lt-ltb, le-ltb, lt-leb, le-leb}
 use Rattle.std.specs.List.{copy_within}
 use Rattle.layout.specs.Bytes.{zeros, part, block, splice}
 use Rattle.layout.proofs.Laws.Tests.{accept-refused, first_of-refused}
-use Rattle.layout.proofs.Laws.Bytes.{length_part, length-zeros, splice-cons, lent-zeros}
+use Rattle.layout.proofs.Laws.Bytes.{length_part, length-splice, length-zeros, get_d-splice-after, splice-append, splice-nil, splice-cons, lent-zeros}
 use Rattle.volume_file.specs.Format.{header_ok, home_sectors, home_at, saved_at, file_sectors, address, waits, log_count, count, rising, head_refusal, log_refusal, file_refusal}
 use Rattle.volume_file.specs.Save.{flagged, restored, replayed, recovered, after_recover}
 use Rattle.volume_file.specs.Answers.{recover_answered, recover_answer}
@@ -40,6 +40,24 @@ pub rising-end : (h : ℕ) (d : List ℕ) (limit left : ℕ) → left ≤ 0 → 
 unfolding rising
 rising-end h d limit zero l = refl
 rising-end h d limit (suc left) l = absurd (omega arith)
+
+-- a sector copied down, byte by byte
+set-splice : (s : List ℕ) (at v : ℕ) → at < length s → set s at v ≡ splice s at (v ∷ [])
+set-splice s at v l = sym (splice-cons s at v [] (omega arith) ∙ splice-nil (set s at v) (at + 1))
+
+pub copy_step : (d : List ℕ) (from to i : ℕ) → to + 512 ≤ from → from + 512 ≤ length d → i < 512 → (t : List ℕ) → t ≡ splice d to (take i (drop from d))
+    → set t (to + i) (get_or t (from + i) 0) ≡ splice d to (take (i + 1) (drop from d))
+copy_step d from to i h g l t e =
+    let p : List ℕ = take i (drop from d) in
+    let lp : length p ≡ i = length-take-le i (drop from d) (omega (arith, length-drop from d)) in
+    let f : to + length p ≤ length d = omega arith in
+    let ls : length (splice d to p) ≡ length d = length-splice d to p f in
+    let r : get_or (splice d to p) (from + i) 0 ≡ get_or (drop from d) i 0 = get_d-splice-after d to p f (from + i) (omega arith) ∙ sym (get_or-drop from d i 0) in
+    let q : to + i ≡ to + length p = omega arith in
+    rw (e, r, q) (set-splice (splice d to p) (to + length p) (get_or (drop from d) i 0) (omega arith)
+    ∙ splice-append d to p (get_or (drop from d) i 0 ∷ []) (omega arith)
+    ∙ ap (splice d to) (sym (take-suc (drop from d) i 0 (omega (arith, length-drop from d))))
+    ∙ ap (λ (k : ℕ). splice d to (take k (drop from d))) (sym (add-one i)))
 
 -- a sector copied to another
 pub copied : (d : List ℕ) (from to e : ℕ) → e ≡ from + 512 → from + 512 ≤ length d → copy_within d from e to ≡ splice d to (part d from 512)

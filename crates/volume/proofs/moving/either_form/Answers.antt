@@ -2,11 +2,11 @@ use Rattle.std.proofs.Common.{sym, ◌∙◌}
 use Rattle.std.proofs.lemmas.Result.{err_from_is_err_and}
 use Rattle.layout.specs.Reasons.{number_of, outcome}
 use Rattle.layout.proofs.Laws.Reasons.{reason}
-use Rattle.volume.proofs.Walks.Move.{bad_argument, either-nine, either_first, either_second}
+use Rattle.volume.proofs.Walks.Move.{bad_argument, either-second-nine, either_first, either_second}
 use Rattle.volume.proofs.moving.either_form.Goals as goal
 
 pub returns-then-eq : goal.returns-then-eq
-returns-then-eq c = either-nine _ _ (sym (bad_argument _ c.args.y) ∙ sym c.if-eq.ensures)
+returns-then-eq c = either-second-nine _ _ (sym (bad_argument _ c.args.y) ∙ sym c.if-eq.ensures)
 
 pub returns-in_err-x : goal.returns-in_err-x
 returns-in_err-x c =
