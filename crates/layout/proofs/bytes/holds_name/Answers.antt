@@ -1,24 +1,22 @@
-use Rattle.std.proofs.Common.{◌≡◌, ◌∙◌, sym, length, arith, get_or}
-use Rattle.std.proofs.Math.ListN.{get_or-eq_default}
-use Rattle.std.proofs.lemmas.Bool.{eq-eqb}
-use Rattle.std.proofs.lemmas.Bool.Decides.{Decides-eqb}
-use Rattle.std.proofs.lemmas.Slice.Eq.{starts_is}
-use Rattle.layout.proofs.Walks.Names.{holds-begun, holds-other}
+use Rattle.std.proofs.Common.{sym, ◌∙◌, ◌-◌, length, arith}
+use Rattle.std.proofs.lemmas.Bool.{ne_eqb}
+use Rattle.layout.proofs.Laws.Names.{good_name-split}
+use Rattle.layout.proofs.Walks.Names.{holds-differ}
 use Rattle.layout.proofs.bytes.holds_name.Goals as goal
 
-pub returns-then-end-eq-NAME_FIELD : goal.returns-then-end-eq-NAME_FIELD
-returns-then-end-eq-NAME_FIELD c =
+pub overflow_sub-last : goal.overflow_sub-last
+overflow_sub-last c = omega (arith, (good_name-split _ c.requires.1).0)
+
+pub bounds-field-last : goal.bounds-field-last
+bounds-field-last c =
+    let g = good_name-split _ c.requires.1 in
+    omega (arith, c.requires.0, g.0, g.1)
+
+pub bounds-name-last : goal.bounds-name-last
+bounds-name-last c = omega (arith, (good_name-split _ c.requires.1).0)
+
+pub returns-else-field-last : goal.returns-else-field-last
+returns-else-field-last c =
     let a = c.args in
-    let s = starts_is Decides-eqb a.field.now a.name.now _ c.starts_with.ensures.value in
-    let z : get_or a.field.now (length a.name.now) 0 ≡ 0 = get_or-eq_default a.field.now 0 (omega arith) in
-    eq-eqb _ 80 c.if-end-eq-NAME_FIELD.true ∙ sym (eq-eqb _ 0 z) ∙ holds-begun _ _ c.requires.1 (s.0 c.if-starts_with.true)
-
-pub returns-else-end-eq-NAME_FIELD : goal.returns-else-end-eq-NAME_FIELD
-returns-else-end-eq-NAME_FIELD c =
-    let s = starts_is Decides-eqb c.args.field.now c.args.name.now _ c.starts_with.ensures.value in
-    holds-begun _ _ c.requires.1 (s.0 c.if-starts_with.true)
-
-pub returns-else-starts_with : goal.returns-else-starts_with
-returns-else-starts_with c =
-    let s = starts_is Decides-eqb c.args.field.now c.args.name.now _ c.starts_with.ensures.value in
-    holds-other _ _ _ s.1 c.if-starts_with.false
+    let g = good_name-split _ c.requires.1 in
+    ne_eqb _ _ c.if-field-last.false ∙ sym (holds-differ a.field.now a.name.now (length a.name.now - 1) (omega (arith, g.0)) c.if-field-last.false)
