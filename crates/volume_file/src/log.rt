@@ -55,14 +55,14 @@ pub fn address(file: &[u8], h: usize, j: usize) -> usize
     get32(file, address_at(h, j)) as usize
 }
 
-// Whether the first k addresses rise and are below h, from the last to the first.
+// Whether the first k addresses rise and are below h, from the last to the first. A `for` over `(0..k).rev()` takes twice the time.
 fn addresses_rise(file: &[u8], h: usize, k: usize) -> bool
     requires { (h ≤ 196736) × (k ≤ h) × (length file.now ≡ 512 * file_sectors h) }
     ensures { result ≡ rising h file.now h k }
 {
     let mut limit = h;
-    for j in (0..k).rev() {
-        let x = address(file, h, j);
+    for i in 0..k {
+        let x = address(file, h, k - i - 1);
         if limit <= x {
             return false;
         }
