@@ -14,3 +14,6 @@ returns-in_err-follow_path c =
     let type = within a.lo a.hi in
     subst (λ (r : Option Entry). StandsAt (directory a.image.now (home a.image.now a.path.now)) (block_count a.image.now) (path_slot type a.image.now a.path.now) r)
     (sym c.from_residual.ensures) (spotted-none a.image.now a.path.now c.requires type 0 (sym c.in_err-follow_path.ensures) refl).stands
+
+pub returns : goal.returns
+returns c = c.in_ok-follow_path.ensures.2
