@@ -2,7 +2,6 @@
 #
 #   - the layout and the name of the machine are left out, and so is the name of the processor in the functions' attributes
 #   - a structure of two numbers or pointers is loaded in two parts, which stand where x86-64 has them: other machines may lay it out otherwise
-#   - `ptrtoaddr` becomes `ptrtoint`, which is the same number: for a machine with shorter pointers the compiler takes the first apart wrongly
 #   - the C functions become internal, and a flat function is added for each:
 #
 #         void bulgefs_flat_NAME(RESULT *answer, ...)
@@ -29,12 +28,6 @@ BEGIN {
 }
 
 /^target (datalayout|triple) = / { next }
-
-/^  %[^ ]+ = ptrtoaddr ptr [^ ]+ to i64$/ {
-    sub(/ptrtoaddr/, "ptrtoint")
-    print
-    next
-}
 
 /^attributes #[0-9]+ = / {
     ours = sub(/ "target-cpu"="x86-64"/, "")
@@ -114,7 +107,7 @@ function flat(type, name, arguments, short, given, comma) {
 # A constant of single bytes is the same on every machine.
 /^@static\.[0-9]+ = private unnamed_addr constant \[[0-9]+ x i8\] (c"[^"]*"|zeroinitializer), align 1$/ { print; next }
 
-/^(@|%|module asm)/ || /ptrtoint|inttoptr|addrspace| asm |thread_local|byval|sret|(load|store|alloca|getelementptr) [^,]*\{/ { bad("nobody has looked at this on another machine: " $0) }
+/^(@|%|module asm)/ || /ptrtoint|ptrtoaddr|inttoptr|addrspace| asm |thread_local|byval|sret|(load|store|alloca|getelementptr) [^,]*\{/ { bad("nobody has looked at this on another machine: " $0) }
 
 { print }
 

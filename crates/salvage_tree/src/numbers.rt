@@ -52,7 +52,7 @@ pub fn put_field(image: &mut [u8], at: usize, field: &[u8])
     if has_field(image, at, field) {
         return;
     }
-    image[at..at + 80].copy_from_slice(field);
+    layout::bytes::copy(field, &mut image[at..at + 80]);
 }
 
 // The value v of entry b.

@@ -133,7 +133,7 @@ pub fn put_named(
     ensures { PutDone image.old blocks.now parent (part image.old (entry_at b k + 48) 80) marks.old codes.old image.new marks.new codes.new }
 {
     let mut field = [0; NAME_FIELD];
-    field.copy_from_slice(layout::directory::field_at(image, b, k));
+    layout::bytes::copy(layout::directory::field_at(image, b, k), &mut field);
     put_directory(image, t, n, blocks, parent, &field, marks, codes);
 }
 
@@ -165,7 +165,7 @@ pub fn adopt(
     ensures { Adopted image.old parent (entry_at b k) blocks.now marks.old codes.old image.new marks.new codes.new }
 {
     let mut field = [0; NAME_FIELD];
-    field.copy_from_slice(layout::directory::field_at(image, b, k));
+    layout::bytes::copy(layout::directory::field_at(image, b, k), &mut field);
     put_size(image, b, k, blocks.len(), codes);
     put_directory(image, t, n, blocks, parent, &field, marks, codes);
 }

@@ -67,7 +67,7 @@ fn sign(image: &mut [u8])
     if image.starts_with(SIGNATURE) {
         return;
     }
-    image[..12].copy_from_slice(SIGNATURE);
+    layout::bytes::copy(SIGNATURE, &mut image[..12]);
 }
 
 // Puts the header right.

@@ -65,7 +65,7 @@ fn get_from(
     let Some(bytes) = super::form::find(room, form.used, x) else {
         return Err(Refusal::NoRevision);
     };
-    buffer[..bytes.len()].copy_from_slice(bytes);
+    layout::bytes::copy(bytes, &mut buffer[..bytes.len()]);
     Ok(Taken {
         revision: x,
         length: bytes.len() as u32,

@@ -13,7 +13,7 @@ fn write_header(file: &mut [u8], sizes: Sizes)
     requires { 1024 ≤ length file.old }
     ensures { file.new ≡ splice file.old 0 (header_sector sizes.image sizes.journal sizes.own) }
 {
-    file[..12].copy_from_slice(b"BulgeVol\x00\x01\x00\x00");
+    layout::bytes::copy(b"BulgeVol\x00\x01\x00\x00", &mut file[..12]);
     put32(file, 12, sizes.image);
     put32(file, 16, sizes.journal);
     put32(file, 20, sizes.own);

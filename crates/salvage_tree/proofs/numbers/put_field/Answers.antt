@@ -11,5 +11,5 @@ pub returns : goal.returns
 returns c =
     let a = c.args in
     let q : a.at + 80 - a.at ≡ 80 = omega arith in
-    let l : length c.copy_from_slice.new.self ≡ a.at + 80 - a.at = omega (arith, ap length c.copy_from_slice.ensures.after, c.requires.1) in
-    put_mid-splice a.image.now a.at _ _ l ∙ ap (splice a.image.now a.at) c.copy_from_slice.ensures.after ∙ field-set _ _ _ _ c.has_field.ensures c.if-has_field.false
+    let l : length c.copy.new.dst ≡ a.at + 80 - a.at = omega (arith, ap length c.copy.ensures, c.requires.1) in
+    put_mid-splice a.image.now a.at _ _ l ∙ ap (splice a.image.now a.at) c.copy.ensures ∙ field-set _ _ _ _ c.has_field.ensures c.if-has_field.false

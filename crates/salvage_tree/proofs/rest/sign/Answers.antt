@@ -5,4 +5,4 @@ pub returns-then-starts_with : goal.returns-then-starts_with
 returns-then-starts_with c = signed-left _ _ c.starts_with.ensures.value c.if-starts_with.true
 
 pub returns : goal.returns
-returns c = rw c.copy_from_slice.ensures.after (signed-set c.args.image.now _ c.starts_with.ensures.value c.if-starts_with.false)
+returns c = rw c.copy.ensures (signed-set c.args.image.now _ c.starts_with.ensures.value c.if-starts_with.false)

@@ -26,5 +26,5 @@ returns c =
     let b = c.in-Some-find.bytes.now in
     let s = c.args.buffer.now in
     let z : 0 + length b ≡ length b = omega arith in
-    let e : c.copy_from_slice.new.self ++ drop (length b) s ≡ splice s 0 b = rw c.copy_from_slice.ensures.after (rw z at (sym (splice-flat s 0 b))) in
+    let e : c.copy.new.dst ++ drop (length b) s ≡ splice s 0 b = rw c.copy.ensures (rw z at (sym (splice-flat s 0 b))) in
     sought-found _ _ _ _ t.0 _ q _ _ f.0 (ap length f.1) (e ∙ ap (splice s 0) f.1)

@@ -8,6 +8,6 @@ pub returns : goal.returns
 returns c =
     let a = c.args in
     let u : length a.uuid ≡ 16 = omega arith in
-    lent _ 128 128 _ a.name.now c.copy_from_slice-2.ensures.after c.requires.1
-    ∙ ap (λ (x : List ℕ). splice x 128 a.name.now) (lent a.block.now 112 16 _ a.uuid c.copy_from_slice.ensures.after u)
+    lent _ 128 128 _ a.name.now c.copy-2.ensures c.requires.1
+    ∙ ap (λ (x : List ℕ). splice x 128 a.name.now) (lent a.block.now 112 16 _ a.uuid c.copy.ensures u)
     ∙ labels-written a.block.now a.uuid a.name.now u c.requires.1 c.requires.0

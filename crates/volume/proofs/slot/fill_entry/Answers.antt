@@ -12,7 +12,7 @@ returns c =
     let name = c.args.name.now in
     let four : List ℕ = f.kind ∷ f.user ∷ f.group ∷ f.permissions ∷ [] in
     let z : c.fill.new.self ≡ replicate 128 0 = c.fill.ensures.after (λ y h. h) ∙ ap (λ (n : ℕ). replicate n 0) c.requires.0 in
-    let e = lent _ 0 4 _ four c.copy_from_slice.ensures.after refl ∙ ap (λ (x : List ℕ). splice x 0 four) z in
-    lent _ 48 (48 + length name - 48) _ name c.copy.ensures (omega arith)
+    let e = lent _ 0 4 _ four c.copy.ensures refl ∙ ap (λ (x : List ℕ). splice x 0 four) z in
+    lent _ 48 (48 + length name - 48) _ name c.copy-2.ensures (omega arith)
     ∙ rw (c.put32-4.ensures, c.put64-2.ensures, c.put64.ensures, c.put32-3.ensures, c.put32-2.ensures, c.put32.ensures, e)
     (entry-written f.kind f.user f.group f.permissions f.first f.size f.blocks f.time f.flags name)
