@@ -8,3 +8,6 @@ overflow_cast-result c =
     let a = c.args in
     let e = ap (λ (x : ReadAnswer). x.count) c.in-Ok.ensures.answer in
     omega (arith, e, count_small a.image.now a.path.now a.position.now a.buffer.now (λ i. omega (arith, c.type_inv.image i)))
+
+pub returns-in-Err-clause-position : goal.returns-in-Err-clause-position
+returns-in-Err-clause-position c = omega arith
