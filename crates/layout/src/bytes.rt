@@ -1,11 +1,12 @@
 // Byte strings, and the field of a name.
-ghost use Rattle.std.specs.Prelude.{◌+◌, ◌*◌, ◌≤◌, true, ◌≡◌, length, replicate};
+ghost use Rattle.std.specs.Prelude.{◌+◌, ◌*◌, ◌≤◌, true, ◌≡◌, length, get_or, take, replicate, eqb};
 ghost use Rattle.layout.specs.Lists.{same};
 ghost use Rattle.layout.specs.Bytes.{part, block, splice};
 ghost use Rattle.layout.specs.Directory.{unpadded, good_name};
 ghost use Rattle.layout.specs.Walks.Entries.{all_zero, field_ok};
 
 use super::limits::{MAX_NAME, NAME_FIELD};
+use super::number::word;
 
 // The 512 bytes of block b.
 pub fn block<'a>(image: &'a [u8], b: usize) -> &'a [u8]
@@ -70,23 +71,46 @@ pub fn good_name(name: &[u8]) -> bool
     !name.is_empty() && name.len() <= MAX_NAME && name.iter().all(|x| *x != 0 && *x != b'/')
 }
 
-// Whether a field of 80 bytes holds a good name: it begins with it, and no byte of a name follows.
-fn begins(field: &[u8], name: &[u8]) -> bool
-    requires { (length field.now ≡ 80) × (good_name name.now ≡ true) }
-    ensures { result ≡ same (unpadded field.now) name.now }
+// Whether the bytes of a name stand at the start of a field. It looks from both ends, four bytes at a time, since names of one kind differ near one of them.
+fn starts_alike(field: &[u8], name: &[u8]) -> bool
+    requires { (length name.now ≤ length field.now) × (4 ≤ length name.now) }
+    ensures { result ≡ same (take (length name.now) field.now) name.now }
 {
     let end = name.len();
-    field.starts_with(name) && (end == NAME_FIELD || field[end] == 0)
+    for i in 0..end.div_ceil(8) {
+        let at = end - 4 * i - 4;
+        if word(field, at) != word(name, at) || word(field, 4 * i) != word(name, 4 * i) {
+            return false;
+        }
+    }
+    true
 }
 
-// The same. The name's last byte is looked at first, since names of one kind differ there: without that, the salvage of boxes whose serial numbers begin
-// alike takes up to 1.8 times as long.
+// Whether a field begins with a name.
+fn begins(field: &[u8], name: &[u8]) -> bool
+    requires { length name.now ≤ length field.now }
+    ensures { result ≡ same (take (length name.now) field.now) name.now }
+{
+    if name.len() < 4 {
+        equal(&field[..name.len()], name)
+    } else {
+        starts_alike(field, name)
+    }
+}
+
+// Whether no byte of a name stands at i: there is a zero, or the field ends before it.
+fn ends_at(field: &[u8], i: usize) -> bool
+    ensures { result ≡ eqb (get_or field.now i 0) 0 }
+{
+    field.len() <= i || field[i] == 0
+}
+
+// Whether a field of 80 bytes holds a good name: no byte of a name follows, and it begins with it.
 pub fn holds_name(field: &[u8], name: &[u8]) -> bool
     requires { (length field.now ≡ 80) × (good_name name.now ≡ true) }
     ensures { result ≡ same (unpadded field.now) name.now }
 {
-    let last = name.len() - 1;
-    field[last] == name[last] && begins(field, name)
+    ends_at(field, name.len()) && begins(field, name)
 }
 
 // Sets every byte to 0.

@@ -28,7 +28,7 @@ fn signed(header: &[u8]) -> bool
     requires { 512 ≤ length header.now }
     ensures { result ≡ stage2 header.now }
 {
-    &header[..12] == b"BulgeFS!\x00\x01\x00\x00".as_slice()
+    super::bytes::equal(&header[..12], b"BulgeFS!\x00\x01\x00\x00")
 }
 
 // Stage 3, of the first block: total, table and root numbers.

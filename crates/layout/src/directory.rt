@@ -268,6 +268,9 @@ fn slot_holds(block: &[u8], o: usize, lo: u8, hi: u8, name: &[u8]) -> bool
     super::bytes::holds_name(field_of(block, o), name)
 }
 
+// The same of slot k, which is in block b. It is never inlined: else the search is compiled four times over, for names of other lengths each, and the
+// code of a boot loader's archive grows from 7.5 KB to 8.2.
+#[inline(never)]
 fn holds_at(image: &[u8], b: usize, k: usize, lo: u8, hi: u8, name: &[u8]) -> bool
     requires { (512 * b + 512 ≤ length image.now) × (good_name name.now ≡ true) }
     ensures { result ≡ within lo hi (type_of image.now (entry_at b k)) && same (name_of image.now (entry_at b k)) name.now }

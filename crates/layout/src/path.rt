@@ -133,7 +133,11 @@ pub fn follow_path(image: &[u8], path: &[u8], lo: u8, hi: u8) -> Option<Spot>
     let n = image.len() / 512;
     let home = home(image, path)?;
     let d = number_at(image, home, 0, 12);
-    let entry = super::directory::find(image, n, home, d, lo, hi, last_part(path));
+    // By its two numbers: an answer copied whole is compiled to a call of `memcpy` on RISC-V, and a reader needs `memset` alone.
+    let entry = match super::directory::find(image, n, home, d, lo, hi, last_part(path)) {
+        None => None,
+        Some(Entry { slot, block }) => Some(Entry { slot, block }),
+    };
     Some(Spot { home, entry })
 }
 

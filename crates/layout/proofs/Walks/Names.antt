@@ -9,10 +9,11 @@ use native.Mathlib.Numerals.{add-one}
 use native.Mathlib.Omega.{arith}
 use lib.Dec.{eqb, ltb, leb}
 use lib.ListN.{length, get_or, take, drop, replicate, length-drop, get_or-eq_default}
-use lib.Seq.{drop-cons, drop-length}
+use lib.Seq.{drop-cons, drop-length, take-append_seam}
 use borrow.Author.Tests.{le-leb, lt-leb, lt-ltb, le-ltb, ne_eqb, eq-eqb, eqb-true, eqb-false}
 use Rattle.std.specs.Int.{from_bool}
-use Rattle.std.proofs.lemmas.List.{take-append-drop}
+use Rattle.std.proofs.lemmas.List.{take-append-drop, get_or-take, length-take-le}
+use Rattle.std.proofs.lemmas.Grind.{same_number_lists}
 use Rattle.layout.specs.Limits.{max_name}
 use Rattle.layout.specs.Lists.{every, same}
 use Rattle.layout.specs.Bytes.{zeros, part}
@@ -146,6 +147,48 @@ module _ (f name : List ℕ) where
       let e : unpadded f ≡ name = same-eq (unpadded f) name t in
       h (unpadded-byte f j (rw e l) ∙ ap (λ (x : List ℕ). get_or x j 0) e))
 
+-- the first bytes of a field, and a name, four bytes at a time
+four-bytes : (a b c d e f g h : ℕ) → a < 256 → b < 256 → c < 256 → d < 256 → e < 256 → f < 256 → g < 256 → h < 256
+    → a + b * 0x100 + c * 0x10000 + d * 0x1000000 ≡ e + f * 0x100 + g * 0x10000 + h * 0x1000000 → (a ≡ e) × (b ≡ f) × (c ≡ g) × (d ≡ h)
+four-bytes a b c d e f g h la lb lc ld le lf lg lh q = (omega arith, omega arith, omega arith, omega arith)
+
+module _ (f name : List ℕ) (l : length name ≤ length f) where
+  pub begins-apart : (at : ℕ) → at + 4 ≤ length name → (le32 f at ≡ le32 name at → ⊥) → same (take (length name) f) name ≡ false
+  begins-apart at h ne = is_false _ (λ t.
+      let e : take (length name) f ≡ name = same-eq (take (length name) f) name t in
+      let g : (j : ℕ) → j < length name → get_or f j 0 ≡ get_or name j 0 =
+      λ j k. sym (get_or-take (length name) f j 0 k) ∙ ap (λ (x : List ℕ). get_or x j 0) e
+      in
+      let a = g at (omega arith) in
+      let b = g (at + 1) (omega arith) in
+      let c = g (at + 2) (omega arith) in
+      let d = g (at + 3) (omega arith) in
+      ne (rw (a, b, c, d) refl))
+
+  pub begins-all : ((j : ℕ) → j < length name → get_or f j 0 ≡ get_or name j 0) → same (take (length name) f) name ≡ true
+  begins-all g =
+      let e = length-take-le (length name) f l in
+      ap (λ (x : List ℕ). same x name) (same_number_lists (take (length name) f) name e (λ j k. get_or-take (length name) f j 0 (omega arith) ∙ g j (omega arith)))
+      ∙ same_refl name
+
+module _ (f name : List ℕ) (fits : (i : ℕ) → get_or f i 0 < 256) (fits' : (i : ℕ) → get_or name i 0 < 256) where
+  pub word-bytes : (at : ℕ) → le32 f at ≡ le32 name at → (j : ℕ) → at ≤ j → j < at + 4 → get_or f j 0 ≡ get_or name j 0
+  word-bytes at e j h k = go (j - at) (omega arith)
+    where
+      q : (get_or f at 0 ≡ get_or name at 0) × (get_or f (at + 1) 0 ≡ get_or name (at + 1) 0) × (get_or f (at + 2) 0 ≡ get_or name (at + 2) 0)
+          × (get_or f (at + 3) 0 ≡ get_or name (at + 3) 0)
+      q = four-bytes _ _ _ _ _ _ _ _ (fits at) (fits (at + 1)) (fits (at + 2)) (fits (at + 3)) (fits' at) (fits' (at + 1)) (fits' (at + 2)) (fits' (at + 3)) e
+
+      put : (x : ℕ) → j ≡ x → get_or f x 0 ≡ get_or name x 0 → get_or f j 0 ≡ get_or name j 0
+      put x i w = rw i w
+
+      go : (d : ℕ) → j - at ≡ d → get_or f j 0 ≡ get_or name j 0
+      go zero i = put at (omega arith) q.0
+      go (suc zero) i = put (at + 1) (omega arith) q.1
+      go (suc (suc zero)) i = put (at + 2) (omega arith) q.2
+      go (suc (suc (suc zero))) i = put (at + 3) (omega arith) q.3
+      go (suc (suc (suc (suc d)))) i = absurd (omega arith)
+
 -- a field that is the same as a good name byte by byte, and then has a zero or ends
 bytes-same : (f name : List ℕ) → every name_byte name ≡ true → ((j : ℕ) → j < length name → get_or f j 0 ≡ get_or name j 0) → get_or f (length name) 0 ≡ 0
     → unpadded f ≡ name
@@ -186,6 +229,20 @@ holds-other f name r begins e = e ∙ sym (is_false _ (λ t.
     let u : unpadded f ≡ name = same-eq (unpadded f) name t in
     let b = subst (λ (l : List ℕ). take (length l) f ≡ l) u (take-unpadded f) in
     false≢true (sym e ∙ begins (drop (length name) f) (sym (take-append-drop (length name) f) ∙ ap (λ (l : List ℕ). l ++ drop (length name) f) b))))
+
+-- so a field that stops where the name does holds it if it begins with it, and not else
+pub holds-begins : (f name : List ℕ) → good_name name ≡ true → get_or f (length name) 0 ≡ 0 → same (take (length name) f) name ≡ same (unpadded f) name
+holds-begins f name good stop = go (same (take (length name) f) name) refl
+  where
+    begun : same (take (length name) f) name ≡ true → f ≡ name ++ drop (length name) f
+    begun t = sym (take-append-drop (length name) f) ∙ ap (λ (l : List ℕ). l ++ drop (length name) f) (same-eq (take (length name) f) name t)
+
+    go : (t : Bool) → same (take (length name) f) name ≡ t → same (take (length name) f) name ≡ same (unpadded f) name
+    go true t = t ∙ sym (eq-eqb _ 0 stop) ∙ holds-begun f name good (begun t)
+    go false t =
+        holds-other f name _
+        (λ rest e. ap (λ (l : List ℕ). same l name) (ap (take (length name)) e ∙ take-append_seam name rest) ∙ same_refl name)
+        t
 
 -- a field, byte by byte
 pub scanned-none : (f : List ℕ) → Scanned f 0 0 0

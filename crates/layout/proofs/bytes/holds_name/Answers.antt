@@ -1,22 +1,14 @@
-use Rattle.std.proofs.Common.{sym, ◌∙◌, ◌-◌, length, arith}
-use Rattle.std.proofs.lemmas.Bool.{ne_eqb}
-use Rattle.layout.proofs.Laws.Names.{good_name-split}
-use Rattle.layout.proofs.Walks.Names.{holds-differ}
+use Rattle.std.proofs.Common.{sym, ◌∙◌, arith}
+use Rattle.std.proofs.lemmas.Bool.{eqb-true, eqb-false}
+use Rattle.layout.proofs.Laws.Names.{good_name-length}
+use Rattle.layout.proofs.Walks.Names.{holds-begins, holds-longer}
 use Rattle.layout.proofs.bytes.holds_name.Goals as goal
 
-pub overflow_sub-last : goal.overflow_sub-last
-overflow_sub-last c = omega (arith, (good_name-split _ c.requires.1).0)
+pub begins-requires : goal.begins-requires
+begins-requires c = omega (arith, c.requires.0, good_name-length _ c.requires.1)
 
-pub bounds-field-last : goal.bounds-field-last
-bounds-field-last c =
-    let g = good_name-split _ c.requires.1 in
-    omega (arith, c.requires.0, g.0, g.1)
+pub returns-then-ends_at : goal.returns-then-ends_at
+returns-then-ends_at c = c.begins.ensures ∙ holds-begins _ _ c.requires.1 (eqb-true _ 0 (sym c.ends_at.ensures ∙ c.if-ends_at.true))
 
-pub bounds-name-last : goal.bounds-name-last
-bounds-name-last c = omega (arith, (good_name-split _ c.requires.1).0)
-
-pub returns-else-field-last : goal.returns-else-field-last
-returns-else-field-last c =
-    let a = c.args in
-    let g = good_name-split _ c.requires.1 in
-    ne_eqb _ _ c.if-field-last.false ∙ sym (holds-differ a.field.now a.name.now (length a.name.now - 1) (omega (arith, g.0)) c.if-field-last.false)
+pub returns-else-ends_at : goal.returns-else-ends_at
+returns-else-ends_at c = c.if-ends_at.false ∙ sym (holds-longer c.args.field.now c.args.name.now (eqb-false _ 0 (sym c.ends_at.ensures ∙ c.if-ends_at.false)))

@@ -1,4 +1,4 @@
-use Rattle.std.proofs.Common.{ap, ◌∙◌, arith}
+use Rattle.std.proofs.Common.{ap, ◌∙◌, None, Some, arith}
 use Rattle.layout.specs.Lists.{within}
 use Rattle.layout.specs.Directory.{good_name}
 use Rattle.layout.proofs.Walks.Homes.{given-home, path-last, path-there}
@@ -14,8 +14,8 @@ number_at-d-requires c =
     let h = at-below D in
     (omega (arith, h, e.0, D.shape), omega arith)
 
-pub find-entry-requires : goal.find-entry-requires
-find-entry-requires c =
+pub find-requires : goal.find-requires
+find-requires c =
     let a = c.args in
     let p = c.requires in
     let e = c.in_ok-home.ensures in
@@ -24,9 +24,16 @@ find-entry-requires c =
     let g = ap good_name c.last_part.ensures ∙ path-last a.path.now p.good in
     (rw (← e.0, ← d) at D, g)
 
-pub returns : goal.returns
-returns c =
+pub returns-in-None : goal.returns-in-None
+returns-in-None c =
     let a = c.args in
     let e = c.in_ok-home.ensures in
     let q = directory-is a.image.now c.in_ok-home.home _ c.number_at-d.ensures in
-    (e.0, e.1, path-there a.image.now a.path.now c.requires (within a.lo a.hi) _ e.0 e.1 _ c.last_part.result.now q c.last_part.ensures _ c.find-entry.ensures)
+    (e.0, e.1, path-there a.image.now a.path.now c.requires (within a.lo a.hi) _ e.0 e.1 _ c.last_part.result.now q c.last_part.ensures None c.in-None.ensures)
+
+pub returns-in-Some : goal.returns-in-Some
+returns-in-Some c =
+    let a = c.args in
+    let e = c.in_ok-home.ensures in
+    let q = directory-is a.image.now c.in_ok-home.home _ c.number_at-d.ensures in
+    (e.0, e.1, path-there a.image.now a.path.now c.requires (within a.lo a.hi) _ e.0 e.1 _ c.last_part.result.now q c.last_part.ensures (Some c.in-Some.field-0) c.in-Some.ensures)
