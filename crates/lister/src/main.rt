@@ -18,7 +18,10 @@ fn read_full<R: Read>(input: &mut R, buf: &mut [u8]) -> usize
     ensures { IsPrefixLen result buf.new }
 {
     let mut done = 0;
-    while let Ok(n @ 1..) = input.read(&mut buf[done..]) {
+    while done < buf.len() {
+        let Ok(n @ 1..) = input.read(&mut buf[done..]) else {
+            break;
+        };
         done += n;
     }
     done
